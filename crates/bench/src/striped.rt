@@ -2,7 +2,6 @@
 //!
 //! A transaction is four operations, drawn by a linear congruence: half puts, a quarter takes, a
 //! quarter gets. Each tenth aborts. One that meets a stripe that another holds is tried again.
-//! quarter gets. Each tenth aborts. One that meets a stripe which another holds is tried again.
 use anyhow::{Result, anyhow, ensure};
 use std::alloc::{AllocError, Global};
 use std::sync::Wait;

@@ -1,4 +1,5 @@
--- What is owned of a core's pointer: its machine value, and what it owns by the core that it has. Assumes `Logic`.
+-- Ownership of a core's pointer: its machine value, and the core that it owns, if any. Assumes
+-- `Logic`.
 use Rattle.std.proofs.Common.{◌≡◌, List, [], ◌∷◌, refl}
 use Rattle.std.specs.Prelude.{Option, Some, None, IsSome}
 use Rattle.std.proofs.lemmas.Bool.{false≢true}
@@ -16,7 +17,7 @@ use Rattle.boostmap_c.specs.contracts.core_pointer.CorePointer as pointer
 abbrev pub Row : RattleType
 Row = pointer.the_row
 
--- The core that is there.
+-- The core that the pointer owns.
 pub core_of : (held : Option State) → IsSome held → (core : State) × (held ≡ Some core)
 core_of None is = absurd (false≢true is)
 core_of (Some core) is = (core, refl)

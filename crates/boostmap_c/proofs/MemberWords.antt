@@ -1,4 +1,5 @@
--- What is owned of a member's pointer: its machine value, and what it owns by the member that it has. Assumes `Logic`.
+-- Ownership of a member's pointer: its machine value, and the member that it owns, if any. Assumes
+-- `Logic`.
 use Rattle.std.proofs.Common.{◌≡◌, List, [], ◌∷◌, refl}
 use Rattle.std.specs.Prelude.{Option, Some, None, IsSome}
 use Rattle.std.proofs.lemmas.Bool.{false≢true}
@@ -16,7 +17,7 @@ use Rattle.boostmap_c.specs.contracts.member_pointer.MemberPointer as pointer
 abbrev pub Row : RattleType
 Row = pointer.the_row
 
--- The member that is there.
+-- The member that the pointer owns.
 pub member_of : (held : Option Member) → IsSome held → (member : Member) × (held ≡ Some member)
 member_of None is = absurd (false≢true is)
 member_of (Some member) is = (member, refl)

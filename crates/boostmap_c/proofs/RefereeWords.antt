@@ -1,4 +1,5 @@
--- What is owned of a referee's pointer: its machine value, and what it owns by the referee that it has. Assumes `Logic`.
+-- Ownership of a referee's pointer: its machine value, and the referee that it owns, if any.
+-- Assumes `Logic`.
 use Rattle.std.proofs.Common.{◌≡◌, List, [], ◌∷◌, refl}
 use Rattle.std.specs.Prelude.{Option, Some, None, IsSome}
 use Rattle.std.proofs.lemmas.Bool.{false≢true}
@@ -16,7 +17,7 @@ use Rattle.boostmap_c.specs.contracts.referee_pointer.RefereePointer as pointer
 abbrev pub Row : RattleType
 Row = pointer.the_row
 
--- The referee that is there.
+-- The referee that the pointer owns.
 pub referee_of : (held : Option Referee) → IsSome held → (referee : Referee) × (held ≡ Some referee)
 referee_of None is = absurd (false≢true is)
 referee_of (Some referee) is = (referee, refl)

@@ -1,4 +1,4 @@
--- What the checkers' contracts say of a referee that has one of them. Assumes nothing.
+-- The contracts of the checkers, for a referee that has one of them. Assumes nothing.
 use Rattle.std.proofs.Common.{ℕ, List, [], ◌∷◌, ◌++◌}
 use Rattle.txn_trace.specs.declared.entry.Entry.{Entry}
 use Rattle.txn_trace.specs.declared.holder.Holder.{Holder}

@@ -1,5 +1,5 @@
--- What a call does to a handle, by the state of the map that it owns before and after: a handle
--- without a map is told so, and stays without one.
+-- The effect of a call on a handle, from the states of the map that it owns before and after. A
+-- handle without a map stays without one, and C is told so.
 use Rattle.std.specs.Prelude.{◌≡◌, ℕ, Option, Some, None, Result, Ok, Err}
 use Rattle.txn_trace.specs.declared.answer.Answer.{Answer}
 use Rattle.txn_trace.specs.declared.refusal.Refusal.{Refusal}
@@ -28,14 +28,14 @@ HelpsWith (Some old) c key status (Some new) =
 HelpsWith None c key status None = status ≡ empty
 HelpsWith old c key status new = ⊥
 
--- The word is how many keys the map has.
+-- The word is the number of keys of the map.
 abbrev pub Counts : Option State → ℕ → ℕ → ℕ → Option State → Type 0
 Counts (Some old) status before after (Some new) =
     (new ≡ old) × (status ≡ done) × (after ≡ count_of (now old.history))
 Counts None status before after None = (status ≡ empty) × (after ≡ before)
 Counts old status before after new = ⊥
 
--- A map in which nothing has happened; or none, where its limits or memory are refused.
+-- A new map; or none, if its limits or memory are refused.
 abbrev pub MakesWithin : Result Sizes Refusal → ℕ → Option State → Type 0
 MakesWithin (Ok limits) status (Some new) = (status ≡ done) × (new ≡ start limits)
 MakesWithin (Ok limits) status None = status ≡ refused NoMemory
@@ -48,7 +48,7 @@ Makes None callers stripes buckets status new =
     MakesWithin (limits_of callers stripes buckets) status new
 Makes (Some old) callers stripes buckets status new = (status ≡ full) × (new ≡ Some old)
 
--- The handle has no map any more.
+-- The handle no longer has a map.
 abbrev pub Frees : Option State → ℕ → Option State → Type 0
 Frees (Some old) status new = (status ≡ done) × (new ≡ None)
 Frees None status new = (status ≡ empty) × (new ≡ None)

@@ -1,4 +1,4 @@
--- What reading a map gives C.
+-- The result of reading a map for C.
 use Rattle.std.specs.Prelude.{◌≡◌, ◌<◌, ◌⊎◌, ℕ, zero, suc, List, length, map, take, drop, Option, Some, None}
 use Rattle.txn_trace.specs.declared.refusal.Refusal.TheVariants.{NoMemory}
 use Rattle.boost_core.specs.State.{State}
@@ -15,14 +15,14 @@ pub record Lie (pairs : List (ℕ × ℕ)) (before after : List CPair) : Type 0 
   pub front : take (length pairs) after ≡ map pair_of pairs
   pub rest : drop (length pairs) after ≡ drop (length pairs) before
 
--- The pairs, in the order of the list; or their number only, if the array has too few places.
+-- The pairs, in the order of the list; or only their number, if the array has too few places.
 abbrev pub LaysOf : List (ℕ × ℕ) → ℕ → List CPair → List CPair → ℕ → Type 0
 LaysOf pairs zero before after word = (word ≡ length pairs) × Lie pairs before after
 LaysOf pairs (suc status) before after word =
     (suc status ≡ short) × (word ≡ length pairs) × (length before < length pairs)
     × (after ≡ before)
 
--- The same, or nothing, for want of memory.
+-- The pairs, or only their number; or nothing, if memory is refused.
 abbrev pub ReadsOf : List (ℕ × ℕ) → ℕ → List CPair → List CPair → ℕ → ℕ → Type 0
 ReadsOf pairs status before after was word =
     LaysOf pairs status before after word

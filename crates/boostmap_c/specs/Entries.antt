@@ -1,4 +1,4 @@
--- The entry of a history that C's numbers say.
+-- The entry of a history that C's numbers stand for.
 use Rattle.std.specs.Prelude.{ℕ, nat_eq, nat_le, Option, Some, None, if◌then◌else◌}
 use Rattle.txn_trace.specs.declared.op.Op.{Op}
 use Rattle.txn_trace.specs.declared.op.Op.TheVariants.{Put, PutIf, Take, Get}
@@ -19,7 +19,7 @@ op_of e =
     else (if nat_eq e.operation 3 then Some (Take e.key)
     else (if nat_eq e.operation 4 then Some (Get e.key) else None)))
 
--- The asking for an operation, and the finding of its stripe in other hands.
+-- The Asked for an operation, or the Busy on it.
 abbrev pub asked_of : CEntry → Option Op → Option Entry
 asked_of e None = None
 asked_of e (Some op) = Some (Asked e.caller op)

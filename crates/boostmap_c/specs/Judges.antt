@@ -1,4 +1,4 @@
--- What a call does to a judge, by the referee that its handle owns before and after.
+-- The effect of a call on a judge, from the referees that its handle owns before and after.
 use Rattle.std.specs.Prelude.{◌≡◌, ℕ, zero, suc, nat_eq, [], ◌∷◌, List, length, take, slice_get, Option, Some, None, if◌then◌else◌}
 use Rattle.txn_trace.specs.declared.entry.Entry.{Entry}
 use Rattle.txn_trace.specs.declared.holder.Holder.TheVariants.{Now, Begun}
@@ -15,7 +15,7 @@ use Rattle.boostmap_c.specs.declared.judge.CVerdict.{CVerdict}
 use Rattle.boostmap_c.specs.Entries.{judged_entry}
 use Rattle.boostmap_c.specs.Replies.{done, empty, full, no_entry, refused}
 
--- The rule of a number, for a map with so many stripes: by locks there must be one.
+-- The rule of a number, for a map with this number of stripes: by locks there must be at least one.
 abbrev pub way_for : ℕ → ℕ → Option Way
 way_for stripes number =
     if nat_eq number 2 then Some ByCommits
@@ -30,12 +30,12 @@ verdict_of (Legal commits running) =
 verdict_of (Illegal entry rule) =
     record { is_legal = 0; commits = 0; running = 0; entry = entry; rule = number_of rule }
 
--- A referee before the first entry; or none, for want of memory.
+-- A referee before the first entry; or none, if memory is refused.
 abbrev pub BeginsWith : Way → ℕ → ℕ → Option Referee → Type 0
 BeginsWith way stripes status (Some new) = (status ≡ done) × IsFedBy way stripes [] new
 BeginsWith way stripes status None = status ≡ refused NoMemory
 
--- The same for numbers of C's: without a rule, none.
+-- A referee by this rule; none if there is no rule.
 abbrev pub BeginsFor : Option Way → ℕ → ℕ → Option Referee → Type 0
 BeginsFor None stripes status new = (status ≡ refused Limit) × (new ≡ None)
 BeginsFor (Some way) stripes status new = BeginsWith way stripes status new
@@ -50,7 +50,7 @@ abbrev pub FedBy : ℕ → Entry → Referee → Referee → Type 0
 FedBy zero entry old new = TakesIn entry old new
 FedBy (suc status) entry old new = (suc status ≡ refused NoMemory) × Stays old new
 
--- Numbers that say no entry are answered, and nothing is fed.
+-- If the numbers stand for no entry, nothing is fed and C is told so.
 abbrev pub FeedsEntry : Option Entry → Referee → ℕ → Referee → Type 0
 FeedsEntry None old status new = (status ≡ no_entry) × (new ≡ old)
 FeedsEntry (Some entry) old status new = FedBy status entry old new
@@ -87,7 +87,7 @@ Tells (Some old) status before after (Some new) =
 Tells None status before after None = (status ≡ empty) × (after ≡ before)
 Tells old status before after new = ⊥
 
--- The handle has no referee any more.
+-- The handle no longer has a referee.
 abbrev pub Frees : Option Referee → ℕ → Option Referee → Type 0
 Frees (Some old) status new = (status ≡ done) × (new ≡ None)
 Frees None status new = (status ≡ empty) × (new ≡ None)

@@ -1,5 +1,5 @@
--- What the calls on a striped map do to a handle, by the member that it owns before and after: an
--- empty handle is told so, and stays empty.
+-- The effects of the calls on a striped map on a handle, from the members that it owns before and
+-- after. An empty handle stays empty, and C is told so.
 use Rattle.std.specs.Prelude.{◌≡◌, ℕ, ◌+◌, ◌<◌, ◌&&◌, nat_le, Bool, true, [], ◌∷◌, ◌++◌, length, Option, Some, None, Result, if◌then◌else◌}
 use Rattle.std.specs.List.{HoldsAt}
 use Rattle.txn_trace.specs.declared.refusal.Refusal.TheVariants.{NoMemory, NoSuchCaller, Limit}
@@ -11,7 +11,7 @@ use Rattle.boostmap_c.specs.declared.member.Member.{Member}
 use Rattle.boostmap_c.specs.Replies.{done, empty, full, refused}
 use Rattle.boostmap_c.specs.Stops.{status_of_reply, word_of_reply, status_of_number, word_of_number, status_of_end}
 
--- The member's caller makes a call that answers a value or none, and C is told the answer; the
+-- The member's caller makes a call that answers a value or none, and C is told the answer. The
 -- callers that wait still wait.
 abbrev pub Replies : (Caller → Result (Option ℕ) Stop → Caller → Type 0) → Option Member → ℕ → ℕ
     → ℕ → Option Member → Type 0
@@ -22,7 +22,7 @@ Replies Calls (Some old) status before after (Some new) =
 Replies Calls None status before after None = (status ≡ empty) × (after ≡ before)
 Replies Calls old status before after new = ⊥
 
--- The same, for a call that answers a number.
+-- The member's caller makes a call that answers a number, and C is told the answer.
 abbrev pub Numbers : (Caller → Result ℕ Stop → Caller → Type 0) → Option Member → ℕ → ℕ → ℕ
     → Option Member → Type 0
 Numbers Calls (Some old) status before after (Some new) =
@@ -31,7 +31,7 @@ Numbers Calls (Some old) status before after (Some new) =
 Numbers Calls None status before after None = (status ≡ empty) × (after ≡ before)
 Numbers Calls old status before after new = ⊥
 
--- The same, for a call that answers nothing.
+-- The member's caller makes a call that answers nothing, and C is told the status.
 abbrev pub Ends : (Caller → Result Unit Stop → Caller → Type 0) → Option Member → ℕ
     → Option Member → Type 0
 Ends Calls (Some old) status (Some new) =
@@ -40,12 +40,12 @@ Ends Calls (Some old) status (Some new) =
 Ends Calls None status None = status ≡ empty
 Ends Calls old status new = ⊥
 
--- Whether a map can have so many callers and stripes.
+-- Whether a map can have these numbers of callers and stripes.
 abbrev pub are_limits : ℕ → ℕ → Bool
 are_limits callers stripes =
     (nat_le 1 callers && nat_le callers 4096) && (nat_le 1 stripes && nat_le stripes 4096)
 
--- The first member of a map: its callers have done nothing, the member's has the last number, and
+-- The first member of a map: its callers have made no calls, the member's has the last number, and
 -- the others wait, by their numbers from 1.
 pub record IsFirst (callers stripes : ℕ) (m : Member) : Type 0 where
   pub map : StripedMap
@@ -54,7 +54,7 @@ pub record IsFirst (callers stripes : ℕ) (m : Member) : Type 0 where
   pub waiting : (place : ℕ) → place + 1 < callers
       → HoldsAt (IsNew map stripes (place + 1)) m.waiting.items place
 
--- A map, by its first member; or none, where its limits or memory are refused.
+-- A map, as its first member; or none, if its limits or memory are refused.
 abbrev pub OpensAt : ℕ → ℕ → ℕ → ℕ → ℕ → Option Member → Type 0
 OpensAt callers stripes status before after (Some new) =
     (are_limits callers stripes ≡ true) × (status ≡ done) × (after ≡ callers)
@@ -74,8 +74,9 @@ Opens (Some old) callers stripes status before after new =
 abbrev pub IsSame : Member → Member → Type 0
 IsSame old new = (new.caller ≡ old.caller) × (new.waiting.items ≡ old.waiting.items)
 
--- The last caller that waits gets a member of its own, beside which nobody waits, and the word is how
--- many waited: by `IsFirst` its number. Or none does, since nobody waits or memory is refused.
+-- The last caller that waits gets its own member, for which no one waits, and the word is the
+-- number of those that waited: by `IsFirst` its number. Or none does, since no one waits or memory
+-- is refused.
 abbrev pub JoinsOf : Member → ℕ → ℕ → ℕ → Member → Option Member → Type 0
 JoinsOf old status before after new (Some made) =
     (new.caller ≡ old.caller) × (old.waiting.items ≡ new.waiting.items ++ made.caller ∷ [])
@@ -84,7 +85,7 @@ JoinsOf old status before after new None =
     IsSame old new × (after ≡ before)
     × (status ≡ refused (if nat_le 1 (length old.waiting.items) then NoMemory else NoSuchCaller))
 
--- The same for two handles, of which the second must be empty.
+-- A caller joins, through two handles, of which the second must be empty.
 abbrev pub Joins : Option Member → Option Member → ℕ → ℕ → ℕ → Option Member → Option Member
     → Type 0
 Joins (Some old) None status before after (Some new) made = JoinsOf old status before after new made
@@ -94,7 +95,7 @@ Joins first (Some next) status before after new made =
     (status ≡ full) × (after ≡ before) × (new ≡ first) × (made ≡ Some next)
 Joins (Some old) None status before after None made = ⊥
 
--- The handle has no member any more.
+-- The handle no longer has a member.
 abbrev pub Leaves : Option Member → ℕ → Option Member → Type 0
 Leaves (Some old) status new = (status ≡ done) × (new ≡ None)
 Leaves None status new = (status ≡ empty) × (new ≡ None)

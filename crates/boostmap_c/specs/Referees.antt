@@ -1,4 +1,4 @@
--- What a referee was fed, by its rule, and what its verdict says.
+-- The entries that a referee was fed, by its rule, and the meaning of its verdict.
 use Rattle.std.specs.Prelude.{ℕ, ◌<◌, ◌++◌, [], ◌∷◌, List}
 use Rattle.txn_trace.specs.declared.entry.Entry.{Entry}
 use Rattle.history_check.specs.declared.verdict.Verdict.{Verdict}
@@ -11,12 +11,12 @@ use Rattle.boostmap_c.specs.declared.referee.Way.TheVariants.{ByLocks, ByCommits
 use Rattle.boostmap_c.specs.declared.referee.Referee.{Referee}
 use Rattle.boostmap_c.specs.declared.referee.Referee.TheVariants.{Locks, Commits}
 
--- By locks there is a stripe to hold.
+-- By locks there is at least one stripe.
 abbrev pub has_stripes : Way → ℕ → Type 0
 has_stripes (ByLocks holder) stripes = 0 < stripes
 has_stripes ByCommits stripes = Unit {0}
 
--- It judges by this rule, and was fed these entries, of a map with so many stripes.
+-- It judges by this rule, and was fed these entries, of a map with this number of stripes.
 abbrev pub IsFedBy : Way → ℕ → List Entry → Referee → Type 0
 IsFedBy (ByLocks holder) stripes h (Locks checker) = by_locks.IsFed holder stripes h checker
 IsFedBy ByCommits stripes h (Commits checker) = by_commits.IsFed h checker
@@ -27,7 +27,7 @@ abbrev pub IsVerdictBy : Way → ℕ → List Entry → Verdict → Type 0
 IsVerdictBy (ByLocks holder) stripes h outcome = on_locks.IsVerdictOn holder stripes h outcome
 IsVerdictBy ByCommits stripes h outcome = on_commits.IsVerdictOn h outcome
 
--- Whatever the referee was fed, it is fed this entry besides.
+-- Whatever the referee was fed, it is fed this entry in addition.
 abbrev pub TakesIn : Entry → Referee → Referee → Type 0
 TakesIn entry old new =
     (way : Way) (stripes : ℕ) (h : List Entry)

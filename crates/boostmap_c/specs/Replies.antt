@@ -1,12 +1,12 @@
--- What C is told of an answer: a status, and for some a word.
+-- An answer as C is told it: a status, and for some a word.
 use Rattle.std.specs.Prelude.{ℕ, ◌+◌, Some, None, Result, Ok, Err}
 use Rattle.txn_trace.specs.declared.answer.Answer.{Answer}
 use Rattle.txn_trace.specs.declared.answer.Answer.TheVariants.{Began, Busy, Done, Returned, Aborted, Saved, Committed, Refused}
 use Rattle.txn_trace.specs.declared.refusal.Refusal.{Refusal}
 use Rattle.txn_trace.specs.Refusals.{number_of}
 
--- The statuses of a call that is done, done at a key without a value, or refused by a stripe's
--- holder; and of a handle that has no map, or has one already.
+-- The statuses of a call that is done, that is done at a key without a value, or that another
+-- caller's stripe stops; and of a handle that has no map, or already has one.
 abbrev pub done : ℕ
 done = 0
 
@@ -26,7 +26,7 @@ full = 4
 abbrev pub short : ℕ
 short = 7
 
--- The status of numbers that say no entry.
+-- The status of numbers that stand for no entry.
 abbrev pub no_entry : ℕ
 no_entry = 8
 
@@ -34,7 +34,7 @@ no_entry = 8
 abbrev pub refused : Refusal → ℕ
 refused refusal = 16 + number_of refusal
 
--- The status of an answer. No call that C can make has any other answer than these.
+-- The status of an answer. No call that C can make has an answer other than these.
 abbrev pub status_of : Answer → ℕ
 status_of (Done None) = absent
 status_of (Done (Some value)) = done
@@ -47,7 +47,7 @@ status_of (Busy holder) = busy
 status_of (Refused refusal) = refused refusal
 status_of other = 63
 
--- The word after an answer, which is `before` where the answer has none to tell.
+-- The word after an answer, which stays `before` if the answer has none to tell.
 abbrev pub word_after : ℕ → Answer → ℕ
 word_after before (Done (Some value)) = value
 word_after before (Began transaction) = transaction

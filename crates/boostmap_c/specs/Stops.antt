@@ -1,10 +1,10 @@
--- What C is told of the answers of a striped map: a status, and for some a word.
+-- The answers of a striped map as C is told them: a status, and for some a word.
 use Rattle.std.specs.Prelude.{ℕ, Option, Some, None, Result, Ok, Err}
 use Rattle.striped_map.specs.declared.stop.Stop.{Stop}
 use Rattle.striped_map.specs.declared.stop.Stop.TheVariants.{Busy, Refused}
 use Rattle.boostmap_c.specs.Replies.{done, absent, busy, refused}
 
--- Why a call was not done.
+-- The reason why a call was not done.
 abbrev pub status_of_stop : Stop → ℕ
 status_of_stop (Busy holder) = busy
 status_of_stop (Refused refusal) = refused refusal

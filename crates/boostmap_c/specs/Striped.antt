@@ -1,6 +1,6 @@
--- What each call of a caller of a striped map does, by its answer, in the words of the map's own
--- contracts: the history that the caller has seen goes on by entries of others, and then by just
--- these.
+-- The effect of each call of a caller of a striped map, by its answer, in the words of the map's
+-- contracts: the history that the caller has seen continues with entries of others, and then with
+-- exactly these.
 use Rattle.std.specs.Prelude.{◌≡◌, ℕ, ◌<◌, ◌≤◌, ◌%◌, ◌^◌, [], ◌∷◌, true, false, Option, Some, None, Result, Ok, Err, if◌then◌else◌}
 use Rattle.txn_trace.specs.declared.entry.Entry.TheVariants.{Began, Asked, Did, Saved, Leave, Returned, Committed, Aborted}
 use Rattle.txn_trace.specs.declared.op.Op.{Op}
@@ -24,7 +24,7 @@ Operates op a (Ok reply) b = (a.is_open ≡ true) × (b.is_open ≡ true)
     × IsStep a (Asked (number a) op ∷ Did (number a) reply ∷ []) b
 Operates op a (Err stop) b = IsStopped a op b stop
 
--- There is a savepoint more, of this level; or the transaction is unchanged.
+-- There is one more savepoint, of this level; or the transaction is unchanged.
 abbrev pub Saves : Caller → Result ℕ Stop → Caller → Type 0
 Saves a (Ok level) b = (a.is_open ≡ true) × (b.is_open ≡ true) × (level ≡ levels b)
     × IsStep a (Saved (number a) ∷ []) b
@@ -39,8 +39,8 @@ Returns level a (Ok nothing) b = (a.is_open ≡ true) × (b.is_open ≡ true) ×
 Returns level a (Err stop) b = (stop ≡ Refused (if a.is_open then NoSuchLevel else NotOpen))
     × (a.is_open ≡ true → levels a < level) × (b ≡ a)
 
--- The transaction is committed at a place, which is found modulo 2^64, and has the replies of running
--- alone after the commits before it; or there is none.
+-- The transaction is committed with a number, which is told modulo 2^64, and has the replies of
+-- running alone after the commits before it; or there is none.
 abbrev pub Commits : Caller → Result ℕ Stop → Caller → Type 0
 Commits a (Ok found) b = (a.is_open ≡ true) × (b.is_open ≡ false)
     × (place : ℕ) × (found ≡ place % 2 ^ 64) × IsStep a (Committed (number a) place ∷ []) b

@@ -1,5 +1,5 @@
--- What a caller of a striped map tells C of the whole map: it takes every stripe, so nobody else is in
--- the way of what it tells.
+-- The content of a whole striped map, as a caller tells it to C: the caller takes every stripe, so
+-- no one can change the map meanwhile.
 use Rattle.std.specs.Prelude.{◌≡◌, ◌⊎◌, ℕ, List, [], true, Option, Some, None, Result, Ok, Err}
 use Rattle.txn_trace.specs.Map.{count_of}
 use Rattle.txn_trace.specs.Now.{now}
@@ -16,12 +16,12 @@ use Rattle.boostmap_c.specs.Stops.{status_of_stop, word_of_stop}
 abbrev pub Looks : Caller → Caller → Type 0
 Looks a b = (a.is_open ≡ true) × (b.is_open ≡ true) × IsStep a [] b
 
--- How many keys the map has; or why not.
+-- The number of keys of the map; or the reason why it is not told.
 abbrev pub Counts : Caller → Result ℕ Stop → Caller → Type 0
 Counts a (Ok count) b = Looks a b × (count ≡ count_of (now (seen b)))
 Counts a (Err stop) b = IsCut a b stop
 
--- The pairs of the map, by rising keys, or their number; or why not.
+-- The pairs of the map, by rising keys, or their number; or the reason why they are not told.
 abbrev pub ReadsMap : Option Member → ℕ → List CPair → List CPair → ℕ → ℕ → Option Member → Type 0
 ReadsMap (Some old) status before after was word (Some new) =
     (new.waiting ≡ old.waiting)

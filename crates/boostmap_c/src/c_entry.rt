@@ -1,5 +1,5 @@
-//! An entry of a history as C writes it, and the entry that it says. It stands apart because an
-//! enum cannot cross from C: a number that names no kind is answered, never taken.
+//! An entry of a history as C writes it, and the entry that it stands for. C passes numbers, not an
+//! enum: a number that stands for no kind has its own status and is never used.
 ghost use Rattle.std.specs.Prelude.{◌≡◌, ◌<◌, Some, IfSome};
 ghost use Rattle.txn_trace.specs.History.{caller_of};
 ghost use Rattle.boostmap_c.specs.Entries.{asked_of, busy_of, entry_of, judged_entry, op_of, optional, taken};
@@ -41,9 +41,9 @@ pub struct CEntry {
     /// 1 began, 2 asked, 3 did, 4 saved, 5 leave, 6 undone, 7 returned, 8 committed, 9 busy, 10
     /// aborted.
     pub kind: u32,
-    /// Of asked and busy: 1 put, 2 put if, 3 take, 4 get.
+    /// For asked and busy: 1 put, 2 put if, 3 take, 4 get.
     pub operation: u32,
-    /// Whose entry it is, below 64.
+    /// The caller whose entry it is, below 64.
     pub caller: u64,
     /// The operation's key.
     pub key: u64,
@@ -58,7 +58,7 @@ pub struct CEntry {
 }
 
 impl CEntry {
-    /// The entry that it says, if its kind and operation are any, and its caller is below 64.
+    /// The entry that it stands for, if its kind and operation exist and its caller is below 64.
     pub(crate) fn judged(&self) -> Option<Entry>
         ensures value { result ≡ judged_entry self.now }
         ensures caller { IfSome result (λ entry. caller_of entry < 64) }
@@ -69,7 +69,7 @@ impl CEntry {
         }
     }
 
-    /// The entry that it says, if its kind and operation are any.
+    /// The entry that it stands for, if its kind and operation exist.
     fn entry(&self) -> Option<Entry>
         ensures { result ≡ entry_of self.now }
     {
@@ -106,7 +106,7 @@ impl CEntry {
         None
     }
 
-    /// The asking for its operation, if that is any.
+    /// The Asked for its operation, if that exists.
     fn asked(&self) -> Option<Entry>
         ensures { result ≡ asked_of self.now (op_of self.now) }
     {
@@ -116,7 +116,7 @@ impl CEntry {
         }
     }
 
-    /// The finding of its operation's stripe in other hands, if the operation is any.
+    /// The Busy on its operation, if that exists.
     fn busy(&self) -> Option<Entry>
         ensures { result ≡ busy_of self.now (op_of self.now) }
     {
@@ -126,7 +126,7 @@ impl CEntry {
         }
     }
 
-    /// Its operation, if it is any.
+    /// Its operation, if that exists.
     fn op(&self) -> Option<Op>
         ensures { result ≡ op_of self.now }
     {

@@ -1,6 +1,6 @@
-//! The owning half of a handle: a pointer to a core, with the type erased, since no type that
-//! holds a `Vec` may be named behind a pointer that C sees. It stands apart because only its three
-//! functions touch the pointer; each costs nothing.
+//! The owning half of a handle: a pointer to a core, with the type erased, since no type that holds
+//! a `Vec` may be named behind a pointer that C sees. Only the three functions here touch the
+//! pointer; each costs nothing.
 ghost use Rattle.std.specs.Prelude.{◌≡◌, Option, Some, None, IsSome};
 ghost use Rattle.boost_core.specs.State.{State};
 

@@ -1,6 +1,6 @@
-//! The handle that C keeps, and how a call takes the map out of it and puts it back. It stands
-//! apart so that no export sees the pointer: the tag says whether there is a map, so a call on an
-//! empty handle is answered and touches nothing.
+//! The handle that C keeps, and the ways of a map out of it and back. No export sees the pointer:
+//! the tag says whether there is a map, so a call on an empty handle is refused and touches
+//! nothing.
 ghost use Rattle.std.specs.Prelude.{◌≡◌, Some, None, IfSome, IsNone, true, false, is_some};
 ghost use Rattle.boostmap_c.specs.Held.{takes_stripes};
 
@@ -13,7 +13,7 @@ use std::mem;
 /// The tag of a handle with a map: the bytes of "boostmap".
 const LIVE: u64 = 0x7061_6d74_736f_6f62;
 
-/// What C keeps: all zeros, or a map.
+/// The handle of a map in C's memory: all zeros, or a map.
 #[repr(C)]
 #[derive(Drop)]
 pub struct Handle {
@@ -32,7 +32,7 @@ impl Handle {
     }
 }
 
-/// Takes the map out of a handle, if it has one; the handle is all zeros then.
+/// Takes the map out of a handle, if it has one; the handle is then all zeros.
 pub(crate) fn open(alloc: Global, handle: &mut Handle) -> Option<Box<Core, Global>>
     ensures some { IfSome result (λ core. (handle.old.held.core ≡ Some core.value)
         × (core.value.words ≡ false)) }
@@ -61,7 +61,7 @@ pub(crate) fn close(handle: &mut Handle, core: Box<Core, Global>)
     };
 }
 
-/// What may go to another thread.
+/// A value that may go to another thread.
 pub(crate) fn sends<T: Send>(value: T) -> T
     ensures { result ≡ value }
 {

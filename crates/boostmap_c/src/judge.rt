@@ -1,5 +1,5 @@
-//! The judge of histories for C: a checker, of `history_check` or of `serial_check`, behind a handle of
-//! its own, fed entry by entry.
+//! The judge of histories for C: a checker, of `history_check` or of `serial_check`, behind its own
+//! handle, fed entry by entry.
 ghost use Rattle.std.specs.Prelude.{◌≡◌, ◌<◌, Some, None, IfSome, IsNone, true, is_some};
 ghost use Rattle.boostmap_c.specs.Judges.{Begins, FedFront, Feeds, FeedsAll, FeedsEntry, Frees, Tells, verdict_of, way_for};
 ghost use Rattle.boostmap_c.specs.Entries.{judged_entry};
@@ -19,7 +19,7 @@ use txn_trace::{Holder, Refusal};
 /// The tag of a handle with a checker: the bytes of "bm_judge".
 const LIVE: u64 = 0x6567_6475_6a5f_6d62;
 
-/// What C keeps: all zeros, or a checker.
+/// The handle of a judge in C's memory: all zeros, or a checker.
 #[repr(C)]
 #[derive(Drop)]
 pub struct Judge {
@@ -29,15 +29,15 @@ pub struct Judge {
     ghost dead: { is_some held.referee ≡ true → tag ≡ 0x6567_6475_6a5f_6d62 },
 }
 
-/// What a judge says of the entries so far.
+/// The verdict on the entries so far.
 #[repr(C)]
 #[derive(Clone, Copy)]
 pub struct CVerdict {
     /// 1 if no entry breaks a rule, else 0.
     pub is_legal: u64,
-    /// How many transactions are committed, if it is legal.
+    /// The number of committed transactions, if it is legal.
     pub commits: u64,
-    /// How many callers are in a transaction, if it is legal.
+    /// The number of callers that are in a transaction, if it is legal.
     pub running: u64,
     /// The index of the first entry that breaks a rule, from 0, if it is not legal.
     pub entry: u64,
@@ -54,7 +54,7 @@ impl Judge {
     }
 }
 
-/// Takes the checker out of a handle, if it has one; the handle is all zeros then.
+/// Takes the checker out of a handle, if it has one; the handle is then all zeros.
 fn open(alloc: Global, handle: &mut Judge) -> Option<Box<Referee, Global>>
     ensures some { IfSome result (λ referee. handle.old.held.referee ≡ Some referee.value) }
     ensures none { IsNone result → handle.old.held.referee ≡ None }
@@ -81,7 +81,7 @@ fn close(handle: &mut Judge, referee: Box<Referee, Global>)
     };
 }
 
-/// The rule of a number, for a map with so many stripes, if there is one.
+/// The rule of a number, for a map with this number of stripes, if there is one.
 fn way_for(stripes: u64, number: u32) -> Option<Way>
     ensures value { result ≡ way_for stripes number }
     ensures stripes { IfSome result (λ way. has_stripes way stripes) }
@@ -123,7 +123,7 @@ fn verdict_of(verdict: Verdict) -> CVerdict
     }
 }
 
-/// Feeds an entry of C's, if it is any.
+/// Feeds an entry of C's, if the numbers stand for one.
 fn feed_entry(referee: &mut Referee, entry: &CEntry) -> u32
     ensures { FeedsEntry (judged_entry entry.now) referee.old result referee.new }
 {
@@ -136,7 +136,7 @@ fn feed_entry(referee: &mut Referee, entry: &CEntry) -> u32
     }
 }
 
-/// Feeds entries up to the first that is not fed, and tells how many, and the status.
+/// Feeds entries up to the first that is not fed, and answers their number and the status.
 fn feed_front(referee: &mut Referee, entries: &[CEntry]) -> (usize, u32)
     ensures { FedFront entries.now referee.old result.1 result.0 referee.new }
 {
@@ -149,18 +149,14 @@ fn feed_front(referee: &mut Referee, entries: &[CEntry]) -> (usize, u32)
     (entries.len(), DONE)
 }
 
-/// Begins to judge the history of a map with this number of stripes, by a rule: by locks, where a Busy
-/// entry may name a caller that holds the stripe now (0), or one that has begun a transaction before
-/// (1); or by the order of commits (2), which takes no notice of stripes.
+/// Begins to judge the history of a map with this number of stripes, by a rule: by locks, so that a
+/// Busy entry may name a caller that holds the stripe now (0), or one that has begun a transaction
+/// before (1); or by the order of commits (2), for which stripes do not matter.
 ///
 /// # Errors
 ///
-/// The handle is unchanged: 4 if it has a checker, 38 (`Limit`) if there is no such rule, or it is by
-/// locks and there are no stripes, 30 (`NoMemory`) if memory is refused.
-///
-/// # Cost
-///
-/// Time and memory in proportion to the stripes, and for 64 callers.
+/// The handle is unchanged: 4 if it has a checker, 38 (`Limit`) if there is no such rule, or it is
+/// by locks and there are no stripes, 30 (`NoMemory`) if memory is refused.
 #[unsafe(no_mangle)]
 pub extern "C" fn boostmap_judge_new(
     alloc: Global,
@@ -186,13 +182,12 @@ pub extern "C" fn boostmap_judge_new(
     DONE
 }
 
-/// Feeds the judge the next entry. After the first that breaks a rule no further one changes
-/// anything.
+/// Feeds the judge the next entry. Entries after the first that breaks a rule change nothing.
 ///
 /// # Errors
 ///
-/// The judge was fed nothing: 3 if the handle has no checker, 8 if the numbers say no entry of a
-/// caller below 64, 30 (`NoMemory`) if memory is refused; then the entry may be fed again.
+/// The judge was fed nothing: 3 if the handle has no checker, 8 if the numbers stand for no entry
+/// of a caller below 64, 30 (`NoMemory`) if memory is refused; then the entry may be fed again.
 ///
 /// # Cost
 ///
@@ -209,13 +204,13 @@ pub extern "C" fn boostmap_judge_feed(alloc: Global, judge: &mut Judge, entry: &
     status
 }
 
-/// Feeds the judge the entries of an array in their order, up to the first that is not fed; the word is
-/// how many were fed.
+/// Feeds the judge the entries of an array in their order, up to the first that is not fed; the
+/// word is the number of those that were fed.
 ///
 /// # Errors
 ///
-/// Those of `boostmap_judge_feed`, of the entry whose index is the word; of an empty handle no word is
-/// written.
+/// Those of `boostmap_judge_feed`, for the entry whose index is the word; for an empty handle no
+/// word is written.
 ///
 /// # Cost
 ///
@@ -264,7 +259,7 @@ pub extern "C" fn boostmap_judge_verdict(
     DONE
 }
 
-/// Frees the checker; the handle is all zeros then.
+/// Frees the checker; the handle is then all zeros.
 ///
 /// # Errors
 ///

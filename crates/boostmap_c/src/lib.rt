@@ -1,10 +1,10 @@
-//! Transactional maps for C, and the judge of their histories: `boost_core`'s `Core`, `striped_map`'s
-//! `Caller`, and the checkers of `history_check` and `serial_check`, each behind a handle that C keeps,
-//! and one export for each of their calls.
+//! Transactional maps for C, and the judge of their histories: `boost_core`'s `Core`,
+//! `striped_map`'s `Caller`, and the checkers of `history_check` and `serial_check`, each behind a
+//! handle that C keeps, and one export for each of their calls.
 //!
 //! C cannot name a type that holds a `Vec`, so a handle is a struct of two words, all zeros at
-//! first: a tag, and a pointer whose type is erased. What the pointer owns is ghost: a core, say, or
-//! nothing.
+//! first: a tag, and a pointer whose type is erased. A ghost field says what the pointer owns: for
+//! instance a core, or nothing.
 //!
 //! ```text
 //!   C's memory             the heap
@@ -19,31 +19,33 @@
 //!                          +---> the striped map, which it shares with the other callers
 //! ```
 //!
-//! A call takes out what the handle owns, makes the library's call, puts it back, and tells C the
-//! answer by a status and at most one word:
+//! A call takes the object out of the handle, makes the library's call, puts the object back, and
+//! tells C the answer by a status and at most one word:
 //!
 //! | Status | Meaning | The transaction then |
 //! |---|---|---|
-//! | 0 done | the word is a value, a transaction, a level or a commit number | goes on, or has ended |
+//! | 0 done | the word is a value, transaction, level or commit number | goes on, or has ended |
 //! | 1 absent | done at a key without a value; no word is written | goes on |
-//! | 2 busy | the word is the caller who holds the key's stripe | can only abort; of a striped map: is aborted |
+//! | 2 busy | the word is the stripe's holder | can only abort; of a striped map: is aborted |
 //! | 3 empty, 4 full | the handle owns nothing, or something already | nothing was done |
-//! | 7 short, 8 no entry | the array has too few places; the numbers say no entry | unchanged |
+//! | 7 short, 8 no entry | the array has too few places; the numbers are no entry | unchanged |
 //! | 16 + n | refusal n of `txn_trace` | unchanged, and so is the map |
 //!
 //! No export has a `requires`: a caller's number, a level or a limit that is out of range, a call
-//! out of order, and an empty handle are all answered. What C owes beside is in the header: valid
-//! pointers, and one call at a time on a handle. Handles of one striped map may be in calls at the
-//! same time: they share the map by an `Arc`, and no call of it takes a lock or waits.
+//! out of order, and an empty handle each have a status. The rest of what C must do is in the
+//! header: pass valid pointers, and make one call at a time on a handle. Handles of one striped map
+//! may be in calls at the same time: they share the map by an `Arc`, and no call of it takes a lock
+//! or waits.
 //!
-//! Proved of each export, by the words of `specs/Calls.antt`, `Contents.antt`, `Striped.antt`,
-//! `Members.antt` and `Judges.antt`: what the handle owns before and after is what the contract of the
-//! library's call says, the status and the word are those of its answer, no word is written where
-//! none is due, and a handle that owns something does so after every call but a `free`. The judge's
-//! verdict is that of the checker's definition on the entries that it was fed, which are those that
-//! C's numbers say.
+//! Proved of each export, in the words of `specs/Calls.antt`, `Contents.antt`, `Striped.antt`,
+//! `Members.antt` and `Judges.antt`: the objects of the handle before and after the call are those
+//! that the contract of the library's call says; the status and the word are those of its answer;
+//! no word is written if the answer has none; and a handle that owns an object does so after every
+//! call except a `free`. The judge's verdict is that of the checker's definition on the entries
+//! that it was fed, which are those that C's numbers stand for.
 //!
-//! A crossing takes no memory: `boostmap_count`, with its caller's loop, is 24 instructions.
+//! A crossing takes no memory: `boostmap_count`, with its caller's loop, is 24 instructions. Calls
+//! take constant time and no memory unless they say otherwise.
 #![tactic(auto)]
 
 mod c_entry;

@@ -10,8 +10,8 @@ use boost_core::Core;
 use std::alloc::Global;
 use txn_trace::{Limits, Refusal};
 
-/// Makes a map in which nothing has happened, for 1 to 64 callers, 1 to 4096 stripes and, at the
-/// most, a power of two of buckets from 2 to 65536.
+/// Makes a map without keys, for 1 to 64 callers, 1 to 4096 stripes and at most a number of buckets
+/// that is a power of two from 2 to 65536.
 ///
 /// # Errors
 ///
@@ -49,7 +49,7 @@ pub extern "C" fn boostmap_new(
     DONE
 }
 
-/// Frees the map, with all transactions that are open; the handle is all zeros then.
+/// Frees the map, with all transactions that are open; the handle is then all zeros.
 ///
 /// # Errors
 ///
@@ -68,15 +68,11 @@ pub extern "C" fn boostmap_free(alloc: Global, map: &mut Handle) -> u32
     }
 }
 
-/// Writes how many keys the map has, the changes of open transactions included.
+/// Writes the number of keys of the map, including the changes of open transactions.
 ///
 /// # Errors
 ///
 /// 3 if the handle has no map.
-///
-/// # Cost
-///
-/// Constant time; takes no memory.
 #[unsafe(no_mangle)]
 pub extern "C" fn boostmap_count(alloc: Global, map: &mut Handle, word: &mut u64) -> u32
     ensures { Counts map.old.held.core result word.old word.new map.new.held.core }
@@ -89,8 +85,8 @@ pub extern "C" fn boostmap_count(alloc: Global, map: &mut Handle, word: &mut u64
     DONE
 }
 
-/// Doubles the table if it has more than two keys a bucket, then initialises the bucket of a key.
-/// Nothing else doubles the table: call it now and then beside puts.
+/// Doubles the table if it has more than two keys for each bucket, then initialises the bucket of a
+/// key. Nothing else doubles the table: call it now and then beside puts.
 ///
 /// # Errors
 ///

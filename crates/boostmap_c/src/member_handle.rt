@@ -1,5 +1,5 @@
-//! The handle of a striped map's caller, and how a call takes the member out of it and puts it back,
-//! as `handle` does with a map.
+//! The handle of a striped map's caller, and the ways of a member out of it and back, as in
+//! `handle` for a map.
 ghost use Rattle.std.specs.Prelude.{◌≡◌, Some, None, IfSome, IsNone, true, is_some};
 
 use crate::handle::sends;
@@ -12,7 +12,7 @@ use std::mem;
 /// The tag of a handle with a member: the bytes of "bmcaller".
 const LIVE: u64 = 0x7265_6c6c_6163_6d62;
 
-/// What C keeps: all zeros, or a caller of a striped map.
+/// The handle of a caller in C's memory: all zeros, or a caller of a striped map.
 #[repr(C)]
 #[derive(Drop)]
 pub struct CallerHandle {
@@ -31,7 +31,7 @@ impl CallerHandle {
     }
 }
 
-/// Takes the member out of a handle, if it has one; the handle is all zeros then.
+/// Takes the member out of a handle, if it has one; the handle is then all zeros.
 pub(crate) fn take_out(alloc: Global, handle: &mut CallerHandle) -> Option<Box<Member, Global>>
     ensures some { IfSome result (λ member. handle.old.held.member ≡ Some member.value) }
     ensures none { IsNone result → handle.old.held.member ≡ None }

@@ -15,12 +15,11 @@ use txn_trace::Op;
 ///
 /// 3 if the handle has no map; 2 if another caller holds the key's stripe, after which the
 /// transaction can only abort. A refusal changes nothing: 18 (`NoSuchCaller`), 19 (`NotOpen`), 22
-/// (`Leaving`), 30
-/// (`NoMemory`), 32 (`StampsUsedUp`).
+/// (`Leaving`), 30 (`NoMemory`), 32 (`StampsUsedUp`).
 ///
 /// # Cost
 ///
-/// Time in proportion to the nodes from the nearest initialised bucket to the key's place.
+/// Time in proportion to the nodes from the nearest initialised bucket to the key's position.
 #[unsafe(no_mangle)]
 pub extern "C" fn boostmap_put(
     alloc: Global,
@@ -48,12 +47,11 @@ pub extern "C" fn boostmap_put(
 ///
 /// 3 if the handle has no map; 2 if another caller holds the key's stripe, after which the
 /// transaction can only abort. A refusal changes nothing: 18 (`NoSuchCaller`), 19 (`NotOpen`), 22
-/// (`Leaving`), 30
-/// (`NoMemory`), 32 (`StampsUsedUp`).
+/// (`Leaving`), 30 (`NoMemory`), 32 (`StampsUsedUp`).
 ///
 /// # Cost
 ///
-/// Time in proportion to the nodes from the nearest initialised bucket to the key's place.
+/// Time in proportion to the nodes from the nearest initialised bucket to the key's position.
 #[unsafe(no_mangle)]
 pub extern "C" fn boostmap_put_if_absent(
     alloc: Global,
@@ -75,18 +73,17 @@ pub extern "C" fn boostmap_put_if_absent(
 }
 
 /// Puts a value at a key that has the expected one. The word is the value before: if it is another
-/// one, or none is written, nothing was put.
+/// value, or none is written, nothing was put.
 ///
 /// # Errors
 ///
 /// 3 if the handle has no map; 2 if another caller holds the key's stripe, after which the
 /// transaction can only abort. A refusal changes nothing: 18 (`NoSuchCaller`), 19 (`NotOpen`), 22
-/// (`Leaving`), 30
-/// (`NoMemory`), 32 (`StampsUsedUp`).
+/// (`Leaving`), 30 (`NoMemory`), 32 (`StampsUsedUp`).
 ///
 /// # Cost
 ///
-/// Time in proportion to the nodes from the nearest initialised bucket to the key's place.
+/// Time in proportion to the nodes from the nearest initialised bucket to the key's position.
 #[unsafe(no_mangle)]
 pub extern "C" fn boostmap_put_if_equal(
     alloc: Global,
@@ -114,12 +111,11 @@ pub extern "C" fn boostmap_put_if_equal(
 ///
 /// 3 if the handle has no map; 2 if another caller holds the key's stripe, after which the
 /// transaction can only abort. A refusal changes nothing: 18 (`NoSuchCaller`), 19 (`NotOpen`), 22
-/// (`Leaving`), 30
-/// (`NoMemory`).
+/// (`Leaving`), 30 (`NoMemory`).
 ///
 /// # Cost
 ///
-/// Time in proportion to the nodes from the nearest initialised bucket to the key's place.
+/// Time in proportion to the nodes from the nearest initialised bucket to the key's position.
 #[unsafe(no_mangle)]
 pub extern "C" fn boostmap_take(
     alloc: Global,
@@ -139,18 +135,17 @@ pub extern "C" fn boostmap_take(
     tell(answer, word)
 }
 
-/// Gets the value at a key, which is the word.
+/// Looks up the value at a key, which is the word.
 ///
 /// # Errors
 ///
 /// 3 if the handle has no map; 2 if another caller holds the key's stripe, after which the
 /// transaction can only abort. A refusal changes nothing: 18 (`NoSuchCaller`), 19 (`NotOpen`), 22
-/// (`Leaving`), 30
-/// (`NoMemory`).
+/// (`Leaving`), 30 (`NoMemory`).
 ///
 /// # Cost
 ///
-/// Time in proportion to the nodes from the nearest initialised bucket to the key's place.
+/// Time in proportion to the nodes from the nearest initialised bucket to the key's position.
 #[unsafe(no_mangle)]
 pub extern "C" fn boostmap_get(
     alloc: Global,

@@ -1,5 +1,5 @@
-//! The content of a map, into an array of C's. It stands apart because it alone takes memory that
-//! it gives back before it ends, and writes more than a word.
+//! The content of a map, written into an array of C's. Only this call takes memory that it frees
+//! before it ends, and writes more than a word.
 ghost use Rattle.std.specs.Prelude.{◌≡◌, ◌≤◌, length};
 ghost use Rattle.boostmap_c.specs.Contents.{LaysOf, Lie, Reads};
 
@@ -16,9 +16,8 @@ pub struct CPair {
     pub value: u64,
 }
 
-/// Writes the pairs of the map as it is now, the changes of open transactions included, to the
-/// front of an array, in the order of the list, which is that of reversed bits; the word is their
-/// number.
+/// Writes the pairs of the map now, including the changes of open transactions, to the front of an
+/// array, in the order of the list, which is that of reversed bits; the word is their number.
 ///
 /// # Errors
 ///
@@ -49,8 +48,8 @@ pub extern "C" fn boostmap_read(
     lay_all(&listed, pairs, word)
 }
 
-/// Lays pairs to the front of an array, if it has room for them, writes their number, and gives the
-/// status.
+/// Writes pairs to the front of an array, if it has room for them, and their number, and answers
+/// the status.
 pub(crate) fn lay_all(listed: &[(u64, u64)], pairs: &mut [CPair], word: &mut u64) -> u32
     ensures { LaysOf listed.now result pairs.old pairs.new word.new }
 {
@@ -62,7 +61,7 @@ pub(crate) fn lay_all(listed: &[(u64, u64)], pairs: &mut [CPair], word: &mut u64
     DONE
 }
 
-/// Lays pairs to the front of an array that has room for them.
+/// Writes pairs to the front of an array that has room for them.
 fn lay(listed: &[(u64, u64)], pairs: &mut [CPair])
     requires room { length listed.now ≤ length pairs.old }
     ensures { Lie listed.now pairs.old pairs.new }

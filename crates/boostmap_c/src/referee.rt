@@ -1,5 +1,5 @@
-//! A checker of either rule, as the handle of a judge owns it. It stands apart because the pointer of a
-//! handle names one type.
+//! A checker of either rule, as the handle of a judge owns it. It is one type, since the pointer of
+//! a handle names one.
 ghost use Rattle.std.specs.Prelude.{◌≡◌, ◌<◌, [], IfOk, OnOk, OnErr};
 ghost use Rattle.txn_trace.specs.History.{caller_of};
 ghost use Rattle.boostmap_c.specs.Referees.{IsFedBy, IsVerdictOf, Stays, TakesIn, has_stripes};
@@ -9,10 +9,10 @@ use serial_check::Checker as CommitChecker;
 use std::alloc::{AllocError, Global};
 use txn_trace::{Entry, Holder};
 
-/// The rule that a judge judges by.
+/// The rule of a judge.
 #[derive(Clone, Copy)]
 pub enum Way {
-    /// By locks: a Busy entry may name such a holder.
+    /// By locks: this rule says which callers a Busy entry may name.
     ByLocks(Holder),
     /// By the order of commits.
     ByCommits,
@@ -50,7 +50,7 @@ impl Referee {
         }
     }
 
-    /// What it says of the entries so far.
+    /// The verdict on the entries so far.
     #[tactic(auto, using(crate::proofs::Referees::locks_say, crate::proofs::Referees::commits_say))]
     pub(crate) fn verdict(&self) -> Verdict
         ensures { IsVerdictOf self.now result }

@@ -1,4 +1,4 @@
-//! The statuses, and what C is told of an answer. They stand apart because each export ends here.
+//! The statuses, and the answers of a map as C is told them. Each export of a map ends here.
 ghost use Rattle.std.specs.Prelude.{◌≡◌};
 ghost use Rattle.boostmap_c.specs.Replies.{refused, status_of, status_of_result, word_after};
 
@@ -22,13 +22,13 @@ pub(crate) const FULL: u32 = 4;
 /// The array has too few places.
 pub(crate) const SHORT: u32 = 7;
 
-/// The numbers say no entry of a caller below 64.
+/// The numbers stand for no entry of a caller below 64.
 pub(crate) const NO_ENTRY: u32 = 8;
 
 /// Every refusal's status is this and the refusal's number.
 const REFUSED: u32 = 16;
 
-/// No call that C can make is answered so.
+/// No call that C can make has this status.
 const OTHER: u32 = 63;
 
 /// The status of a refusal.
@@ -48,7 +48,7 @@ pub(crate) fn status_of(outcome: Result<(), Refusal>) -> u32
     }
 }
 
-/// Writes an answer's word, if it has one, and gives its status.
+/// Writes an answer's word, if it has one, and answers its status.
 pub(crate) fn tell(answer: Answer, word: &mut u64) -> u32
     ensures status { result ≡ status_of answer }
     ensures word { word.new ≡ word_after word.old answer }

@@ -1,5 +1,4 @@
-//! What C is told of the answers of a striped map. It stands apart from `status`, which tells those
-//! of a core.
+//! The answers of a striped map as C is told them; those of a core are in `status`.
 ghost use Rattle.std.specs.Prelude.{◌≡◌};
 ghost use Rattle.boostmap_c.specs.Stops.{status_of_end, status_of_number, status_of_reply, status_of_stop, word_of_number, word_of_reply, word_of_stop};
 
@@ -7,7 +6,7 @@ use crate::status::{ABSENT, BUSY, DONE, refused};
 use striped_map::Stop;
 use txn_trace::Reply;
 
-/// Writes the holder, if there is one, and gives the status.
+/// Writes the holder, if there is one, and answers the status.
 pub(crate) fn tell_stop(stop: Stop, word: &mut u64) -> u32
     ensures status { result ≡ status_of_stop stop }
     ensures word { word.new ≡ word_of_stop word.old stop }
@@ -21,7 +20,7 @@ pub(crate) fn tell_stop(stop: Stop, word: &mut u64) -> u32
     }
 }
 
-/// Writes the value, if there is one, or the holder, and gives the status.
+/// Writes the value, if there is one, or the holder, and answers the status.
 pub(crate) fn tell_reply(answer: Result<Reply, Stop>, word: &mut u64) -> u32
     ensures status { result ≡ status_of_reply answer }
     ensures word { word.new ≡ word_of_reply word.old answer }
@@ -36,7 +35,7 @@ pub(crate) fn tell_reply(answer: Result<Reply, Stop>, word: &mut u64) -> u32
     }
 }
 
-/// Writes the number, and gives the status.
+/// Writes the number, and answers the status.
 pub(crate) fn tell_number(answer: Result<u64, Stop>, word: &mut u64) -> u32
     ensures status { result ≡ status_of_number answer }
     ensures word { word.new ≡ word_of_number word.old answer }

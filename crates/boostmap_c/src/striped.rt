@@ -1,5 +1,5 @@
-//! The life of a striped map for C: it is opened with its callers, each of which gets a handle of its
-//! own, and goes with the last of them.
+//! The life of a striped map for C: it is opened with its callers, each of which gets its own
+//! handle, and is freed with the last of them.
 ghost use Rattle.std.specs.Prelude.{◌≡◌, ◌++◌, [], ◌∷◌, IfOk, IfErr, OnOk, OnErr, true, length, nat_le, if◌then◌else◌};
 ghost use Rattle.txn_trace.specs.declared.refusal.Refusal.TheVariants.{NoMemory, NoSuchCaller, Limit};
 ghost use Rattle.boostmap_c.specs.Members.{IsFirst, IsSame, Joins, Leaves, Opens, are_limits};
@@ -11,14 +11,14 @@ use std::alloc::Global;
 use striped_map::{MOST, open_map};
 use txn_trace::Refusal;
 
-/// Whether a map can have so many callers and stripes.
+/// Whether a map can have these numbers of callers and stripes.
 fn are_limits(callers: u64, stripes: u64) -> bool
     ensures { result ≡ are_limits callers stripes }
 {
     (1 <= callers && callers <= MOST as u64) && (1 <= stripes && stripes <= MOST as u64)
 }
 
-/// Opens a map, and gives its first member.
+/// Opens a map, and answers its first member.
 fn first_member(alloc: Global, callers: u64, stripes: u64) -> Result<Box<Member, Global>, Refusal>
     ensures limits { OnOk result (are_limits callers stripes ≡ true) }
     ensures ok { IfOk result (λ member. IsFirst callers stripes member.value) }
@@ -40,7 +40,7 @@ fn first_member(alloc: Global, callers: u64, stripes: u64) -> Result<Box<Member,
     Ok(member)
 }
 
-/// Takes out the last caller that waits, as a member of its own.
+/// Takes out the last caller that waits, as its own member.
 fn next_member(alloc: Global, first: &mut Member) -> Result<Box<Member, Global>, Refusal>
     ensures caller { first.new.caller ≡ first.old.caller }
     ensures ok { IfOk result (λ member. (first.old.waiting.items
@@ -65,8 +65,9 @@ fn next_member(alloc: Global, first: &mut Member) -> Result<Box<Member, Global>,
     }
 }
 
-/// Opens a striped map with no keys, and gives its first caller; the word is that caller's number,
-/// which is the number of callers. The others wait, and get their handles by `boostmap_striped_join`.
+/// Opens a striped map with no keys, and makes the handle that of its first caller; the word is
+/// that caller's number, which is the number of callers. The others wait, and get their handles by
+/// `boostmap_striped_join`.
 ///
 /// # Errors
 ///
@@ -100,13 +101,13 @@ pub extern "C" fn boostmap_striped_open(
     }
 }
 
-/// Gives a handle to the next caller that waits; the word is its number, one less than the last one's
-/// that was given. Only the first caller of a map has callers that wait.
+/// Makes a handle that of the next caller that waits; the word is its number, one less than that of
+/// the last caller which got a handle. Only the first caller of a map has callers that wait.
 ///
 /// # Errors
 ///
 /// Both handles are unchanged: 4 if the second has a caller, 3 if the first has none, 18
-/// (`NoSuchCaller`) if nobody waits, 30 (`NoMemory`) if memory is refused.
+/// (`NoSuchCaller`) if no one waits, 30 (`NoMemory`) if memory is refused.
 ///
 /// # Cost
 ///
@@ -140,9 +141,9 @@ pub extern "C" fn boostmap_striped_join(
     }
 }
 
-/// Gives the caller up: a transaction that is open is aborted, and its stripes are given back. The
-/// handle is all zeros then. Callers that wait for this one go with it; the map goes with its last
-/// caller.
+/// Gives up the caller: a transaction that is open is aborted, and its stripes are given back. The
+/// handle is then all zeros. Callers that wait for this one are given up with it; the map is freed
+/// with its last caller.
 ///
 /// # Errors
 ///
@@ -150,7 +151,7 @@ pub extern "C" fn boostmap_striped_join(
 ///
 /// # Cost
 ///
-/// That of an abort; of the last caller, time in proportion to the stripes and the keys. Takes no
+/// That of an abort; for the last caller, time in proportion to the stripes and the keys. Takes no
 /// memory.
 #[unsafe(no_mangle)]
 pub extern "C" fn boostmap_striped_free(alloc: Global, caller: &mut CallerHandle) -> u32

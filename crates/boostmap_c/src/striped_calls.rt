@@ -14,11 +14,8 @@ use txn_trace::Op;
 ///
 /// # Errors
 ///
-/// 3 if the handle has no caller, 20 (`AlreadyOpen`) if the caller is in a transaction, which goes on.
-///
-/// # Cost
-///
-/// Constant time; takes no memory.
+/// 3 if the handle has no caller, 20 (`AlreadyOpen`) if the caller is in a transaction, which goes
+/// on.
 #[unsafe(no_mangle)]
 pub extern "C" fn boostmap_striped_begin(alloc: Global, caller: &mut CallerHandle) -> u32
     ensures { Ends Begins caller.old.held.member result caller.new.held.member }
@@ -31,12 +28,12 @@ pub extern "C" fn boostmap_striped_begin(alloc: Global, caller: &mut CallerHandl
     tell_end(answer)
 }
 
-/// Gets the value at a key, which is the word.
+/// Looks up the value at a key, which is the word.
 ///
 /// # Errors
 ///
-/// 3 if the handle has no caller; 2 if another caller held the key's stripe: then the transaction is
-/// aborted, with all its changes taken back, and the word is the holder. A refusal leaves the
+/// 3 if the handle has no caller; 2 if another caller held the key's stripe: then the transaction
+/// is aborted, with all its changes taken back, and the word is the holder. A refusal leaves the
 /// transaction unchanged: 19 (`NotOpen`), 30 (`NoMemory`).
 ///
 /// # Cost
@@ -64,8 +61,8 @@ pub extern "C" fn boostmap_striped_get(
 ///
 /// # Errors
 ///
-/// 3 if the handle has no caller; 2 if another caller held the key's stripe: then the transaction is
-/// aborted, with all its changes taken back, and the word is the holder. A refusal leaves the
+/// 3 if the handle has no caller; 2 if another caller held the key's stripe: then the transaction
+/// is aborted, with all its changes taken back, and the word is the holder. A refusal leaves the
 /// transaction unchanged: 19 (`NotOpen`), 30 (`NoMemory`), 32 (`StampsUsedUp`).
 ///
 /// # Cost
@@ -94,8 +91,8 @@ pub extern "C" fn boostmap_striped_put(
 ///
 /// # Errors
 ///
-/// 3 if the handle has no caller; 2 if another caller held the key's stripe: then the transaction is
-/// aborted, with all its changes taken back, and the word is the holder. A refusal leaves the
+/// 3 if the handle has no caller; 2 if another caller held the key's stripe: then the transaction
+/// is aborted, with all its changes taken back, and the word is the holder. A refusal leaves the
 /// transaction unchanged: 19 (`NotOpen`), 30 (`NoMemory`), 32 (`StampsUsedUp`).
 ///
 /// # Cost
@@ -124,8 +121,8 @@ pub extern "C" fn boostmap_striped_take(
 ///
 /// # Errors
 ///
-/// 3 if the handle has no caller; 2 if another caller held the key's stripe: then the transaction is
-/// aborted, with all its changes taken back, and the word is the holder. A refusal leaves the
+/// 3 if the handle has no caller; 2 if another caller held the key's stripe: then the transaction
+/// is aborted, with all its changes taken back, and the word is the holder. A refusal leaves the
 /// transaction unchanged: 19 (`NotOpen`), 30 (`NoMemory`), 32 (`StampsUsedUp`).
 ///
 /// # Cost
@@ -151,12 +148,12 @@ pub extern "C" fn boostmap_striped_put_if_absent(
 }
 
 /// Puts a value at a key that has the expected one. The word is the value before: if it is another
-/// one, or none is written, nothing was put.
+/// value, or none is written, nothing was put.
 ///
 /// # Errors
 ///
-/// 3 if the handle has no caller; 2 if another caller held the key's stripe: then the transaction is
-/// aborted, with all its changes taken back, and the word is the holder. A refusal leaves the
+/// 3 if the handle has no caller; 2 if another caller held the key's stripe: then the transaction
+/// is aborted, with all its changes taken back, and the word is the holder. A refusal leaves the
 /// transaction unchanged: 19 (`NotOpen`), 30 (`NoMemory`), 32 (`StampsUsedUp`).
 ///
 /// # Cost
@@ -231,7 +228,7 @@ pub extern "C" fn boostmap_striped_back(alloc: Global, caller: &mut CallerHandle
     tell_end(answer)
 }
 
-/// Commits; the word is the transaction's place in the order of commits, counted from 1, modulo 2^64.
+/// Commits; the word is the transaction's commit number, counted from 1, modulo 2^64.
 ///
 /// # Errors
 ///
@@ -257,7 +254,7 @@ pub extern "C" fn boostmap_striped_commit(
     tell_number(answer, word)
 }
 
-/// Aborts: takes back every change, newest first, and gives all stripes back.
+/// Aborts: takes back every change, newest first, and gives back all stripes.
 ///
 /// # Errors
 ///

@@ -1,5 +1,5 @@
-//! The content of a striped map, in a transaction that takes every stripe. It stands apart because
-//! these two calls look at all of the map.
+//! The content of a striped map, in a transaction that takes every stripe. These are the only calls
+//! that look at the whole map.
 ghost use Rattle.boostmap_c.specs.Members.{Numbers};
 ghost use Rattle.boostmap_c.specs.StripedContents.{Counts, ReadsMap};
 
@@ -9,14 +9,14 @@ use crate::status::EMPTY;
 use crate::stops::{tell_number, tell_stop};
 use std::alloc::Global;
 
-/// Takes every stripe; the word is how many keys the map has, with the transaction's own changes. The
-/// stripes stay held to the transaction's end.
+/// Takes every stripe; the word is the number of keys of the map, with the transaction's own
+/// changes. The stripes stay held to the transaction's end.
 ///
 /// # Errors
 ///
-/// 3 if the handle has no caller; 2 if another caller held a stripe: then the transaction is aborted,
-/// with all its changes taken back, and the word is the holder. A refusal leaves the transaction
-/// unchanged, but it may hold more stripes: 19 (`NotOpen`), 30 (`NoMemory`).
+/// 3 if the handle has no caller; 2 if another caller held a stripe: then the transaction is
+/// aborted, with all its changes taken back, and the word is the holder. A refusal leaves the
+/// transaction unchanged, except that it may hold more stripes: 19 (`NotOpen`), 30 (`NoMemory`).
 ///
 /// # Cost
 ///
@@ -44,8 +44,8 @@ pub extern "C" fn boostmap_striped_count(
 ///
 /// # Errors
 ///
-/// The array is unchanged: 7 if it has too few places: then the word is the number that it needs; and
-/// those of `boostmap_striped_count`.
+/// The array is unchanged: 7 if it has too few places, when the word is the number that it needs;
+/// and those of `boostmap_striped_count`.
 ///
 /// # Cost
 ///

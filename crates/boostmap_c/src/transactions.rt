@@ -1,4 +1,4 @@
-//! The ends of a transaction and its savepoints.
+//! The beginning and the ends of a transaction, and its savepoints.
 ghost use Rattle.boost_core.specs.Machine.{Move};
 ghost use Rattle.boost_core.specs.Plain.{Aborts, Returns};
 ghost use Rattle.boostmap_c.specs.Calls.{Answers};
@@ -12,7 +12,8 @@ use txn_trace::Step;
 ///
 /// # Errors
 ///
-/// 3 if the handle has no map. A refusal changes nothing: 18 (`NoSuchCaller`), 20 (`AlreadyOpen`), 30 (`NoMemory`).
+/// 3 if the handle has no map. A refusal changes nothing: 18 (`NoSuchCaller`), 20 (`AlreadyOpen`),
+/// 30 (`NoMemory`).
 ///
 /// # Cost
 ///
@@ -39,8 +40,8 @@ pub extern "C" fn boostmap_begin(
 ///
 /// # Errors
 ///
-/// 3 if the handle has no map. A refusal changes nothing: 18 (`NoSuchCaller`), 19 (`NotOpen`), 22 (`Leaving`), 30
-/// (`NoMemory`).
+/// 3 if the handle has no map. A refusal changes nothing: 18 (`NoSuchCaller`), 19 (`NotOpen`), 22
+/// (`Leaving`), 30 (`NoMemory`).
 ///
 /// # Cost
 ///
@@ -63,12 +64,12 @@ pub extern "C" fn boostmap_save(alloc: Global, map: &mut Handle, caller: u64, wo
 ///
 /// # Errors
 ///
-/// 3 if the handle has no map. A refusal changes nothing: 18 (`NoSuchCaller`), 19 (`NotOpen`), 22 (`Leaving`), 25
-/// (`NoSuchLevel`), 30 (`NoMemory`).
+/// 3 if the handle has no map. A refusal changes nothing: 18 (`NoSuchCaller`), 19 (`NotOpen`), 22
+/// (`Leaving`), 25 (`NoSuchLevel`), 30 (`NoMemory`).
 ///
 /// # Cost
 ///
-/// That of an operation for each change; may take memory for the history only.
+/// That of an operation for each change; may take memory, only for the history.
 #[unsafe(no_mangle)]
 pub extern "C" fn boostmap_back(
     alloc: Global,
@@ -88,11 +89,12 @@ pub extern "C" fn boostmap_back(
     tell(answer, word)
 }
 
-/// Commits; the word is the transaction's place in the order of commits, counted from 1.
+/// Commits; the word is the transaction's commit number, counted from 1.
 ///
 /// # Errors
 ///
-/// 3 if the handle has no map. A refusal changes nothing: 18 (`NoSuchCaller`), 19 (`NotOpen`), 22 (`Leaving`).
+/// 3 if the handle has no map. A refusal changes nothing: 18 (`NoSuchCaller`), 19 (`NotOpen`), 22
+/// (`Leaving`).
 ///
 /// # Cost
 ///
@@ -115,7 +117,7 @@ pub extern "C" fn boostmap_commit(
     tell(answer, word)
 }
 
-/// Aborts: takes back every change, newest first, and gives all stripes back. No word is written.
+/// Aborts: takes back every change, newest first, and gives back all stripes. No word is written.
 ///
 /// # Errors
 ///

@@ -1,4 +1,4 @@
-//! The answer to a caller that asks for a stripe.
+//! The answer of a lock: granted, or the caller that holds the stripe.
 /// The answer to a caller that asks for a stripe.
 #[derive(Clone, Copy, Debug, PartialEq, Eq)]
 pub enum LockAnswer {

@@ -12,7 +12,6 @@
 //! taken the stripe, so no take can answer that an untouched stripe is held. No call waits. Nothing
 //! says that a take ever succeeds. Calls take constant time and no memory unless they say
 //! otherwise.
-//! take ever succeeds.
 #![tactic(auto)]
 
 mod law;

@@ -58,9 +58,9 @@ impl Checker {
     ///
     /// `AllocError` if memory is refused, or if 2^64 - 1 entries were fed. Then the entry was not
     /// fed, and may be fed again.
-    /// more, and the same one may be fed again.
     ///
     /// # Cost
+    ///
     /// For a Did or an Undone, time in proportion to the logarithm of the number of keys that its
     /// transaction asked for; for a Committed, for each of these keys, to the logarithm of the
     /// number of keys in the map; for an Aborted, to the number of keys asked for. Otherwise
