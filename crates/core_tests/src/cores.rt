@@ -15,8 +15,8 @@ use std::process::Abort;
 use std::test::Fail;
 use txn_trace::{Answer, Entry, Limits, Op, Refusal, Step};
 
-/// A step, by `step` or by `run`, or a plain call. A call for help that is done is answered `Ready`
-/// here, as the step that finds the bucket initialised.
+/// A step, by `step` or by `run`, or a plain call. A call for help that succeeds has the answer
+/// `Ready` here, like the step that finds the bucket initialised.
 #[derive(Clone, Copy, Debug)]
 enum Call {
     Step(Step),
@@ -41,7 +41,7 @@ fn make_call(alloc: Global, core: &mut Core, call: Call) -> Result<Answer, Fail>
     }
 }
 
-/// Makes a call, which is answered so.
+/// Makes a call, which must have this answer.
 fn call_is(
     rt: &impl Abort,
     alloc: Global,
@@ -66,7 +66,7 @@ fn play_calls(
     Ok(())
 }
 
-/// Sees that there are two buckets, and that list, map and count have these pairs.
+/// Checks that there are two buckets, and that list, map and count have these pairs.
 fn has_pairs(
     rt: &impl Abort,
     alloc: Global,
@@ -146,8 +146,8 @@ const EACH_KIND: [(Call, Answer); 17] = [
     (Call::Step(Step::Sweep), Answer::Clean),
 ];
 
-/// An abort from each phase; one that has left to the end goes on, one that has left to a level is
-/// refused.
+/// An abort from each phase; one that has left to the end continues, one that has left to a level
+/// is refused.
 const ABORTS: [(Call, Answer); 15] = [
     (Call::Abort(0), Answer::Refused(Refusal::NotOpen)),
     (Call::Abort(3), Answer::Refused(Refusal::NoSuchCaller)),
@@ -166,9 +166,9 @@ const ABORTS: [(Call, Answer); 15] = [
     (Call::Abort(0), Answer::Aborted),
 ];
 
-/// Each marked node is swept by a sweep of its own. And an act is done at its cursor although the
-/// list has changed elsewhere since its seek, and although another caller has read; a helper's
-/// dummy is linked although the list has changed elsewhere.
+/// Each sweep unlinks one marked node. An act is done at its cursor although the list has changed
+/// elsewhere since its seek, and although another caller has read; a helper's dummy is linked
+/// although the list has changed elsewhere.
 const SWEEPS_AND_CURSORS: [(Call, Answer); 20] = [
     (Call::Run(Step::Begin(0)), Answer::Began(1)),
     (Call::Op(0, Op::Put(4, 40)), Answer::Done(None)),
@@ -192,7 +192,7 @@ const SWEEPS_AND_CURSORS: [(Call, Answer); 20] = [
     (Call::Run(Step::InitLink(0)), Answer::Linked),
 ];
 
-/// `keys_of_64_bits`, by calls, and committed: a put that expects another value is none.
+/// `keys_of_64_bits`, by calls, and committed: a put that expects another value puts nothing.
 const WIDE_KEYS: [(Call, Answer); 9] = [
     (Call::Step(Step::Begin(0)), Answer::Began(1)),
     (
@@ -214,7 +214,7 @@ const WIDE_KEYS: [(Call, Answer); 9] = [
     (Call::Step(Step::Commit(0)), Answer::Committed(1)),
 ];
 
-/// What they leave: keys that share a split key stand by their numbers.
+/// The pairs that they leave: keys that share a split key are ordered by their numbers.
 const WIDE_PAIRS: [(u64, u64); 4] = [
     (2, 20),
     (1, 12),
@@ -222,7 +222,7 @@ const WIDE_PAIRS: [(u64, u64); 4] = [
     (18_446_744_073_709_551_615, 7),
 ];
 
-/// The same by steps, and aborted by steps: five changes are taken back.
+/// `keys_of_64_bits`, by steps, and aborted by steps: five changes are taken back.
 const WIDE_KEYS_ABORTED: [(Call, Answer); 34] = [
     (Call::Step(Step::Begin(0)), Answer::Began(1)),
     (
@@ -278,7 +278,7 @@ const WIDE_KEYS_ABORTED: [(Call, Answer); 34] = [
     (Call::Step(Step::Act(0)), Answer::Aborted),
 ];
 
-/// With half keys alone the first key that is refused is 2^63, by every operation and by help.
+/// With half keys, every operation and help refuse keys from 2^63 on.
 const HALF_KEYS: [(Call, Answer); 8] = [
     (Call::Step(Step::Begin(0)), Answer::Began(1)),
     (
@@ -311,8 +311,8 @@ const HALF_KEYS: [(Call, Answer); 8] = [
     ),
 ];
 
-/// A run on a core of its own, of two buckets: how many callers there are, whether half keys alone
-/// are taken, the calls, the pairs that are left, and the history where that is compared.
+/// A run on a new core of two buckets: the number of callers, whether only half keys are taken, the
+/// calls, the pairs that are left, and the history if it is compared.
 #[derive(Drop)]
 struct Run {
     callers: u64,
@@ -385,7 +385,7 @@ fn core_in(alloc: Global, run: &Run) -> Result<Core, Fail> {
     core_with(alloc, limits)
 }
 
-/// Sees that the history is this one, if it is compared.
+/// Checks that the history is this one, if it is compared.
 fn has_history(rt: &impl Abort, core: &Core, wanted: Option<&'static [Entry]>) {
     if let Some(history) = wanted {
         assert_eq!(rt; trace_of(core), history);
@@ -398,7 +398,7 @@ fn play_run(rt: &impl Abort, alloc: Global, core: &mut Core, run: &Run) -> Resul
     has_pairs(rt, alloc, core, run.pairs)
 }
 
-/// Plays a run on a core of its own.
+/// Plays a run on a new core.
 fn play_alone(rt: &impl Abort, alloc: Global, run: &Run) -> Result<(), Fail> {
     let mut core = core_in(alloc, run)?;
     play_run(rt, alloc, &mut core, run)
@@ -423,8 +423,8 @@ fn begun_core(rt: &impl Abort, alloc: Global, limits: Limits) -> Result<Core, Fa
     Ok(core)
 }
 
-/// Caller 0 takes the newest of so many changes, each of a key of its number, back: those before it
-/// are left.
+/// Caller 0 takes back the newest of this number of changes, each of a key of its number: those
+/// before it are left.
 fn undo_newest(rt: &impl Abort, alloc: Global, core: &mut Core, key: u64) -> Result<(), Fail> {
     step_is(rt, core, Step::Seek(0), Answer::Placed)?;
     step_is(rt, core, Step::Act(0), Answer::Undone)?;
@@ -436,7 +436,7 @@ fn undo_newest(rt: &impl Abort, alloc: Global, core: &mut Core, key: u64) -> Res
     Ok(())
 }
 
-/// Caller 0 takes nine changes back.
+/// Caller 0 takes back nine changes.
 fn undo_nine(rt: &impl Abort, alloc: Global, core: &mut Core) -> Result<(), Fail> {
     for left in 0..9 {
         undo_newest(rt, alloc, core, 9u64.wrapping_sub(left))?;
@@ -467,7 +467,7 @@ fn put_and_undo_nine(rt: &impl Abort, alloc: Global, core: &mut Core) -> Result<
     has_pairs(rt, alloc, core, &[])
 }
 
-/// Nine changes of one transaction, of which eight jobs stand in the caller's log itself: each step
+/// Nine changes of one transaction; eight of their jobs are in the caller's log itself. Each step
 /// back takes the newest key out, and leaves those before it.
 #[test]
 fn nine_undone_newest_first(rt: HostRuntime) -> Result<(), Fail> {
@@ -475,7 +475,7 @@ fn nine_undone_newest_first(rt: HostRuntime) -> Result<(), Fail> {
     put_and_undo_nine(&rt, rt.alloc(), &mut core)
 }
 
-/// Steps, each with how many entries are owed after it: two for an open transaction and one for
+/// Steps, each with the number of entries owed after it: two for an open transaction and one for
 /// each change that stands; two more for a put that waits and one for a get; one more on the way to
 /// a level.
 static OWED: [(Step, usize); 16] = [
@@ -510,8 +510,8 @@ fn owed_entries(rt: HostRuntime) -> Result<(), Fail> {
     owed_are(&rt, &mut core_of(rt.alloc(), 2)?, &OWED)
 }
 
-/// A call for help doubles a table with more than two keys a bucket, and initialises the bucket of
-/// its key: the key, the size after it, and the bucket.
+/// A call for help doubles a table with more than two keys for each bucket, and initialises the
+/// bucket of its key: the key, the size after it, and the bucket.
 static HELPED: [(u64, u32, u64); 9] = [
     (0, 2, 0),
     (1, 2, 1),
@@ -524,7 +524,7 @@ static HELPED: [(u64, u32, u64); 9] = [
     (8, 8, 0),
 ];
 
-/// A caller helps for a key, and this comes of it.
+/// A caller helps for a key, with this result.
 fn help_is(
     rt: &impl Abort,
     core: &mut Core,
@@ -547,7 +547,7 @@ fn helped_are(rt: &impl Abort, core: &mut Core, rows: &[(u64, u32, u64)]) -> Res
     Ok(())
 }
 
-/// Caller 0 puts so many keys and helps before each.
+/// Caller 0 puts this number of keys and helps before each.
 fn put_helped(rt: &impl Abort, core: &mut Core, keys: u64) -> Result<(), Fail> {
     for key in 0..keys {
         help_is(rt, core, (0, key), Ok(()));
@@ -556,8 +556,8 @@ fn put_helped(rt: &impl Abort, core: &mut Core, keys: u64) -> Result<(), Fail> {
     Ok(())
 }
 
-/// 30,000 keys with help before each put, each from a bucket of its own: without help each seek
-/// would walk all keys.
+/// 30,000 keys with help before each put, each sought from its bucket: without help each seek would
+/// walk over all keys.
 fn helped_table_stays_fast(rt: &impl Abort, core: &mut Core) -> Result<(), Fail> {
     put_helped(rt, core, 30_000)?;
     step_is(rt, core, Step::Commit(0), Answer::Committed(1))?;

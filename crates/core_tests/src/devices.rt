@@ -10,7 +10,7 @@ pub(crate) fn limits_of(callers: u64, stripes: u64, buckets: u64) -> Result<Limi
     Ok(Limits::new(callers, stripes, buckets)?)
 }
 
-/// A core of so many callers, with 8 stripes and at most 8 buckets.
+/// A core of this number of callers, with 8 stripes and at most 8 buckets.
 pub(crate) fn core_of(alloc: Global, callers: u64) -> Result<Core, Fail> {
     core_with(alloc, limits_of(callers, 8, 8)?)
 }
@@ -20,7 +20,7 @@ pub(crate) fn core_with(alloc: Global, limits: Limits) -> Result<Core, Fail> {
     Ok(core_if_made(alloc, limits).ok_or("no core")?)
 }
 
-/// A core of these limits. Asks again if memory is refused once; none if it is refused again.
+/// A core of these limits. Tries twice if memory is refused once; `None` if it is refused again.
 pub(crate) fn core_if_made(alloc: Global, limits: Limits) -> Option<Core> {
     match Core::new(alloc, limits) {
         Ok(core) => Some(core),
@@ -28,7 +28,7 @@ pub(crate) fn core_if_made(alloc: Global, limits: Limits) -> Option<Core> {
     }
 }
 
-/// Takes a step; where stripes are words none by which an operation is asked for.
+/// Takes a step; if stripes are words, none that asks for an operation.
 pub(crate) fn take_step(core: &mut Core, step: Step) -> Result<Answer, Fail> {
     if core.words() && matches!(step, Step::Ask(..)) {
         return Err("stripes are words".into());
@@ -36,7 +36,7 @@ pub(crate) fn take_step(core: &mut Core, step: Step) -> Result<Answer, Fail> {
     Ok(core.step(step))
 }
 
-/// Does an operation by a plain call, on a core whose stripes are no words.
+/// Does an operation by a plain call, on a core whose stripes are not words.
 pub(crate) fn operate(core: &mut Core, caller: u64, op: Op) -> Result<Answer, Fail> {
     if core.words() {
         return Err("stripes are words".into());
@@ -49,7 +49,7 @@ pub(crate) fn operate(core: &mut Core, caller: u64, op: Op) -> Result<Answer, Fa
     }
 }
 
-/// Takes steps by `run`, on a core whose stripes are no words.
+/// Takes steps by `run`, on a core whose stripes are not words.
 pub(crate) fn run_steps(
     alloc: Global,
     core: &mut Core,
@@ -61,7 +61,7 @@ pub(crate) fn run_steps(
     Ok(core.run(alloc, steps)?)
 }
 
-/// Takes one step so.
+/// Takes one step by `run`.
 pub(crate) fn run_step(alloc: Global, core: &mut Core, step: Step) -> Result<Answer, Fail> {
     let answers = run_steps(alloc, core, &[step])?;
     Ok(answers.first().copied().ok_or("no answer")?)
@@ -72,7 +72,7 @@ pub(crate) fn back(core: &mut Core, caller: u64, level: u64) -> Answer {
     core.back(caller, level)
 }
 
-/// Aborts. No memory is wanted.
+/// Aborts, which needs no memory.
 pub(crate) fn abort(core: &mut Core, caller: u64) -> Answer {
     core.abort(caller)
 }
@@ -82,12 +82,12 @@ pub(crate) fn help(core: &mut Core, caller: u64, key: u64) -> Result<(), Refusal
     core.help(caller, key)
 }
 
-/// How many buckets and how many keys there are.
+/// The numbers of buckets and of keys.
 pub(crate) fn sizes_of(core: &Core) -> (u32, u64) {
     (core.size(), core.count())
 }
 
-/// How many entries are owed.
+/// The number of entries owed.
 pub(crate) fn owed_by(core: &Core) -> usize {
     core.owed()
 }
@@ -102,7 +102,7 @@ pub(crate) fn pairs_of(alloc: Global, core: &Core) -> Result<Vec<(u64, u64)>, Al
     core.regular_list(alloc)
 }
 
-/// Sees that the map, too, has so many pairs, and of these keys these values.
+/// Checks that the map also has this number of pairs, and these values at these keys.
 pub(crate) fn has_map(
     rt: &impl Abort,
     alloc: Global,
@@ -117,7 +117,7 @@ pub(crate) fn has_map(
     Ok(())
 }
 
-/// Takes a step, which is answered so.
+/// Takes a step, which must have this answer.
 pub(crate) fn step_is(
     rt: &impl Abort,
     core: &mut Core,

@@ -3,7 +3,7 @@ use std::process::Abort;
 use txn_drive::{Call, Drive, End, Turn};
 use txn_trace::{Answer, Limits, Op, Refusal, Step};
 
-/// The drive of a caller's call, on limits that take every key or half keys alone.
+/// The drive of a caller's call, with limits that take every key or only half keys.
 fn drive_of(rt: &impl Abort, caller: u64, call: Call, takes_half_keys: bool) -> Drive {
     let limits = Limits::new(64, 64, 64).expect(rt, "limits in range");
     if takes_half_keys {
@@ -18,22 +18,23 @@ fn turn_at(drive: &mut Drive, size: u32) -> Turn {
     drive.turn(size)
 }
 
-/// The drive is told an answer.
+/// Tells the drive an answer.
 fn tell(drive: &mut Drive, answer: Answer) {
     drive.told(answer);
 }
 
-/// Turns of a drive, and what it is told.
+/// Turns of a drive, and the answers that it is told.
 #[derive(Clone, Copy, Debug)]
 enum Turns {
-    /// A turn of this step, which is answered so.
+    /// A turn of this step, which has this answer.
     One(Step, Answer),
-    /// The same at a size of the table that is not 4.
+    /// A turn of this step at a size of the table that is not 4.
     At(u32, Step, Answer),
-    /// So many times a turn of a seek that is placed, and one of a step that does not fit there.
+    /// This number of times, a turn of a seek that is placed, and one of a step that does not fit
+    /// there.
     Again(u32, Step, Step),
-    /// So many times, at this size of the table, a turn of two steps, of which the first is placed
-    /// and the second answered so.
+    /// This number of times, at this size of the table, a turn of two steps, the first of which is
+    /// placed, and the second has this answer.
     Both(u32, u32, Step, Step, Answer),
 }
 
@@ -43,7 +44,7 @@ fn takes(rt: &impl Abort, drive: &mut Drive, size: u32, step: Step, answer: Answ
     tell(drive, answer);
 }
 
-/// The drive seeks so many times and finds each time that the place does not fit.
+/// The drive seeks this number of times, and each time the position does not fit.
 fn takes_again(rt: &impl Abort, drive: &mut Drive, times: u32, seek: Step, act: Step) {
     for _ in 0..times {
         takes(rt, drive, 4, seek, Answer::Placed);
@@ -51,7 +52,7 @@ fn takes_again(rt: &impl Abort, drive: &mut Drive, times: u32, seek: Step, act: 
     }
 }
 
-/// The drive takes so many turns of two steps.
+/// The drive takes this number of turns of two steps.
 fn takes_both(rt: &impl Abort, drive: &mut Drive, turns: (u32, u32), both: Turn, answer: Answer) {
     let (times, size) = turns;
     for _ in 0..times {
@@ -72,11 +73,10 @@ fn take_turns(rt: &impl Abort, drive: &mut Drive, turns: Turns) {
     }
 }
 
-/// A caller's call, whether the limits take half keys alone, the turns of its drive, and how it
-/// ends.
+/// A caller's call, whether the limits take only half keys, the turns of its drive, and its end.
 type Row = (u64, Call, bool, &'static [Turns], End);
 
-/// The drives take their turns, and no step any more: they say so at each turn.
+/// The drives take their turns and then no step, which each later turn says too.
 fn drive_rows(rt: &impl Abort, rows: &[Row]) {
     for (caller, call, takes_half_keys, turns, end) in rows {
         let mut drive = drive_of(rt, *caller, *call, *takes_half_keys);
@@ -89,7 +89,7 @@ fn drive_rows(rt: &impl Abort, rows: &[Row]) {
     }
 }
 
-/// Calls of one step, and of those that are refused.
+/// Calls of one step, also calls that are refused.
 const ONE_STEP: [Row; 10] = [
     (
         0,
@@ -169,7 +169,8 @@ const ONE_STEP: [Row; 10] = [
     ),
 ];
 
-/// `drive_of_a_put`: a put that takes its last two steps in one turn after 8 that did not fit.
+/// `drive_of_a_put`: a put that takes its last two steps in one turn after 8 positions that did not
+/// fit.
 const DRIVE_OF_A_PUT: &[Turns] = &[
     Turns::One(Step::Ask(0, Op::Put(2, 20)), Answer::Asked),
     Turns::Again(8, Step::Seek(0), Step::Act(0)),
@@ -204,7 +205,7 @@ const BACK: &[Turns] = &[
     Turns::One(Step::Act(2), Answer::Returned(1)),
 ];
 
-/// An abort counts `again` anew for each job.
+/// An abort counts `again` from 0 for each job.
 const ABORT: &[Turns] = &[
     Turns::One(Step::Abort(3), Answer::Leaving),
     Turns::Again(8, Step::Seek(3), Step::Act(3)),
@@ -216,13 +217,13 @@ const ABORT: &[Turns] = &[
     Turns::One(Step::Act(3), Answer::Aborted),
 ];
 
-/// Nothing to seek is no answer to the seek of an operation.
+/// "Nothing to seek" is no answer to the seek of an operation.
 const LOST_GET: &[Turns] = &[
     Turns::One(Step::Ask(0, Op::Get(9)), Answer::Asked),
     Turns::One(Step::Seek(0), Answer::Refused(Refusal::NothingToSeek)),
 ];
 
-/// A return that comes to another level.
+/// A return that arrives at another level.
 const LOST_BACK: &[Turns] = &[
     Turns::One(Step::Back(0, 2), Answer::Leaving),
     Turns::One(Step::Seek(0), Answer::Refused(Refusal::NothingToSeek)),
@@ -276,7 +277,7 @@ fn drives_of_calls(rt: HostRuntime) {
     drive_rows(&rt, &SEVERAL_STEPS);
 }
 
-/// A helper goes over the ancestors of its bucket.
+/// A helper initialises the ancestors of its bucket.
 const OVER_ANCESTORS: &[Turns] = &[
     Turns::At(2, Step::Double(2), Answer::Doubled(4)),
     Turns::One(Step::InitSeek(5, 1), Answer::Placed),
@@ -296,7 +297,7 @@ const PAST_READY: &[Turns] = &[
     Turns::One(Step::InitSeek(0, 27), Answer::Ready),
 ];
 
-/// A helper goes by the size straight after its own doubling, although another caller doubles the
+/// A helper goes by the size right after its own doubling, although another caller doubles the
 /// table once more.
 const BY_ITS_SIZE: &[Turns] = &[
     Turns::At(2, Step::Double(2), Answer::Doubled(4)),
@@ -304,7 +305,7 @@ const BY_ITS_SIZE: &[Turns] = &[
     Turns::At(8, Step::InitSeek(2, 3), Answer::Ready),
 ];
 
-/// A helper counts `again` anew for each bucket.
+/// A helper counts `again` from 0 for each bucket.
 const AGAIN_ANEW: &[Turns] = &[
     Turns::One(Step::Double(4), Answer::Moved(8)),
     Turns::Again(8, Step::InitSeek(1, 2), Step::InitLink(1)),
@@ -336,7 +337,7 @@ const LOST_HELP: &[Turns] = &[
     ),
 ];
 
-/// Helpers; with half keys alone the first key that is refused is 2^63, before any step.
+/// Helpers; with half keys the first key that is refused is 2^63, before any step.
 const HELPERS: [Row; 10] = [
     (5, Call::Help(3), false, OVER_ANCESTORS, End::Helped),
     (0, Call::Help(0xb01b), false, PAST_READY, End::Helped),
@@ -385,7 +386,7 @@ fn drives_of_helpers(rt: HostRuntime) {
     drive_rows(&rt, &HELPERS);
 }
 
-/// The first two steps that a turn takes, each answered so.
+/// The first two steps that a turn takes, each with this answer.
 fn taken_of(turn: Turn, answer: Answer) -> [Option<Step>; 2] {
     let mut taken = [None, None];
     let mut count = 0;
@@ -399,7 +400,7 @@ fn taken_of(turn: Turn, answer: Answer) -> [Option<Step>; 2] {
     taken
 }
 
-/// Of two steps the second is taken only after `placed`.
+/// A second step is taken only after `placed`.
 #[test]
 fn second_step_after_placed(rt: HostRuntime) {
     let (seek, act) = (Step::Seek(3), Step::Act(3));

@@ -9,7 +9,7 @@ use std::process::Abort;
 use std::test::Fail;
 use txn_trace::{Entry, Holder, Op};
 
-/// What `check` says.
+/// The answer of `check`.
 fn checked(
     rt: &impl Abort,
     alloc: Global,
@@ -32,18 +32,18 @@ fn checker_of(
     Checker::new(alloc, stripes, holder)
 }
 
-/// Feeds a checker one entry more.
+/// Feeds a checker one more entry.
 fn feed(rt: &impl Abort, checker: &mut Checker, entry: &Entry) -> Result<(), AllocError> {
     assert!(rt; entry.caller() < 64);
     checker.feed(entry)
 }
 
-/// What a checker says so far.
+/// The verdict of a checker so far.
 fn verdict_so_far(checker: &Checker) -> Verdict {
     checker.verdict()
 }
 
-/// What the plain program says of the entries up to a place, by the first bad one of all.
+/// The verdict of the plain program on the first entries, from the first bad one of all.
 fn plain_at(entries: &[Entry], place: usize, bad: Option<(usize, Rule)>) -> Verdict {
     match bad {
         Some(bad) if bad.0 <= place => plain::verdict(entries, Some(bad)),
@@ -51,12 +51,12 @@ fn plain_at(entries: &[Entry], place: usize, bad: Option<(usize, Rule)>) -> Verd
     }
 }
 
-/// Sees that of so many entries this is said.
+/// Checks that this is the verdict on the first entries.
 fn says(rt: &impl Abort, said: Verdict, wanted: Verdict, entries: &[Entry], count: usize) {
     assert_eq!(rt; said, wanted, "of the first {count} of {entries:?}");
 }
 
-/// Sees that a checker that is fed entry by entry says what the plain program says.
+/// Checks that a checker that is fed entry by entry agrees with the plain program.
 fn feed_each(
     rt: &impl Abort,
     mut checker: Checker,
@@ -76,8 +76,8 @@ fn feed_each(
     Ok(())
 }
 
-/// The verdict of the plain program, which `check` and a checker that is fed entry by entry must
-/// share.
+/// The verdict of the plain program, with which `check` and a checker that is fed entry by entry
+/// must agree.
 fn judge_once(
     rt: &impl Abort,
     alloc: Global,
@@ -125,7 +125,7 @@ const REPLIES: [Entry; 14] = [
     Entry::Committed(0, 2),
 ];
 
-/// What the reader answers if the change was not taken back.
+/// The reply to the reader if the change was not taken back.
 const STALE_REPLY: Entry = Entry::Did(0, Some(99));
 
 /// An abort that leaves a change.
@@ -141,7 +141,7 @@ const NOT_UNDONE: [Entry; 9] = [
     Entry::Aborted(1),
 ];
 
-/// Keys 1 and 9, of which each has a stripe of its own if there are 16.
+/// Keys 1 and 9, which have different stripes if there are 16.
 const ONE_STRIPE: [Entry; 4] = [
     Entry::Began(0, 1),
     Entry::Asked(0, Op::Get(1)),
@@ -161,7 +161,7 @@ const ON_A_CHANGE: [Entry; 5] = [
 /// A Busy that names a caller that has never begun.
 const BUSY_BY_NOBODY: [Entry; 2] = [Entry::Began(0, 1), Entry::Busy(0, Op::Get(9), 1)];
 
-/// A Busy that names a caller whose transaction is over.
+/// A Busy that names a caller whose transaction has ended.
 const HOLDER_HAS_BEGUN: [Entry; 6] = [
     Entry::Began(0, 1),
     Entry::Asked(0, Op::Put(1, 10)),
@@ -171,7 +171,7 @@ const HOLDER_HAS_BEGUN: [Entry; 6] = [
     Entry::Busy(1, Op::Get(9), 0),
 ];
 
-/// A Busy that names a caller before all others.
+/// A Busy that names a caller before any other entry.
 const BUSY_AT_FIRST: [Entry; 2] = [Entry::Began(1, 1), Entry::Busy(1, Op::Get(9), 0)];
 
 /// A reply that no map gives.
@@ -182,7 +182,7 @@ const INVENTED: [Entry; 4] = [
     Entry::Leave(0, None),
 ];
 
-/// A transaction in which the first of two `PutIf`s is a change, and the second is none.
+/// A transaction in which the first of two `PutIf`s is a change, and the second is not.
 const PUT_IF: [Entry; 8] = [
     Entry::Began(0, 1),
     Entry::Asked(0, Op::PutIf(1, None, 5)),
@@ -194,7 +194,7 @@ const PUT_IF: [Entry; 8] = [
     Entry::Aborted(0),
 ];
 
-/// The same with two changes taken back.
+/// `PUT_IF` with two changes taken back.
 const PUT_IF_UNDONE_TWICE: [Entry; 9] = [
     Entry::Began(0, 1),
     Entry::Asked(0, Op::PutIf(1, None, 5)),
@@ -207,7 +207,7 @@ const PUT_IF_UNDONE_TWICE: [Entry; 9] = [
     Entry::Aborted(0),
 ];
 
-/// Keys 1 and 2^63 + 1, which agree but for their top bit.
+/// Keys 1 and 2^63 + 1, which differ only in their top bit.
 const ONE_SPLIT_KEY: [Entry; 10] = [
     Entry::Began(0, 1),
     Entry::Asked(0, Op::Put(0x8000_0000_0000_0001, 11)),
@@ -221,8 +221,8 @@ const ONE_SPLIT_KEY: [Entry; 10] = [
     Entry::Committed(0, 1),
 ];
 
-/// A transaction that goes back to its first savepoint, and then would go back to the second, which
-/// is gone.
+/// A transaction that goes back to its first savepoint, and then tries to go back to the second,
+/// which is gone.
 const WITH_SAVEPOINTS: [Entry; 16] = [
     Entry::Began(0, 1),
     Entry::Asked(0, Op::Put(1, 10)),
@@ -242,11 +242,10 @@ const WITH_SAVEPOINTS: [Entry; 16] = [
     Entry::Leave(0, Some(2)),
 ];
 
-/// A history, an entry that stands in it in place of another one, the stripes that it is judged by,
-/// and the verdict.
+/// A history, an entry that replaces one of it, the number of stripes, and the verdict.
 type Row = (&'static [Entry], Option<(usize, Entry)>, u64, Verdict);
 
-/// What is said if a Busy names a holder of now.
+/// The verdicts if a Busy must name a holder of now.
 static BY_HOLDERS_OF_NOW: [Row; 19] = [
     // `checker_replies`.
     (
@@ -295,7 +294,7 @@ static BY_HOLDERS_OF_NOW: [Row; 19] = [
             rule: Rule::Locks,
         },
     ),
-    // `holder_has_begun`, if the holder is to be one of now.
+    // `holder_has_begun`, if the holder must be one of now.
     (
         &HOLDER_HAS_BEGUN,
         None,
@@ -427,7 +426,7 @@ static BY_HOLDERS_OF_NOW: [Row; 19] = [
     ),
 ];
 
-/// What is said if a Busy names a caller that has begun.
+/// The verdicts if a Busy may name a caller that has begun.
 static BY_HOLDERS_THAT_HAVE_BEGUN: [Row; 5] = [
     // `holder_has_begun`; and holders that are the caller itself, or no caller.
     (
@@ -496,19 +495,19 @@ fn judge_rows(
     Ok(())
 }
 
-/// The history with savepoints up to where the first is reached again.
+/// The history with savepoints up to the return to the first.
 fn back_at_1() -> &'static [Entry] {
     &WITH_SAVEPOINTS[..15]
 }
 
-/// Sees that the rules have their numbers.
+/// Checks that the rules have their numbers.
 fn rules_have_numbers(rt: &impl Abort) {
     for (rule, number) in &[(Rule::Replies, 1), (Rule::Locks, 2), (Rule::Shape, 3)] {
         assert_eq!(rt; rule.number(), *number);
     }
 }
 
-/// Sees what is said of all worked histories.
+/// Checks the verdicts on all worked histories.
 fn judge_all(rt: &impl Abort, alloc: Global) -> Result<(), AllocError> {
     judge_rows(rt, alloc, Holder::Now, &BY_HOLDERS_OF_NOW)?;
     judge_rows(rt, alloc, Holder::Begun, &BY_HOLDERS_THAT_HAVE_BEGUN)?;
@@ -533,7 +532,7 @@ fn is_refused(alloc: Global) -> bool {
     Box::new(alloc, 0).is_err()
 }
 
-/// Begins to check, once more where that is refused; none if memory is refused still.
+/// Makes a checker, once more if that is refused; `None` if memory is refused again.
 fn start_checker(rt: &impl Abort, alloc: Global) -> Option<Checker> {
     for _ in 0..2 {
         if let Ok(checker) = checker_of(rt, alloc, 8, Holder::Now) {
@@ -544,8 +543,8 @@ fn start_checker(rt: &impl Abort, alloc: Global) -> Option<Checker> {
     None
 }
 
-/// Whether it took an entry, which it is fed once more where that is refused. A refused entry
-/// changes nothing.
+/// Whether it took an entry, which it is fed once more if that is refused. A refused entry changes
+/// nothing.
 fn is_fed(rt: &impl Abort, checker: &mut Checker, entry: &Entry) -> bool {
     let before = verdict_so_far(checker);
     for _ in 0..2 {
@@ -561,8 +560,9 @@ fn is_fed(rt: &impl Abort, checker: &mut Checker, entry: &Entry) -> bool {
     false
 }
 
-/// Ends a checker that has taken so many entries and was refused memory for the next one: another
-/// in its place, which nobody may add and which wants no memory, is judged as the one after them.
+/// Ends with a checker that has taken this number of entries and was refused memory for the next
+/// one: another entry in its place, which no caller may add and which needs no memory, is judged as
+/// the one after them.
 fn end_refused(rt: &impl Abort, alloc: Global, checker: &mut Checker, taken: usize) {
     assert!(rt; is_refused(alloc));
     assert!(rt; feed(rt, checker, &Entry::Undone(63)).is_ok());
@@ -573,7 +573,7 @@ fn end_refused(rt: &impl Abort, alloc: Global, checker: &mut Checker, taken: usi
     assert_eq!(rt; verdict_so_far(checker), wanted);
 }
 
-/// What is said after an entry, by rows that say from which entry on it is said.
+/// The verdict after an entry, from rows that say from which entry on it holds.
 fn verdict_at(rows: &[(usize, Verdict)], place: usize) -> Option<Verdict> {
     let mut found = None;
     for (first, verdict) in rows {
@@ -584,8 +584,7 @@ fn verdict_at(rows: &[(usize, Verdict)], place: usize) -> Option<Verdict> {
     found
 }
 
-/// Feeds a checker, once more if it is refused memory, and compares what it says after each
-/// entry.
+/// Feeds a checker, once more if it is refused memory, and compares its verdict after each entry.
 fn feed_all(rt: &impl Abort, alloc: Global, entries: &[Entry], rows: &[(usize, Verdict)]) {
     let Some(mut checker) = start_checker(rt, alloc) else {
         return;
@@ -599,7 +598,7 @@ fn feed_all(rt: &impl Abort, alloc: Global, entries: &[Entry], rows: &[(usize, V
     }
 }
 
-/// What is said of the replies of which the last is stale, from each of these entries on.
+/// The verdicts on the replies with a stale last one, from each of these entries on.
 const OF_STALE_REPLIES: [(usize, Verdict); 6] = [
     (
         0,
@@ -645,7 +644,7 @@ const OF_STALE_REPLIES: [(usize, Verdict); 6] = [
     ),
 ];
 
-/// Is to be run with allocations refused: a refused entry changes nothing, and is fed once more.
+/// Meant to be run with allocations refused: a refused entry changes nothing, and is fed once more.
 #[test]
 fn fed_entry_by_entry(rt: HostRuntime) {
     let mut stale = REPLIES;
@@ -653,7 +652,7 @@ fn fed_entry_by_entry(rt: HostRuntime) {
     feed_all(&rt, rt.alloc(), &stale, &OF_STALE_REPLIES);
 }
 
-/// What is said of the history with savepoints, from each of these entries on.
+/// The verdicts on the history with savepoints, from each of these entries on.
 const OF_SAVEPOINTS: [(usize, Verdict); 2] = [
     (
         0,
@@ -671,7 +670,7 @@ const OF_SAVEPOINTS: [(usize, Verdict); 2] = [
     ),
 ];
 
-/// Is to be run with allocations refused: a refused entry changes nothing, and is fed once more.
+/// Meant to be run with allocations refused: a refused entry changes nothing, and is fed once more.
 #[test]
 fn fed_with_savepoints(rt: HostRuntime) {
     feed_all(&rt, rt.alloc(), &WITH_SAVEPOINTS, &OF_SAVEPOINTS);
@@ -700,8 +699,8 @@ impl Tally {
     }
 }
 
-/// Draws a legal history from the seed, which must be found so, and gives the verdict on it with
-/// one fault.
+/// Draws a legal history from the seed, which must be judged legal, and answers the verdict on it
+/// with one fault.
 fn judge_seed(
     rt: &impl Abort,
     alloc: Global,
@@ -718,7 +717,7 @@ fn judge_seed(
     judge_once(rt, alloc, &history, stripes, holder)
 }
 
-/// The same, done once more if memory is refused.
+/// Judges the history of a seed, once more if memory is refused.
 fn judge_drawn(
     rt: &impl Abort,
     alloc: Global,

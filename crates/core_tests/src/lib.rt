@@ -1,9 +1,9 @@
-//! Tests of the crates from histories up to the mixing of scripts: of the core and its driving, and
-//! of the checker that judges what it did.
+//! Tests of the crates from histories up to the mixing of scripts: of the core and its drives, and
+//! of the checker that judges histories.
 //!
-//! They stand apart from what they test since a crate with tests is proved twice. Each call of a
-//! library stands once, in a small function without a contract: a test that goes through these has
-//! no more to prove than that it is safe itself.
+//! They are a separate crate, since a crate with tests is proved twice. Each call of a library
+//! stands once, in a small function without a contract: a test that uses these has only its own
+//! safety to prove.
 #![tactic(auto)]
 
 #[cfg(test)]

@@ -19,7 +19,7 @@ fn next_word_below(words: &mut Pcg32, live: u64) -> u64 {
     u64::from(words.next_word()).checked_rem(live).unwrap_or(0)
 }
 
-/// A place that is drawn.
+/// A drawn place.
 fn drawn(places: &mut Pcg32, live: u64) -> Result<u64, Fail> {
     if live == 0 {
         return Err("nobody is live".into());
@@ -40,7 +40,8 @@ fn draw_is_the_next_word(rt: HostRuntime) -> Result<(), Fail> {
     Ok(())
 }
 
-/// What a worker's turns add to the history, one after the other: an entry's name, or none.
+/// The entries that a worker's turns add to the history, one after the other: an entry's name, or
+/// none.
 type Turns = &'static [Option<&'static str>];
 
 /// The turns of two empty scripts: begin, commit.
@@ -57,7 +58,7 @@ const ONE_EMPTY: Turns = &[Some("began"), Some("committed")];
 /// The turns of a script that aborts: begin, abort, seek, act.
 const ABORT: Turns = &[Some("began"), Some("leave"), None, Some("aborted")];
 
-/// The turns of two scripts that begin with a help with a bad key, which draws nothing: begin,
+/// The turns of two scripts that begin with a help with a bad key, which takes no turn: begin,
 /// abort, seek, act.
 const BAD_HELPS: Turns = &[
     Some("began"),
@@ -96,8 +97,8 @@ fn caller_and_name(entry: &Entry) -> (u64, &'static str) {
     }
 }
 
-/// Takes the turn of a worker drawn from those that have turns left: its number, and what the turn
-/// adds to the history.
+/// Takes the turn of a worker drawn from those that have turns left. Answers its number, and the
+/// entry that the turn adds to the history.
 fn take_turn(
     words: &mut Pcg32,
     live: &mut Vec<(u64, Turns)>,
@@ -114,7 +115,7 @@ fn take_turn(
     Ok((worker, *name))
 }
 
-/// The history of scripts, of a file of this text, that are mixed by a seed.
+/// The history of scripts, from a file with this text, that are mixed by a seed.
 fn mixed_history(alloc: Global, seed: u64, scripts: &str) -> Result<Vec<Entry>, Fail> {
     let Ok(work) = read_scripts(alloc, scripts.as_bytes()) else {
         return Err("no scripts".into());
@@ -122,8 +123,8 @@ fn mixed_history(alloc: Global, seed: u64, scripts: &str) -> Result<Vec<Entry>, 
     Ok(mix_scripts(alloc, seed, &work)?.into_trace())
 }
 
-/// Mixes scripts by a seed, and sees that the workers drawn take their turns, by rising place of
-/// those that have one left, until none has.
+/// Mixes scripts by a seed, and checks that the drawn workers take their turns, by rising place
+/// among those that have one left, until none has.
 fn mixes_so(
     rt: &impl Abort,
     alloc: Global,
@@ -152,7 +153,7 @@ fn mixes_so(
     Ok(())
 }
 
-/// Scripts, how many seeds they are mixed by, and each worker with its turns.
+/// Scripts, the number of seeds by which they are mixed, and each worker with its turns.
 #[derive(Drop)]
 struct Mix {
     scripts: &'static str,
@@ -168,7 +169,7 @@ const BESIDE_AN_ABORT: Mix = Mix {
     workers: &[(0, TWO_EMPTY), (1, ABORT)],
 };
 
-/// Of three workers the last has one script less, and ends before the others or after one of them.
+/// The last of three workers has one script less, and ends before the others or after one of them.
 const THREE_WORKERS: Mix = Mix {
     scripts: "{\"version\":1,\"workers\":3,\"stripes\":1,\"buckets\":2,\"tries\":0,\
         \"scripts\":[[],[],[],[],[]]}",
@@ -176,8 +177,8 @@ const THREE_WORKERS: Mix = Mix {
     workers: &[(0, TWO_EMPTY), (1, TWO_EMPTY), (2, ONE_EMPTY)],
 };
 
-/// Of four workers the last has nothing to do, and where the second ends first the first and the
-/// third are left.
+/// The last of four workers has nothing to do, and if the second ends first the first and the third
+/// are left.
 const FOUR_WORKERS: Mix = Mix {
     scripts: "{\"version\":1,\"workers\":4,\"stripes\":8,\"buckets\":8,\"tries\":0,\
         \"scripts\":[[],[],[]]}",
@@ -185,7 +186,7 @@ const FOUR_WORKERS: Mix = Mix {
     workers: &[(0, ONE_EMPTY), (1, ONE_EMPTY), (2, ONE_EMPTY)],
 };
 
-/// Helps with bad keys draw nothing: worker 0 has no other action and takes eight turns, and worker
+/// Helps with bad keys take no turn: worker 0 has no other action and takes eight turns, and worker
 /// 1 also puts and takes nine.
 const BAD_HELPS_BESIDE_A_PUT: Mix = Mix {
     scripts: "{\"version\":1,\"workers\":2,\"stripes\":1,\"buckets\":2,\"tries\":0,\
@@ -196,7 +197,7 @@ const BAD_HELPS_BESIDE_A_PUT: Mix = Mix {
     workers: &[(0, BAD_HELPS), (1, BAD_HELP_AND_PUT)],
 };
 
-/// Sees of each seed that the scripts are mixed so.
+/// Checks for each seed that the scripts are mixed so.
 fn mixes_by_each_seed(rt: &impl Abort, alloc: Global, mix: &Mix) -> Result<(), Fail> {
     for seed in 0..mix.seeds {
         mixes_so(rt, alloc, seed, mix.scripts, mix.workers)?;

@@ -1,4 +1,4 @@
-//! The words in which transactions are spoken of: numbers, texts, limits and seats.
+//! The vocabulary of transactions: numbers, texts, limits and seats.
 use std::alloc::{AllocError, Global};
 use std::process::Abort;
 use std::test::Fail;
@@ -73,7 +73,7 @@ fn number_and_text(alloc: Global, refusal: Refusal) -> Result<(u64, String), All
     Ok((refusal.number(), format!(in alloc; "{refusal}")?))
 }
 
-/// Sees that the answers have these texts.
+/// Checks that the answers have these texts.
 fn answers_have_texts(
     rt: &impl Abort,
     alloc: Global,
@@ -86,7 +86,7 @@ fn answers_have_texts(
     Ok(())
 }
 
-/// Sees that the refusals have these numbers and texts.
+/// Checks that the refusals have these numbers and texts.
 fn refusals_have_numbers(
     rt: &impl Abort,
     alloc: Global,
@@ -107,7 +107,7 @@ fn numbers_and_texts(rt: HostRuntime) -> Result<(), Fail> {
     Ok(())
 }
 
-/// How many callers, stripes and buckets limits of these numbers have.
+/// The numbers of callers, stripes and buckets of the limits of these numbers.
 fn numbers_of(callers: u64, stripes: u64, buckets: u64) -> Result<(u64, u64, u64), Refusal> {
     let limits = Limits::new(callers, stripes, buckets)?;
     Ok((
@@ -117,10 +117,10 @@ fn numbers_of(callers: u64, stripes: u64, buckets: u64) -> Result<(u64, u64, u64
     ))
 }
 
-/// Callers, stripes and buckets that limits may have.
+/// Numbers of callers, stripes and buckets that limits may have.
 const IN_RANGE: [(u64, u64, u64); 3] = [(2, 8, 8), (1, 1, 2), (64, 4096, 65536)];
 
-/// Those that they may not have.
+/// Numbers that they may not have.
 const OUT_OF_RANGE: [(u64, u64, u64); 10] = [
     (0, 8, 8),
     (65, 8, 8),
@@ -142,8 +142,8 @@ fn open_seat(rt: &impl Abort, alloc: Global) -> Seat {
     seat
 }
 
-/// What a seat of an open transaction refuses a look for a key with: by limits that take every key,
-/// and by the same that take half keys alone.
+/// The refusals of a get of a key by a seat of an open transaction: by limits that take every key,
+/// and by those that take only half keys.
 fn refusals_of_key(seat: &Seat, key: u64) -> Result<(Option<Refusal>, Option<Refusal>), Refusal> {
     let every = Limits::new(2, 8, 8)?;
     let ask = Step::Ask(0, Op::Get(key));
@@ -153,20 +153,20 @@ fn refusals_of_key(seat: &Seat, key: u64) -> Result<(Option<Refusal>, Option<Ref
     ))
 }
 
-/// Whether half keys alone make other limits.
+/// Whether the restriction to half keys makes different limits.
 fn are_half_keys_others() -> Result<bool, Refusal> {
     let every = Limits::new(2, 8, 8)?;
     Ok(every.half_keys() != every)
 }
 
-/// Keys, each with what half keys alone refuse it with.
+/// Keys, each with its refusal if only half keys are taken.
 const KEYS: [(u64, Option<Refusal>); 3] = [
     (0x7fff_ffff_ffff_ffff, None),
     (0x8000_0000_0000_0000, Some(Refusal::BadKey)),
     (0xffff_ffff_ffff_ffff, Some(Refusal::BadKey)),
 ];
 
-/// Sees that limits may have these numbers, or that they may not.
+/// Checks that limits may have these numbers, or that they may not.
 fn limits_are(rt: &impl Abort, rows: &[(u64, u64, u64)], are_in_range: bool) {
     for (callers, stripes, buckets) in rows {
         let numbers = numbers_of(*callers, *stripes, *buckets);
@@ -179,7 +179,7 @@ fn limits_are(rt: &impl Abort, rows: &[(u64, u64, u64)], are_in_range: bool) {
     }
 }
 
-/// Sees what an open transaction may not look up.
+/// Checks which keys an open transaction may look up.
 fn keys_are(rt: &impl Abort, seat: &Seat, rows: &[(u64, Option<Refusal>)]) -> Result<(), Refusal> {
     for (key, half) in rows {
         assert_eq!(rt; refusals_of_key(seat, *key)?, (None, *half), "of key {key}");
@@ -197,13 +197,13 @@ fn limits_and_keys(rt: HostRuntime) -> Result<(), Fail> {
     Ok(())
 }
 
-/// The key of an operation, and whether it is a change where this is its reply.
+/// The key of an operation, and whether it is a change if this is its reply.
 fn key_and_change(op: Op, reply: Reply) -> (u64, bool) {
     (op.key(), op.changes(reply))
 }
 
-/// Operations, each with a reply, its key, and whether it is a change then: a `PutIf` is one where
-/// the reply is what is expected.
+/// Operations, each with a reply, its key, and whether it is a change then: a `PutIf` is if the
+/// reply is what is expected.
 const OPERATIONS: [(Op, Reply, u64, bool); 10] = [
     (Op::Put(1, 10), None, 1, true),
     (Op::Take(2), None, 2, false),
@@ -251,7 +251,7 @@ fn operations_and_entries(rt: HostRuntime) {
     }
 }
 
-/// How many savepoints there are.
+/// The number of savepoints.
 fn levels_of(seat: &Seat) -> u64 {
     seat.levels()
 }
@@ -264,8 +264,8 @@ fn save(rt: &impl Abort, seat: &mut Seat) -> Result<(), AllocError> {
     Ok(())
 }
 
-/// Is to be run with each allocation refused in turn: the seat stays, and is given room when asked
-/// once more.
+/// Meant to be run with each allocation refused in turn: the seat is unchanged, and is given room
+/// when asked once more.
 #[test]
 fn savepoints_without_memory(rt: HostRuntime) -> Result<(), Fail> {
     let mut seat = open_seat(&rt, rt.alloc());

@@ -20,7 +20,7 @@ fn scripts_of(alloc: Global, scripts: &[&[Action]]) -> Result<Vec<Script>, Alloc
     Ok(all)
 }
 
-/// A worker of so many, with limits that take every key or half keys alone.
+/// A worker of this number of workers, with limits that take every key or only half keys.
 fn worker_of(
     number: usize,
     workers: u64,
@@ -47,7 +47,7 @@ fn script_at(worker: &Worker) -> Option<usize> {
     worker.standing().task.map(|task| task.script)
 }
 
-/// How far the worker's attempt at its script is.
+/// The stage of the worker's attempt at its script.
 fn stage_of(worker: &Worker) -> Option<Stage> {
     worker.standing().task.map(|task| task.attempt.stage)
 }
@@ -57,8 +57,8 @@ fn has_turn(worker: &mut Worker) -> bool {
     worker.turn(2).is_some()
 }
 
-/// The worker is told how the one step of its next turn is answered, with one further try allowed:
-/// the step, and how its script ended, if it did.
+/// Tells the worker the answer to the one step of its next turn, with one further try allowed.
+/// Answers the step, and the outcome of its script, if it ended.
 fn tell(
     worker: &mut Worker,
     scripts: &[Script],
@@ -71,8 +71,8 @@ fn tell(
     (step, worker.told(scripts, 1, answer))
 }
 
-/// The worker takes its next turn, in which each step is answered so: the last step that it takes,
-/// and how its script ended, if it did.
+/// Takes the worker's next turn, in which each step has this answer. Answers the last step that it
+/// takes, and the outcome of its script, if it ended.
 fn take_turn(
     worker: &mut Worker,
     scripts: &[Script],
@@ -90,12 +90,12 @@ fn take_turn(
     (taken, outcome)
 }
 
-/// A step that the worker takes, how it is answered, how a script ends by it, and the script that
-/// the worker is at then.
+/// A step that the worker takes, its answer, the outcome of a script that ends by it, and the
+/// script that the worker is at then.
 type Row = (Step, Answer, Option<Outcome>, Option<usize>);
 
-/// A worker of so many, whether the limits take half keys alone, the actions of the scripts, the
-/// script that it is at first, and its steps.
+/// A worker of a number of workers, whether the limits take only half keys, the actions of the
+/// scripts, the script that it is at first, and its steps.
 #[derive(Drop)]
 struct Case {
     number: usize,
@@ -187,7 +187,7 @@ static CASES: [Case; 9] = [
         first: None,
         rows: &[],
     },
-    // Scripts that are done, the second of which is refused its commit.
+    // Scripts that are done, except the second, which is refused its commit.
     Case {
         number: 0,
         workers: 1,
@@ -230,7 +230,7 @@ static CASES: [Case; 9] = [
             (Step::Act(0), Answer::Aborted, Some(Outcome::Busy), Some(1)),
         ],
     },
-    // Where every key is taken, help with a key of 2^63 takes steps; an action `put_if` is an
+    // If every key is taken, help with a key of 2^63 takes steps; an action `put_if` is an
     // operation.
     Case {
         number: 0,
@@ -315,7 +315,7 @@ static CASES: [Case; 9] = [
         ],
     },
     // The first help with a bad key is refused without a step, and its transaction given up:
-    // neither further ones nor a put come after it.
+    // neither further ones nor a put follow.
     Case {
         number: 0,
         workers: 1,
@@ -349,7 +349,7 @@ static CASES: [Case; 9] = [
     },
 ];
 
-/// Sees that a help with a bad key has left at once, with its refusal.
+/// Checks that a help with a bad key has left at once, with its refusal.
 fn leaves_after_a_bad_help(rt: &impl Abort, alloc: Global) -> Result<(), Fail> {
     let scripts = scripts_of(alloc, &[&[Action::Help(1 << 63), Action::Save]])?;
     let mut worker = worker_of(0, 1, true, &scripts)?;

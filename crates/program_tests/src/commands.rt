@@ -1,4 +1,4 @@
-//! The command line: which engine runs on which file, what each output gets, and the status.
+//! The command line: which engine runs on which file, the two outputs, and the status.
 
 use crate::devices::{Desk, Ended, Narrow, compare_ended};
 use boostmap_engine::mix;
@@ -17,7 +17,7 @@ const STEPS: &str =
 
 const REPORT: &str = "began 1\nasked\nplaced\ndone none\ncommitted 1\nsize 2 count 1\n1 10\n";
 
-/// The same, with a step in place 4 that has a text where a number belongs.
+/// A transaction with a step in place 4 that has a text instead of a number.
 const BAD_STEPS: &str =
     "{\"version\":1,\"callers\":2,\"stripes\":8,\"buckets\":8,\"steps\":[[\"begin\",0],[\"ask\",0,\
     \"put\",1,10],[\"seek\",0],[\"act\",0],[\"ask\",0,\"put\",\"1\",10],[\"commit\",0]]}";
@@ -29,7 +29,7 @@ const LEGAL: &str =
 
 const LEGAL_LINE: &str = "legal 1 commits 0 open\n";
 
-/// The same with a reply that nobody put.
+/// The transaction with a reply that no one put.
 const ILLEGAL: &str =
     "{\"version\":1,\"stripes\":8,\"entries\":[[\"began\",0,1],[\"asked\",0,\"put\",1,10],\
     [\"did\",0,7],[\"committed\",0,1]]}";
@@ -48,8 +48,8 @@ const RUN_HISTORY: &str =
     "{\"entries\":[[\"began\",0,1],[\"asked\",0,\"put\",1,10],[\"did\",0,null],\
     [\"committed\",0,1]],\"stripes\":8,\"version\":3}\n";
 
-/// Two workers with a script each, of twelve gets: the order of the workers' turns shows in the
-/// history.
+/// Two workers with one script each, of twelve gets: the history shows the order of the workers'
+/// turns.
 const TWO_WORKERS: &str =
     "{\"version\":1,\"workers\":2,\"stripes\":8,\"buckets\":8,\"tries\":0,\"scripts\":[[[\"get\",\
     1],[\"get\",1],[\"get\",1],[\"get\",1],[\"get\",1],[\"get\",1],[\"get\",1],[\"get\",1],\
@@ -86,7 +86,7 @@ From 3 on one line on standard error says which.
 Example: boostmap check examples/checked.json
 ";
 
-/// Runs the program at a desk with these two writers.
+/// Runs the program on a system with these two writers.
 fn run_at<T: Threads + Wait + Sync>(
     rt: &T,
     alloc: Global,
@@ -114,7 +114,7 @@ fn compare<T: Abort + Threads + Wait + Sync>(
     compare_ended(rt, &ended, wanted, desk.words);
 }
 
-/// Words of a call, what standard output and standard error get, and the status.
+/// The words of a call, the texts of standard output and of standard error, and the status.
 type Called = (&'static str, &'static str, &'static str, u8);
 
 const CALLS: &[Called] = &[
@@ -194,15 +194,15 @@ fn each_command_and_each_status(rt: HostRuntime) {
     }
 }
 
-/// What the engine prints of two workers with this seed.
+/// The output of the engine for two workers with this seed.
 fn mix_two(alloc: Global, seed: u64) -> Result<Narrow, Fail> {
     let mut output = Narrow::whole();
     mix(alloc, seed, &mut TWO_WORKERS.as_bytes(), &mut output)?;
     Ok(output)
 }
 
-/// Calls of `mix`, and the seed that the engine gets: its history shows it. The whole seed counts,
-/// its high half and its low half.
+/// Calls of `mix`, and the seed that the engine gets, which its history shows. The whole seed
+/// counts, its high half and its low half.
 const SEEDS: &[(&str, u64)] = &[
     ("boostmap mix --seed 7 two.json", 7),
     ("boostmap mix two.json --seed 7", 7),
@@ -225,7 +225,7 @@ fn seeds_of_mix(rt: HostRuntime) -> Result<(), Fail> {
     Ok(())
 }
 
-/// The histories of two workers differ where the seeds do, also in one half alone.
+/// The histories of two workers differ if the seeds do, even in only one half.
 #[test]
 fn seeds_that_differ_in_one_half(rt: HostRuntime) -> Result<(), Fail> {
     for (_, first) in SEEDS {
@@ -239,7 +239,7 @@ fn seeds_that_differ_in_one_half(rt: HostRuntime) -> Result<(), Fail> {
     Ok(())
 }
 
-/// What asking for the words or opening the file fails with, and what comes of either.
+/// The error of reading the words or of opening the file, and the result of either.
 const REFUSED: &[(ErrorKind, (&str, u8), &str)] = &[
     (ErrorKind::OutOfMemory, ("no memory\n", 4), "no memory\n"),
     (ErrorKind::InvalidData, (USAGE, 2), "read failed\n"),
@@ -257,7 +257,7 @@ fn what_the_system_refuses(rt: HostRuntime) {
     }
 }
 
-/// A writer that takes so many bytes, and then fails.
+/// A writer that takes this number of bytes, and then fails.
 fn short(left: usize) -> Narrow {
     Narrow::new(left, Some(ErrorKind::StorageFull))
 }
@@ -285,8 +285,8 @@ fn writers_that_fail(rt: HostRuntime) {
     }
 }
 
-/// Is to be run with each allocation refused in turn: all is well, or nothing but the line of the
-/// fault is written.
+/// Meant to be run with each allocation refused in turn: all is well, or only the line of the fault
+/// is written.
 #[test]
 fn refused_allocations(rt: HostRuntime) {
     let desk = Desk::new("boostmap check legal.json", FILES);

@@ -1,4 +1,4 @@
-//! What the tests share: texts with gaps, readers and writers that fail at a given call, and a
+//! Shared parts of the tests: texts with gaps, readers and writers that fail at a given call, and a
 //! system in memory.
 
 use command_line::System;
@@ -14,11 +14,11 @@ pub fn filled(alloc: Global, frame: &str, piece: &str, filling: &str) -> Result<
     Ok(text.replace(alloc, "@", filling)?)
 }
 
-/// Gives one byte a call, and fails at the call `fails_at`, counted from 0.
+/// A reader that gives one byte for each call, and fails at the call `fails_at`, counted from 0.
 #[derive(Clone, Copy)]
 pub struct Trickle<'a> {
     rest: &'a [u8],
-    /// How often it was called.
+    /// The number of calls so far.
     pub calls: usize,
     fails_at: usize,
 }
@@ -53,10 +53,10 @@ impl Read for Trickle<'_> {
     }
 }
 
-/// Gives as many bytes as there is room for, and never ends.
+/// A reader that fills the whole buffer at each call, and never ends.
 #[derive(Clone, Copy)]
 pub struct Endless {
-    /// How many bytes it gave.
+    /// The number of bytes given so far.
     pub given: usize,
 }
 
@@ -67,19 +67,19 @@ impl Read for Endless {
     }
 }
 
-/// How many bytes a writer keeps.
+/// The number of bytes that a writer keeps.
 const PAGE: usize = 8192;
 
-/// Takes one byte a call, and fails or takes nothing at the call `fails_at`, counted from 0. It
-/// needs no memory.
+/// A writer that takes one byte for each call, and fails or takes nothing at the call `fails_at`,
+/// counted from 0. It needs no memory.
 #[derive(Clone, Copy)]
 pub struct Narrow {
     page: [u8; PAGE],
     len: usize,
-    /// How often it was called.
+    /// The number of calls so far.
     pub calls: usize,
     fails_at: usize,
-    /// What it fails with; none if it takes nothing.
+    /// The error with which it fails, or `None` if it takes nothing.
     failure: Option<ErrorKind>,
 }
 
@@ -100,7 +100,7 @@ impl Narrow {
         Narrow::new(usize::MAX, None)
     }
 
-    /// What it has taken.
+    /// The bytes that it has taken.
     pub fn text(&self) -> &str {
         let taken = &self.page[..self.len.min(PAGE)];
         std::str::from_utf8(taken).unwrap_or("no text")
@@ -127,19 +127,19 @@ impl Write for Narrow {
     }
 }
 
-/// How a command ended.
+/// The end of a command.
 #[derive(Clone, Copy)]
 pub struct Ended {
-    /// What standard output got.
+    /// The bytes on standard output.
     pub output: Narrow,
-    /// What standard error got.
+    /// The bytes on standard error.
     pub errors: Narrow,
     pub status: u8,
-    /// Whether standard error took all.
+    /// Whether standard error took the whole message.
     pub is_told: bool,
 }
 
-/// Compares what standard output and standard error got, which took all, and the status.
+/// Compares standard output and standard error, which took everything, and the status.
 pub fn compare_ended(rt: &impl Abort, ended: &Ended, wanted: (&str, &str, u8), row: &str) {
     let (output, errors, status) = wanted;
     assert_eq!(rt; ended.output.text(), output, "{row}");
@@ -147,16 +147,16 @@ pub fn compare_ended(rt: &impl Abort, ended: &Ended, wanted: (&str, &str, u8), r
     assert!(rt; ended.status == status && ended.is_told, "{row}");
 }
 
-/// A system of these words, with files in memory. A file that it has not is missing.
+/// A system with these words, and with files in memory. Any other file is missing.
 #[derive(Clone, Copy)]
 pub struct Desk<'a> {
     /// The words of the call, with blanks between them.
     pub words: &'a str,
     /// The files: names and bytes.
     pub files: &'a [(&'a str, &'a str)],
-    /// What asking for the words fails with, if it does.
+    /// The error of reading the words, if that fails.
     pub words_fail: Option<ErrorKind>,
-    /// What opening a file fails with, if it does.
+    /// The error of opening a file, if that fails.
     pub open_fails: Option<ErrorKind>,
 }
 

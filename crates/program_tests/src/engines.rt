@@ -1,4 +1,4 @@
-//! The engines: what they print of whole files.
+//! The engines: their output for whole files.
 
 mod checks;
 mod failing;
@@ -27,21 +27,20 @@ enum Command {
     Run,
 }
 
-/// Files of one command that are alike: each piece, one a line, stands in the gap `#` of the frame,
-/// and each filling, with blanks between them, in the gap `@` of that.
+/// Similar files of one command: each piece, one for each line, fills the gap `#` of the frame, and
+/// each filling, separated by blanks, the gap `@` of that.
 #[derive(Clone, Copy)]
 struct Files {
     command: Command,
     frame: &'static str,
     pieces: &'static str,
     fillings: &'static str,
-    /// What is printed, or if the status is that of a fault its line.
+    /// The output, or, if the status is that of a fault, the line of the fault.
     printed: &'static str,
     status: u8,
 }
 
-/// Runs the engine of a command. The answer is whether all is well: only of an illegal history it
-/// is not.
+/// Runs the engine of a command. Answers whether all is well: it is unless a history is illegal.
 fn run_engine<T: Threads + Wait + Sync, R: Read>(
     rt: &T,
     alloc: Global,
@@ -81,7 +80,7 @@ fn run_on<T: Threads + Wait + Sync, R: Read>(
     }
 }
 
-/// Compares what a command prints of a file, and the status. Of a fault there is the line, and
+/// Compares the output of a command for a file, and the status. For a fault there is the line, and
 /// nothing is printed.
 fn compare_file<T: Abort + Threads + Wait + Sync>(
     rt: &T,
@@ -100,7 +99,7 @@ fn compare_file<T: Abort + Threads + Wait + Sync>(
     }
 }
 
-/// Compares what a command prints of files that are alike.
+/// Compares the output of a command for similar files.
 fn compare_files<T: Abort + Threads + Wait + Sync>(
     rt: &T,
     alloc: Global,

@@ -1,4 +1,4 @@
-//! Files of steps, of scripts and of histories: what they hold, and the first fault of each that is
+//! Files of steps, of scripts and of histories: their content, and the first fault of each that is
 //! refused.
 
 mod histories;
@@ -21,19 +21,19 @@ enum Kind {
     History,
 }
 
-/// Files that are alike: each piece, one a line, stands in the gap `#` of the frame, and each
-/// filling, with blanks between them, in the gap `@` of that.
+/// Similar files: each piece, one for each line, fills the gap `#` of the frame, and each filling,
+/// separated by blanks, the gap `@` of that.
 #[derive(Clone, Copy)]
 struct Files {
     kind: Kind,
     frame: &'static str,
     pieces: &'static str,
     fillings: &'static str,
-    /// What they are refused with; none if they are not.
+    /// The fault with which they are refused, or `None` if they are not.
     fault: Option<FileFault>,
 }
 
-/// What a file is refused with; none if it is not.
+/// The fault with which a file is refused, or `None` if it is not.
 fn fault_of(alloc: Global, kind: Kind, bytes: &[u8]) -> Option<FileFault> {
     match kind {
         Kind::Steps => read_steps(alloc, bytes).err(),
@@ -47,7 +47,7 @@ fn same_fault(rt: &impl Abort, found: Option<FileFault>, wanted: Option<FileFaul
     assert_eq!(rt; found, wanted, "{row}");
 }
 
-/// Compares the faults of files that are alike.
+/// Compares the faults of similar files.
 fn compare_files(rt: &impl Abort, alloc: Global, files: Files) -> Result<(), Fail> {
     for piece in files.pieces.split('\n') {
         for filling in files.fillings.split(' ') {
@@ -70,8 +70,8 @@ fn faults_of_files(rt: HostRuntime) -> Result<(), Fail> {
     Ok(())
 }
 
-/// A file that grows: its kind and its frame, and what stands in the gap `#` of that: so many times
-/// the first text, then the second, and then as many times the third. And its fault.
+/// A file that grows: its kind and its frame, and the content of the gap `#` of that: a number of
+/// times the first text, then the second, and then as many times the third. And its fault.
 type Grown = (
     Kind,
     &'static str,
@@ -84,9 +84,9 @@ const NOT_JSON: Option<FileFault> = Some(FileFault::NotJson);
 
 const WRONG_STEP: Option<FileFault> = Some(FileFault::Piece(Part::Step, 0));
 
-/// Values of more than 127 levels, of which the object of the file is one, and the array of its
-/// steps another; and scripts or actions that are more than 10,000, which is found only after the
-/// wrong script behind them.
+/// Values nested in more than 127 levels, where the object of the file is one, and the array of its
+/// steps another; and more than 10,000 scripts or actions, which is found only after the wrong
+/// script behind them.
 const GROWN: &[Grown] = &[
     (Kind::Steps, "#", 200, ["[", "", "]"], NOT_JSON),
     (Kind::Steps, BEYOND_STEPS, 125, ["[", "0", "]"], None),
@@ -145,7 +145,7 @@ const GROWN: &[Grown] = &[
     ),
 ];
 
-/// So many times the first text, then the second, and then as many times the third.
+/// This number of times the first text, then the second, and then as many times the third.
 fn grown(alloc: Global, count: usize, texts: [&str; 3]) -> Result<String, Fail> {
     let mut text = String::new(alloc);
     for _ in 0..count {
@@ -188,14 +188,14 @@ fn large_files(rt: HostRuntime) -> Result<(), Fail> {
     Ok(())
 }
 
-/// The bytes with 255, which is no text, in one place.
+/// The bytes with 255, which is not in any text, at one place.
 fn spoilt(alloc: Global, bytes: &[u8], place: usize) -> Result<Vec<u8>, Fail> {
     let mut spoilt = bytes.to_vec(alloc)?;
     *spoilt.get_mut(place).ok_or("short")? = 255;
     Ok(spoilt)
 }
 
-/// A file that ends too early, or has a byte that is no text.
+/// A file that ends too early, or has a byte that is not in any text.
 #[test]
 fn cut_files(rt: HostRuntime) -> Result<(), Fail> {
     let bytes = FIRST_COMMIT.as_bytes();
@@ -241,7 +241,7 @@ const OF_EACH_KIND: [(Kind, &str); 3] = [
     ),
 ];
 
-/// Memory may be refused anywhere in it: then that is the answer, and no other fault.
+/// Memory may be refused anywhere: then that is the answer, and no other fault.
 #[test]
 fn memory_refused(rt: HostRuntime) {
     for (kind, text) in OF_EACH_KIND {

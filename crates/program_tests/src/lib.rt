@@ -1,9 +1,9 @@
-//! The tests of the crates from files to the program: `files` those of `txn_files`, `pieces` those
-//! of `piece_files`, `engines` those of `boostmap_engine`, and `commands` those of `command_line`.
+//! Tests of the crates from files to the program: `files` tests `txn_files`, `pieces` tests
+//! `piece_files`, `engines` tests `boostmap_engine`, and `commands` tests `command_line`.
 //!
-//! They stand apart from what they test, since a crate with tests is proved twice. Each call of a
-//! tested crate stands in a small function that promises nothing, and the tests go over tables
-//! through those functions alone: so their proofs are short.
+//! They are a separate crate, since a crate with tests is proved twice. Each call of a tested crate
+//! is in a small function without a contract, and the tests go over tables only through those
+//! functions: so their proofs are short.
 #![tactic(auto)]
 
 #[cfg(test)]

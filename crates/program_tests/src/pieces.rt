@@ -1,4 +1,4 @@
-//! Files of a kind of their own, as a reader of pieces reads them: drawings.
+//! Files of a kind that only this test has, drawings, as a reader of pieces reads them.
 
 ghost use Rattle.std.specs.Prelude.{◌==◌, false, not};
 ghost use Rattle.piece_files.specs.Elements.{two_of};
@@ -14,7 +14,7 @@ use std::alloc::Global;
 use std::process::Abort;
 use std::test::Fail;
 
-/// Points, each two numbers, of which a file may have three. Version 1 has none whose second number
+/// Points, two numbers each, of which a file may have three. Version 1 has none whose second number
 /// is 0.
 struct PointKind;
 
@@ -60,8 +60,8 @@ impl PieceKind for PointKind {
     }
 }
 
-/// Drawings of width 7 that are alike: some points stand in the gap `#` of the frame, and each
-/// version in the gap `@`.
+/// Similar drawings of width 7: some points fill the gap `#` of the frame, and each version the gap
+/// `@`.
 #[derive(Clone, Copy)]
 struct Drawings {
     frame: &'static str,
@@ -85,7 +85,7 @@ fn drawing_in(alloc: Global, text: &str) -> Result<(u64, Vec<(u64, u64)>), FileF
 /// A drawing with gaps for its points and its version.
 const IN_VERSION: &str = r#"{"points":#,"version":@,"width":7}"#;
 
-/// A piece that only version 2 has is wrong in version 1, also behind as many as are kept; in any
+/// A piece that only version 2 has is wrong in version 1, also after as many as are kept; in any
 /// other version it is right.
 const DRAWINGS: &[Drawings] = &[
     Drawings {
@@ -265,7 +265,7 @@ const DRAWINGS: &[Drawings] = &[
     },
 ];
 
-/// Compares the contents of drawings that are alike.
+/// Compares the contents of similar drawings.
 fn compare(rt: &impl Abort, alloc: Global, drawings: Drawings) -> Result<(), Fail> {
     for version in drawings.versions {
         let text = filled(alloc, drawings.frame, drawings.points, version)?;
@@ -287,10 +287,10 @@ fn contents_of_drawings(rt: HostRuntime) -> Result<(), Fail> {
     Ok(())
 }
 
-/// The text and the number that elements begin with, and how many are behind them.
+/// The text and the number with which elements begin, and the number of elements behind them.
 type Leading = Option<(&'static str, u64, usize)>;
 
-/// What elements are: one number, two, one that may be null, or none.
+/// The elements as one number, as two, as one that may be null, and as none, if they are that.
 type Shapes = (
     Option<u64>,
     Option<(u64, u64)>,
@@ -298,7 +298,7 @@ type Shapes = (
     Option<()>,
 );
 
-/// What the elements are behind those that `Leading` names.
+/// The elements behind those that `Leading` names, as shapes.
 const ELEMENTS: &[(Leading, Shapes)] = &[
     (Some(("put", 1, 2)), (None, None, None, None)),
     (None, (None, Some((8, 9)), None, None)),
@@ -307,14 +307,14 @@ const ELEMENTS: &[(Leading, Shapes)] = &[
     (None, (None, None, None, Some(()))),
 ];
 
-/// The text and the number that elements begin with, and the elements behind them.
+/// The text and the number with which elements begin, and the elements behind them.
 fn leading_in<'v, 'a>(values: &'v [Plain<'a>]) -> Option<(&'a str, u64, &'v [Plain<'a>])> {
     let (name, rest) = word_in(values)?;
     let (number, rest) = number_in(rest)?;
     Some((name, number, rest))
 }
 
-/// What these elements are.
+/// The shapes of these elements.
 fn shapes_of(values: &[Plain<'_>]) -> Shapes {
     (
         one_in(values),
@@ -358,14 +358,14 @@ fn elements(rt: HostRuntime) -> Result<(), Fail> {
     Ok(())
 }
 
-/// Passes over the next value.
+/// Skips the next value.
 fn pass(reader: &mut Reader<'_>) -> Result<(), Fail> {
     let token = reader.next().ok_or("no value")?;
     pass_value(token, reader, 2).map_err(|_| "no JSON")?;
     Ok(())
 }
 
-/// The points of the next array, how many there are, and whether all its elements are points.
+/// The points of the next array, their number, and whether all its elements are points.
 fn next_points(
     alloc: Global,
     reader: &mut Reader<'_>,
@@ -377,7 +377,7 @@ fn next_points(
     Ok((found.pieces, found.count, found.are_all))
 }
 
-/// A value that is passed over, and the pieces of the array behind it.
+/// A value that is skipped, and the pieces of the array behind it.
 #[test]
 fn values_in_a_row(rt: HostRuntime) -> Result<(), Fail> {
     let mut scratch = Scratch::new(rt.alloc());
@@ -390,7 +390,7 @@ fn values_in_a_row(rt: HostRuntime) -> Result<(), Fail> {
     Ok(())
 }
 
-/// The words of a fault.
+/// The text of a fault.
 fn words_of(alloc: Global, fault: FileFault) -> Result<String, Fail> {
     Ok(fault.to_string(alloc)?)
 }

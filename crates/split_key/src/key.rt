@@ -56,7 +56,6 @@ impl Key {
     /// # Errors
     ///
     /// `BadKey` if the number is 2^63 or more.
-    ///
     pub fn half(number: u64) -> Result<Key, BadKey>
         ensures { MatchResult result
             (λ key. (key ≡ number) × (number < 2 ^ 63))

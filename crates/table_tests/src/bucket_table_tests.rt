@@ -20,8 +20,7 @@ fn is_refused(alloc: Global) -> bool {
     Box::new(alloc, 0).is_err()
 }
 
-/// A list and buckets on it, made once more if memory is refused; none if it is refused
-/// again.
+/// A list and buckets on it, made once more if memory is refused, or `None` if it is refused again.
 fn home_again(alloc: Global, max: u32, helpers: u32) -> Option<Home> {
     match Home::new(alloc, 0, max, helpers) {
         Some(home) => Some(home),
@@ -29,7 +28,7 @@ fn home_again(alloc: Global, max: u32, helpers: u32) -> Option<Home> {
     }
 }
 
-/// Puts a key, once more if memory is refused, which leaves the list. The answer is whether the
+/// Puts a key, once more if memory is refused, which leaves the list unchanged. Answers whether the
 /// key is there now.
 fn has_put(rt: &impl Abort, home: &mut Home, number: u64) -> bool {
     let before = home.figures();
@@ -42,7 +41,7 @@ fn has_put(rt: &impl Abort, home: &mut Home, number: u64) -> bool {
     false
 }
 
-/// Puts keys in turn, up to the first that is refused. The answer is whether all are there.
+/// Puts keys in turn, up to the first that is refused. Answers whether all are there.
 fn has_put_all(rt: &impl Abort, home: &mut Home, numbers: &[u64]) -> bool {
     for number in numbers {
         if !has_put(rt, home, *number) {
@@ -52,13 +51,13 @@ fn has_put_all(rt: &impl Abort, home: &mut Home, numbers: &[u64]) -> bool {
     true
 }
 
-/// What is done with fewer than five keys, up to the link.
+/// The calls with fewer than five keys, up to the link.
 const FEW_KEYS: [(Call, Answer); 2] = [
     (Call::Double(2), Answer::Double(Double::Light)),
     (Call::Seek(0, 1), Answer::Seek(Ok(InitSeek::Placed))),
 ];
 
-/// What is done after the link.
+/// The calls after the link.
 const STORED: [(Call, Answer); 2] = [
     (Call::Store(0), Answer::Store(Ok(()))),
     (Call::Seek(0, 1), Answer::Seek(Ok(InitSeek::Ready))),
@@ -85,8 +84,8 @@ const DOUBLINGS: [(Call, Answer); 3] = [
     (Call::Double(4), Answer::Double(Double::Light)),
 ];
 
-/// A table of largest size 8 for two helpers, with keys 1 to 5 at size 4; none if memory is
-/// refused still.
+/// A table of largest size 8 for two helpers, with keys 1 to 5 at size 4, or `None` if memory is
+/// refused again.
 fn five_keys(rt: &impl Abort, alloc: Global) -> Option<Home> {
     let mut home = home_again(alloc, 8, 2)?;
     if !has_put_all(rt, &mut home, &[1, 2, 3, 4]) {
@@ -134,14 +133,14 @@ const INITIALISED: [(Call, Answer); 16] = [
     (Call::Seek(1, 3), Answer::Seek(Ok(InitSeek::Ready))),
 ];
 
-/// The five keys, with buckets 1 and 3 initialised; none if memory is refused still.
+/// The five keys, with buckets 1 and 3 initialised, or `None` if memory is refused again.
 fn initialised(rt: &impl Abort, alloc: Global) -> Option<Home> {
     let mut home = five_keys(rt, alloc)?;
     make_all(rt, &mut home, &INITIALISED);
     Some(home)
 }
 
-/// Is to be run with allocations refused: only if memory is refused still are there fewer keys,
+/// Meant to be run with allocations refused: only if memory is refused again are there fewer keys,
 /// or no table.
 #[test]
 fn bucket_initialisation(rt: HostRuntime) {
@@ -175,7 +174,7 @@ fn nodes_after_initialisation(rt: HostRuntime) -> Result<(), Fail> {
     Ok(())
 }
 
-/// A list whose last stamp but one is given.
+/// A list of which all stamps but one were given.
 const STAMPS_USED_UP: [(Call, Answer); 5] = [
     (Call::Seek(0, 1), Answer::Seek(Ok(InitSeek::Placed))),
     (Call::Link(0), Answer::Link(Err(InitRefusal::StampsUsedUp))),
@@ -193,7 +192,7 @@ const AT_LIMIT: [(Call, Answer); 2] = [
     (Call::Double(2), Answer::Double(Double::AtLimit)),
 ];
 
-/// Each refusal in words.
+/// The text of each refusal.
 const WORDS: [(InitRefusal, &str); 6] = [
     (
         InitRefusal::NoSuchBucket,
@@ -221,7 +220,7 @@ const WORDS: [(InitRefusal, &str); 6] = [
     ),
 ];
 
-/// Uses the stamps up.
+/// Uses up the stamps.
 fn use_stamps_up(rt: &impl Abort, alloc: Global) -> Result<(), Fail> {
     let mut home = Home::new(alloc, 18446744073709551614, 2, 1).ok_or("no table")?;
     make_all(rt, &mut home, &STAMPS_USED_UP);
@@ -248,7 +247,7 @@ fn limits_and_refusals_in_words(rt: HostRuntime) -> Result<(), Fail> {
     Ok(())
 }
 
-/// Two buckets on a list that keeps the places of so many spares.
+/// Two buckets on a list that keeps the places of this number of spares.
 fn home_with_spares(alloc: Global, spares: u32) -> Result<Home, Fail> {
     let mut home = home_again(alloc, 2, 1).ok_or("no table")?;
     for _ in 0..spares {
@@ -259,8 +258,8 @@ fn home_with_spares(alloc: Global, spares: u32) -> Result<Home, Fail> {
     Ok(home)
 }
 
-/// Initialises bucket 1. If memory is refused to the link, buckets and list are as they were,
-/// and it is done again: if it is refused once more, the test gives up.
+/// Initialises bucket 1. If memory is refused to the link, buckets and list are unchanged, and it
+/// is tried again: if it is refused once more, the test gives up.
 fn initialise_1(rt: &impl Abort, home: &mut Home) -> Result<(), Fail> {
     let seen = home.figures();
     assert!(rt; home.make(Call::Seek(0, 1)) == Answer::Seek(Ok(InitSeek::Placed)));
@@ -277,8 +276,8 @@ fn initialise_1(rt: &impl Abort, home: &mut Home) -> Result<(), Fail> {
     Ok(())
 }
 
-/// Also run with each allocation refused in turn: buckets and list are then as they were, and the
-/// call succeeds when it is made again.
+/// Also run with each allocation refused in turn: buckets and list are then unchanged, and the call
+/// succeeds when it is repeated.
 #[test]
 fn refused_allocations(rt: HostRuntime) -> Result<(), Fail> {
     for spares in 0..9 {

@@ -1,10 +1,10 @@
 //! Tests of the crates of the table: `split_key`, `node_list`, `list_steps`, `bucket_table`,
-//! `undo_log`, `map_ops` and `stripe_part`, each in a module of its own.
+//! `undo_log`, `map_ops` and `stripe_part`, one module for each.
 //!
-//! They say what no contract says: that each call succeeds while there is memory, what a refused
-//! allocation leaves, and worked runs with their values. They stand in a crate of their own, since
-//! a crate with tests is proved twice. A device is a function without a clause: it makes the calls
-//! of a library and tells what they answered, so that little has to be known where it is called.
+//! They test what no contract says: that each call succeeds while there is memory, the state after
+//! a refused allocation, and worked runs with their values. They are a separate crate, since a
+//! crate with tests is proved twice. A device is a function without a clause that makes the calls
+//! of a library and returns their answers, so that its callers have little to prove.
 #![tactic(auto)]
 
 #[cfg(test)]

@@ -1,4 +1,4 @@
-//! Tests of `list_steps`: worked runs, and drawn ones beside a plain list.
+//! Tests of `list_steps`: worked runs, and drawn ones compared with a plain list.
 ghost use Rattle.std.specs.Prelude.{◌≡◌, ℕ, IfOk, IsTrue};
 ghost use Rattle.split_key.specs.Sort.{IsBefore, dummy_at, regular_at};
 ghost use Rattle.node_list.specs.Nodes.{IsOut, IsRegularAt, out_at};
@@ -14,7 +14,7 @@ use split_key::{Key, SortKey, bucket_at};
 use std::alloc::{AllocError, Global};
 use std::test::Fail;
 
-/// Where the node of a key stands.
+/// The sort key of a key's node.
 fn at(number: u64) -> SortKey
     ensures { IsBefore (dummy_at 0) result }
 {
@@ -55,7 +55,7 @@ fn is_key_there(list: &NodeList, cursor: &Cursor) -> bool
     }
 }
 
-/// The regular node of the sort key sought, which has to be there.
+/// The regular node of the sort key sought, which must be there.
 fn regular_there(list: &NodeList, cursor: &Cursor) -> Result<NodeRef, Fail>
     requires { IsPlaced list.now cursor.now }
     ensures { IfOk result (IsRegularAt list.now.nodes) }
@@ -68,7 +68,7 @@ fn regular_there(list: &NodeList, cursor: &Cursor) -> Result<NodeRef, Fail>
     Err("the key is not there".into())
 }
 
-/// Links a spare where its sort key was sought, which has to be vacant.
+/// Links a spare at the position of its sort key, which must be vacant.
 fn link_here(list: &mut NodeList, cursor: &Cursor, spare: Spare) -> Result<NodeRef, Fail>
     requires placed { IsPlaced list.old cursor.now }
     requires out { IsOut list.old spare }
@@ -148,8 +148,8 @@ fn link_fitting(
     }
 }
 
-/// Links a spare of a key at a cursor that does not fit: it comes back, and is linked at a new
-/// cursor, which stands behind the last node.
+/// Links a spare of a key at a cursor that does not fit: it is returned, and is linked at a new
+/// cursor, which is behind the last node.
 fn link_stale(
     list: &mut NodeList,
     cursor: Cursor,
@@ -180,7 +180,7 @@ fn link_stale(
     Ok(())
 }
 
-/// Whether a node stands behind this one.
+/// Whether there is a node behind this one.
 fn is_followed(list: &NodeList, node: NodeRef) -> bool {
     list.linked_node(node).and_then(|node| node.next).is_some()
 }
@@ -206,7 +206,7 @@ fn take_there(list: &mut NodeList, number: u64) -> Result<u64, Fail> {
 }
 
 /// Writes the value of a key that is there and marks its node, both at one cursor, which fits until
-/// then. The answer is the value before, in between, and the one of the mark.
+/// then. Answers the value before, the one in between, and the one of the mark.
 fn write_and_take(list: &mut NodeList, number: u64, value: u64) -> Result<[u64; 3], Fail> {
     let at = at(number);
     let cursor = seek_from_head(list, at);
@@ -235,7 +235,7 @@ fn value_of(list: &NodeList, node: NodeRef) -> Result<u64, Fail> {
     Ok(list.linked_node(node).ok_or("no node")?.value)
 }
 
-/// Whether a seek to the end of the list comes to its first node, with none behind that.
+/// Whether a seek to the end of the list ends at its first node, with none behind that.
 fn ends_at_the_head(list: &mut NodeList) -> bool {
     let at = at(u64::MAX);
     let cursor = seek_from_head(list, at);
@@ -250,7 +250,7 @@ enum Call {
     Begin,
     /// Links the node of a key, with this value.
     Put(u64, u64),
-    /// Links keys 2 and 4, of which the cursor of one is stale.
+    /// Links keys 2 and 4, with a stale cursor for one of them.
     PutBoth,
     /// Marks the node of a key.
     Take(u64),
@@ -260,9 +260,9 @@ enum Call {
     Write(u64, u64),
     /// Writes the value of a key at its cursor, and marks its node there.
     WriteAndTake(u64, u64),
-    /// Looks whether a key is absent.
+    /// Tests whether a key is absent.
     Look(u64),
-    /// Looks whether a seek to the end stays at the first node.
+    /// Tests whether a seek to the end stays at the first node.
     LookAtTheEnd,
     Sweep,
     /// Looks at the node of a rank.
@@ -327,11 +327,11 @@ fn make(alloc: Global, list: &mut NodeList, call: Call) -> Result<Answer, Fail> 
 
 const HALF: u64 = 1 << 63;
 
-/// Runs of calls, with what each answers, and where the marked nodes begin after it.
+/// Runs of calls, with the answer to each, and where the marked nodes begin after it.
 ///
 /// The split keys of 3, 2, 5 and 2^52 begin with 0xc, 0x4, 0xa and 0x0. Each key is sought from the
-/// head, so the node of key 2 is unlinked where key 5 is sought. Two keys that differ by 2^63 share
-/// their split key, and are found by their sort keys.
+/// head, so the seek of key 5 unlinks the node of key 2. Two keys that differ by 2^63 share their
+/// split key, and are found by their sort keys.
 const CALLS: [(Call, Answer, Option<u64>); 58] = [
     (Call::PutBoth, Answer::Done, None),
     (Call::Node(0), Answer::Dummy, None),
@@ -433,7 +433,7 @@ const CALLS: [(Call, Answer, Option<u64>); 58] = [
     ),
 ];
 
-/// Where the marked nodes of a list begin.
+/// The split key at which the marked nodes of a list begin.
 fn marks_begin(list: &NodeList) -> Option<u64> {
     list.marks_begin()
 }
@@ -453,7 +453,7 @@ fn list_steps_in_order(rt: HostRuntime) -> Result<(), Fail> {
     Ok(())
 }
 
-/// What a plain list has at a key.
+/// The state of a key in a plain list.
 #[derive(Clone, Copy, PartialEq, Eq)]
 enum Plain {
     Absent,
@@ -464,8 +464,8 @@ enum Plain {
 /// The keys below 8 in the order of the list. The dummy of bucket 1 stands before the fifth.
 const ORDER: [u64; 8] = [0, 4, 2, 6, 1, 5, 3, 7];
 
-/// Unlinks what a seek of the key at a rank unlinks: the marked nodes up to the first unmarked one
-/// that is not below the key.
+/// Unlinks the nodes that a seek of the key at a rank unlinks: the marked nodes up to the first
+/// unmarked one that is not below the key.
 fn seek_plainly(plain: &mut [Plain; 8], rank: usize) {
     for (at, state) in plain.iter_mut().enumerate() {
         if (at >= rank && *state == Plain::Live) || (at == 4 && rank < 4) {
@@ -488,7 +488,7 @@ fn sweep_plainly(plain: &mut [Plain; 8]) -> SweepOutcome {
     SweepOutcome::Clean
 }
 
-/// The nodes of a plain list: of each the kind, the key and the mark.
+/// The nodes of a plain list: the kind, the key and the mark of each.
 fn plain_nodes(alloc: Global, plain: &[Plain; 8]) -> Result<Vec<(Kind, u64, bool)>, AllocError> {
     let mut nodes = Vec::new(alloc);
     nodes.push((Kind::Dummy, 0, false))?;
@@ -505,7 +505,8 @@ fn plain_nodes(alloc: Global, plain: &[Plain; 8]) -> Result<Vec<(Kind, u64, bool
     Ok(nodes)
 }
 
-/// Where the marked nodes of a plain list begin. Keys below 8 are in regions of their own.
+/// The split key at which the marked nodes of a plain list begin. Keys below 8 are in different
+/// regions.
 fn plain_marks_begin(plain: &[Plain; 8]) -> Option<u64> {
     for (rank, state) in plain.iter().enumerate() {
         if *state == Plain::Marked {
@@ -515,7 +516,7 @@ fn plain_marks_begin(plain: &[Plain; 8]) -> Option<u64> {
     None
 }
 
-/// Links the dummy of bucket 1, which must not be there.
+/// Links the dummy of bucket 1, which must not be linked yet.
 fn dummy_of_1(list: &mut NodeList) -> Result<NodeRef, Fail> {
     let at = SortKey::dummy(1);
     let mut spare = list.spare()?;
@@ -524,7 +525,7 @@ fn dummy_of_1(list: &mut NodeList) -> Result<NodeRef, Fail> {
     link_here(list, &cursor, spare)
 }
 
-/// Sweeps from a dummy if no marked node may stand before it, and else from the head.
+/// Sweeps from a dummy if no marked node may be before it, and else from the head.
 fn sweep_from_dummy(list: &mut NodeList, dummy: NodeRef) -> SweepOutcome {
     if let Some(split) = list.marks_begin() {
         let bucket = bucket_at(split, 8);
@@ -554,7 +555,7 @@ fn take_or_put(list: &mut NodeList, plain: &mut [Plain; 8], rank: usize) -> Resu
     Ok(())
 }
 
-/// Takes the step that a number says, on a list and on a plain one.
+/// Takes the step that a number stands for, on a list and on a plain one.
 fn take_step(
     list: &mut NodeList,
     plain: &mut [Plain; 8],
@@ -572,7 +573,7 @@ fn take_step(
     Ok(())
 }
 
-/// Whether a list is as a plain one.
+/// Whether a list is equal to a plain one.
 fn is_as_plain(alloc: Global, list: &NodeList, plain: &[Plain; 8]) -> Result<bool, AllocError> {
     let found = nodes(alloc, list)?;
     let wanted = plain_nodes(alloc, plain)?;

@@ -22,13 +22,13 @@ fn small_table(alloc: Global) -> Result<Table, AllocError> {
     Table::new(alloc, 2, 1)
 }
 
-/// Makes a new table in place of one.
+/// Replaces the table by a new one.
 fn begin(alloc: Global, table: &mut Table) -> Result<(), AllocError> {
     *table = new_table(alloc)?;
     Ok(())
 }
 
-/// Makes a new table of two buckets in place of one.
+/// Replaces the table by a new one of two buckets.
 fn begin_small(alloc: Global, table: &mut Table) -> Result<(), AllocError> {
     *table = small_table(alloc)?;
     Ok(())
@@ -58,7 +58,7 @@ enum Step {
     Store(u64),
     /// Puts a value at a key, and keeps the job.
     Put(u64, u64),
-    /// Takes the newest of the puts back whose jobs are kept.
+    /// Takes back the newest of the puts whose jobs are kept.
     TakeBack,
     /// Takes the one key that is there, and takes that back.
     TakeThereAndBack(u64),
@@ -73,7 +73,7 @@ enum Step {
     Read,
 }
 
-/// What a job does: the key that it is of, and the value that the key gets back.
+/// The effect of a job: its key, and the value that the key gets back.
 #[derive(Clone, Copy, PartialEq, Eq)]
 enum Inverse {
     Unput(u64),
@@ -81,7 +81,7 @@ enum Inverse {
     Relink(u64, u64),
 }
 
-/// What a step answers.
+/// The answer to a step.
 #[derive(Clone, Copy, PartialEq, Eq)]
 enum Answer {
     Done,
@@ -89,7 +89,7 @@ enum Answer {
     Withdrawn(Op, u64),
     /// Whether the cursor no longer fitted; the replies to the put of key 4, the read and the put.
     Late(bool, Reply, Reply, Reply),
-    /// The reply to a take, and what its job does.
+    /// The reply to a take, and the effect of its job.
     Taken(Reply, Inverse),
     Job(Inverse),
     Swept(SweepOutcome),
@@ -102,7 +102,7 @@ enum Answer {
     Figures(u32, u64, u64),
 }
 
-/// What is seen of a table without memory.
+/// The figures of a table, which take no memory.
 fn figures(table: &Table) -> (u32, u64, u64) {
     (table.size(), table.count(), table.changes())
 }
@@ -114,7 +114,7 @@ fn apply(table: &mut Table, op: Op) -> Result<(Reply, Option<MapJob>), Refusal>
     table.apply(op)
 }
 
-/// Does an operation, and lets its job go.
+/// Does an operation, and drops its job.
 fn do_at_once(table: &mut Table, op: Op) -> Result<Reply, Refusal> {
     let (reply, _) = table.apply(op)?;
     Ok(reply)
@@ -152,8 +152,7 @@ fn discarded(table: &mut Table, op: Op) -> Result<Reply, Fail> {
     Ok(reply)
 }
 
-/// Prepares an operation and withdraws it. The answer is the operation that was prepared, and its
-/// key.
+/// Prepares an operation and withdraws it. Answers the operation that was prepared, and its key.
 fn withdrawn(table: &mut Table, op: Op) -> Result<(Op, u64), Refusal> {
     let pending = table.prepare(op)?;
     let seen = (pending.op(), pending.key().number());
@@ -161,7 +160,7 @@ fn withdrawn(table: &mut Table, op: Op) -> Result<(Op, u64), Refusal> {
     Ok(seen)
 }
 
-/// The pairs of a table, which are asked for once more if memory is refused.
+/// The pairs of a table, asked for once more if memory is refused.
 fn pairs_of(alloc: Global, table: &Table) -> Result<Vec<(u64, u64)>, AllocError> {
     match table.regular_list(alloc) {
         Ok(pairs) => Ok(pairs),
@@ -169,7 +168,7 @@ fn pairs_of(alloc: Global, table: &Table) -> Result<Vec<(u64, u64)>, AllocError>
     }
 }
 
-/// The content of a table, which is asked for once more if memory is refused.
+/// The content of a table, asked for once more if memory is refused.
 fn content_of(alloc: Global, table: &Table) -> Result<BTreeMap<u64, u64>, AllocError> {
     match table.content(alloc) {
         Ok(content) => Ok(content),
@@ -190,7 +189,7 @@ fn has_pairs(alloc: Global, table: &Table, wanted: &[(u64, u64)]) -> Result<bool
     Ok(is_whole && pairs_of(alloc, table)?.as_slice() == wanted)
 }
 
-/// The pair of a rank, if the content and the count say the same as the list of pairs.
+/// The pair of a rank, if the content and the count agree with the list of pairs.
 fn pair_of_rank(alloc: Global, table: &Table, rank: usize) -> Result<Answer, Fail> {
     let pairs = pairs_of(alloc, table)?;
     if !has_pairs(alloc, table, &pairs)? {
@@ -237,7 +236,7 @@ fn take_back(table: &mut Table, job: MapJob) -> Result<(), Fail>
     Ok(())
 }
 
-/// Takes the newest of these puts back.
+/// Takes back the newest of these puts.
 fn take_newest_back(table: &mut Table, jobs: &mut Vec<MapJob>) -> Result<(), Fail> {
     match jobs.pop().ok_or("no job")? {
         MapJob::Unput(key) => take_back(table, MapJob::Unput(key)),
@@ -246,7 +245,7 @@ fn take_newest_back(table: &mut Table, jobs: &mut Vec<MapJob>) -> Result<(), Fai
     }
 }
 
-/// What a job does.
+/// The effect of a job.
 fn inverse_of(job: &MapJob) -> Inverse {
     let key = job.key().number();
     match job {
@@ -256,7 +255,7 @@ fn inverse_of(job: &MapJob) -> Inverse {
     }
 }
 
-/// What the newest of these jobs does.
+/// The effect of the newest of these jobs.
 fn newest_of(jobs: &[MapJob]) -> Result<Answer, Fail> {
     let job = jobs.last().ok_or("no job")?;
     Ok(Answer::Job(inverse_of(job)))
@@ -276,7 +275,7 @@ fn take_there_and_back(alloc: Global, table: &mut Table, key: u64) -> Result<Ans
     Ok(Answer::Taken(reply, inverse))
 }
 
-/// Puts a value at a key at once.
+/// Puts a value at a key by `apply`.
 fn put(table: &mut Table, key: u64, value: u64) -> Result<(Reply, Option<MapJob>), Refusal>
     ensures spares { KeepsSpares table.old table.new }
     ensures follows { Follows table.old table.new }
@@ -284,7 +283,7 @@ fn put(table: &mut Table, key: u64, value: u64) -> Result<(Reply, Option<MapJob>
     table.apply(Op::Put(key, value))
 }
 
-/// Reads a key at once.
+/// Reads a key by `apply`.
 fn read(table: &mut Table, key: u64) -> Result<(Reply, Option<MapJob>), Refusal>
     ensures spares { KeepsSpares table.old table.new }
     ensures follows { Follows table.old table.new }
@@ -333,7 +332,7 @@ fn put_late(
     Ok(Answer::Late(is_again, other, there, own))
 }
 
-/// Takes a step for the buckets, or reads.
+/// Takes a step of the buckets, or reads.
 fn take_bucket_step(table: &mut Table, step: Step) -> Result<Answer, Fail> {
     Ok(match step {
         Step::Double(seen) => Answer::Double(table.double(seen)),
@@ -392,7 +391,7 @@ fn shows(rt: &impl Abort, alloc: Global, table: &Table, wanted: &[(u64, u64)]) -
     Ok(())
 }
 
-/// Runs of steps, with what each answers. Each run begins with a new table.
+/// Runs of steps, with the answer to each. Each run begins with a new table.
 const STEPS: [(Step, Answer); 118] = [
     // Each operation there and back.
     (Step::Begin, Answer::Done),
@@ -430,7 +429,7 @@ const STEPS: [(Step, Answer); 118] = [
     (Step::Return(Op::PutIf(3, Some(5), 6)), Answer::Reply(None)),
     (Step::Pair(0), Answer::Pair(1, 10)),
     (Step::Pair(1), Answer::End),
-    // Keys stand by their split keys.
+    // Keys are ordered by their split keys.
     (Step::Begin, Answer::Done),
     (Step::Do(Op::Put(1, 10)), Answer::Reply(None)),
     (Step::Do(Op::Put(2, 20)), Answer::Reply(None)),
@@ -499,7 +498,7 @@ const STEPS: [(Step, Answer); 118] = [
     (Step::Pair(2), Answer::Pair(9223372036854775809, 11)),
     (Step::Pair(3), Answer::Pair(18446744073709551615, 7)),
     (Step::Pair(4), Answer::End),
-    // A sweep unlinks what was taken.
+    // A sweep unlinks the node that was taken.
     (Step::Begin, Answer::Done),
     (Step::Return(Op::Put(1, 10)), Answer::Reply(None)),
     (Step::Read, Answer::Figures(2, 0, 2)),
@@ -507,7 +506,7 @@ const STEPS: [(Step, Answer); 118] = [
     (Step::Sweep, Answer::Swept(SweepOutcome::Clean)),
     (Step::Read, Answer::Figures(2, 0, 3)),
     (Step::Pair(0), Answer::End),
-    // The nodes are in the order 2, 1, 3. No seek passes a marked one, since key 1 stands between.
+    // The nodes are in the order 2, 1, 3. No seek passes a marked one, since key 1 is between them.
     (Step::Begin, Answer::Done),
     (Step::Do(Op::Put(1, 10)), Answer::Reply(None)),
     (Step::Return(Op::Put(3, 30)), Answer::Reply(None)),
@@ -519,7 +518,7 @@ const STEPS: [(Step, Answer); 118] = [
     (Step::Read, Answer::Figures(2, 1, 7)),
     (Step::Sweep, Answer::Swept(SweepOutcome::Clean)),
     (Step::Read, Answer::Figures(2, 1, 7)),
-    // What is given up changes nothing, and what is discarded stays.
+    // An operation that is given up changes nothing, and a discarded change stays.
     (
         Step::Withdraw(Op::Put(2, 20)),
         Answer::Withdrawn(Op::Put(2, 20), 2),
@@ -532,7 +531,7 @@ const STEPS: [(Step, Answer); 118] = [
     (Step::Begin, Answer::Done),
     (Step::ReturnAt(Op::Put(2, 20)), Answer::Reply(None)),
     (Step::Pair(0), Answer::End),
-    // The cursor of key 3 stands behind key 1, which stands behind key 4: it lasts.
+    // The cursor of key 3 is behind key 1, which is behind key 4: it still fits.
     (Step::Begin, Answer::Done),
     (Step::Do(Op::Put(1, 10)), Answer::Reply(None)),
     (Step::PutLate(3, 30), Answer::Late(false, None, None, None)),
@@ -561,7 +560,7 @@ const APPLY_THEN_TAKE_BACK: [(Step, Answer); 12] = [
     (Step::Pair(0), Answer::End),
 ];
 
-/// The cursor of key 2 stands where key 4 is put.
+/// The cursor of key 2 is at the position where key 4 is put.
 const STALE_PENDING: [(Step, Answer); 11] = [
     (Step::PutLate(2, 20), Answer::Late(true, None, None, None)),
     (Step::Pair(0), Answer::Pair(4, 40)),
@@ -576,7 +575,7 @@ const STALE_PENDING: [(Step, Answer); 11] = [
     (Step::Pair(0), Answer::End),
 ];
 
-/// Takes steps on a new table, and compares what each answers.
+/// Takes steps on a new table, and compares the answer to each.
 fn take_steps(rt: &impl Abort, alloc: Global, steps: &[(Step, Answer)]) -> Result<(), Fail> {
     let mut table = new_table(alloc)?;
     let mut jobs = Vec::new(alloc);
@@ -604,14 +603,14 @@ fn stale_pending(rt: HostRuntime) -> Result<(), Fail> {
 
 const HALF: u64 = 1 << 63;
 
-/// Puts a key, and the one that is higher by 2^63. The answer is whether both were new.
+/// Puts a key, and the one that is higher by 2^63. Answers whether both were new.
 fn are_put(table: &mut Table, key: u64) -> Result<bool, Refusal> {
     let (high, value) = (key.wrapping_add(HALF), key.wrapping_add(100));
     let higher = do_at_once(table, Op::Put(high, value))?;
     Ok(higher.is_none() && do_at_once(table, Op::Put(key, key))?.is_none())
 }
 
-/// Takes a key out, and changes it and the higher one there and back. The answer is whether each
+/// Takes a key out, and changes it and the higher one and takes that back. Answers whether each
 /// reply is that of the right key.
 fn is_one_taken(table: &mut Table, key: u64) -> Result<bool, Refusal> {
     let (high, value) = (key.wrapping_add(HALF), key.wrapping_add(100));
@@ -628,7 +627,8 @@ fn is_one_taken(table: &mut Table, key: u64) -> Result<bool, Refusal> {
     Ok(low_replies == [Some(key), None, None] && high_replies == [Some(value); 3])
 }
 
-/// Two keys that differ by 2^63 have one split key and one bucket: neither is taken for the other.
+/// Two keys that differ by 2^63 have one split key and one bucket: neither is mistaken for the
+/// other.
 #[test]
 fn keys_that_share_a_split_key(rt: HostRuntime) -> Result<(), Fail> {
     let mut table = new_table(rt.alloc())?;
@@ -672,8 +672,8 @@ fn table_again(alloc: Global) -> Result<Table, AllocError> {
     }
 }
 
-/// Puts a new key. If memory is refused, the table is as it was, with these pairs, and the put
-/// is done when it is asked again.
+/// Puts a new key. If memory is refused, the table is unchanged, with these pairs, and the put
+/// succeeds when it is repeated.
 fn put_again(
     rt: &impl Abort,
     alloc: Global,
@@ -694,8 +694,8 @@ fn put_again(
     Ok(())
 }
 
-/// A table with these pairs, which were put in their order, each once more if memory was refused
-/// to it.
+/// A table with these pairs, which were put in their order, each once more if it was refused
+/// memory.
 fn table_of(rt: &impl Abort, alloc: Global, pairs: &[(u64, u64)]) -> Result<Table, Fail> {
     let mut table = table_again(alloc)?;
     for (done, pair) in pairs.iter().enumerate() {
@@ -712,8 +712,8 @@ fn refused_memory_for_puts(rt: HostRuntime) -> Result<(), Fail> {
     shows(&rt, rt.alloc(), &table, &PAIRS)
 }
 
-/// Prepares a put of key 6, and then a take of key 2, which is done. If memory is refused to it,
-/// the table is as it was, and the put is done. The answer is the pairs of the table.
+/// Prepares a put of key 6, and then a take of key 2, which is done. If memory is refused to the
+/// take, the table is unchanged, and the put is done. Answers the pairs of the table.
 fn do_second(
     rt: &impl Abort,
     alloc: Global,
@@ -743,9 +743,9 @@ fn refused_memory_for_a_preparation(rt: HostRuntime) -> Result<(), Fail> {
     shows(&rt, rt.alloc(), &table, pairs)
 }
 
-/// Prepares a put of key 4, and links the dummy of bucket 1 as helper 0. Where memory is refused to
-/// that, the table is as it was, the put is done, and the helper has its cursor still. The answer
-/// is the pairs of the table.
+/// Prepares a put of key 4, and links the dummy of bucket 1 as helper 0. If memory is refused to
+/// the link, the table is unchanged, the put is done, and the helper still has its cursor. Answers
+/// the pairs of the table.
 fn link_beside_a_put(
     rt: &impl Abort,
     alloc: Global,

@@ -1,4 +1,4 @@
-//! Tests of `node_list`: that each call succeeds, and what a refused allocation leaves.
+//! Tests of `node_list`: that each call succeeds, and the list after a refused allocation.
 use node_list::{Kind, NodeList, NodeRef, SpareFault};
 use split_key::{Key, SortKey};
 use std::alloc::{AllocError, Global};
@@ -15,7 +15,7 @@ fn list_again(alloc: Global, first_stamp: u64) -> Result<NodeList, Fail> {
     }
 }
 
-/// The stamp of a spare, whose place is kept from then on.
+/// The stamp of a spare, whose place stays kept.
 fn stamp_of_spare(list: &mut NodeList) -> Result<u64, SpareFault> {
     Ok(list.spare()?.stamp())
 }
@@ -46,7 +46,7 @@ enum Call {
     Unlink,
 }
 
-/// Links the node of a key behind the first, which has to be the last.
+/// Links the node of a key behind the first, which must be the last.
 fn link(list: &mut NodeList, number: u64, value: u64) -> Result<(), Fail> {
     let head = list.head();
     let mut spare = list.spare()?;
@@ -80,7 +80,7 @@ fn is_vacant(list: &NodeList, place: NodeRef) -> Result<(), Fail> {
     Ok(())
 }
 
-/// What is seen of a list of at most two nodes.
+/// The visible state of a list of at most two nodes.
 #[derive(Clone, Copy, PartialEq, Eq)]
 struct Seen {
     count: u64,
@@ -90,7 +90,7 @@ struct Seen {
     second: Option<Entry>,
 }
 
-/// What is seen of a node.
+/// The visible state of a node.
 #[derive(Clone, Copy, PartialEq, Eq)]
 struct Entry {
     key: u64,
@@ -100,7 +100,7 @@ struct Entry {
     marked: bool,
 }
 
-/// What is seen of the second node.
+/// The visible state of the second node.
 fn entry_of_second(list: &NodeList) -> Option<Entry> {
     let node = list.linked_node(second(list)?)?;
     Some(Entry {
@@ -112,7 +112,7 @@ fn entry_of_second(list: &NodeList) -> Option<Entry> {
     })
 }
 
-/// What is seen of a list.
+/// The visible state of a list.
 fn look(list: &NodeList) -> Seen {
     Seen {
         count: list.count(),
@@ -146,7 +146,7 @@ fn mark(list: &mut NodeList, place: NodeRef) -> Result<(), Fail> {
     Ok(())
 }
 
-/// Unlinks the second node, which has to be marked, and looks that it is gone.
+/// Unlinks the second node, which must be marked, and tests that it is gone.
 fn unlink_second(list: &mut NodeList) -> Result<(), Fail> {
     let head = list.head();
     let Some(next) = list.node(head).next else {
@@ -202,7 +202,7 @@ const MARKED: Entry = Entry {
     marked: true,
 };
 
-/// Calls with what is then seen.
+/// Calls with the visible state after each.
 const CALLS: [(Call, Seen); 4] = [
     (
         Call::Link(3, 30),
@@ -258,7 +258,7 @@ fn calls_in_turn(rt: HostRuntime) -> Result<(), Fail> {
     Ok(())
 }
 
-/// The faults of a list in words.
+/// The texts of the faults of a list.
 const FAULTS: &str = "the list has no stamp left for a spare; the list got no memory for a spare";
 
 #[test]
@@ -271,7 +271,7 @@ fn stamps_used_up(rt: HostRuntime) -> Result<(), Fail> {
     Ok(())
 }
 
-/// Also run with each allocation refused in turn: the list is then as it was, and gives the spare
+/// Also run with each allocation refused in turn: the list is then unchanged, and gives the spare
 /// at the next call.
 #[test]
 fn refused_allocations(rt: HostRuntime) -> Result<(), Fail> {

@@ -1,8 +1,8 @@
-//! Tests of `split_key`: numbers that are worked out by hand.
+//! Tests of `split_key`: numbers that were worked out by hand.
 use split_key::{BadKey, Key, SortKey, bucket_at, bucket_of, dummy, parent, regular, reverse};
 use std::test::Fail;
 
-/// A call, with the numbers that it is given.
+/// A call with its arguments.
 #[derive(Clone, Copy, Debug)]
 enum Call {
     /// The split key of a bucket's dummy.
@@ -14,12 +14,12 @@ enum Call {
     Parent(u32),
     /// The bucket of a key at a size.
     BucketOf(u64, u32),
-    /// The bucket of a place in the order at a size.
+    /// The bucket of a position in the order at a size.
     BucketAt(u64, u32),
     Reverse(u64),
 }
 
-/// What a call answers; none for a number that is no half key.
+/// The answer to a call, or `None` for a number that is no half key.
 fn answer(call: Call) -> Result<Option<u64>, Fail> {
     match call {
         Call::Dummy(bucket) => Ok(Some(dummy(bucket))),
@@ -36,7 +36,7 @@ fn answer(call: Call) -> Result<Option<u64>, Fail> {
     }
 }
 
-/// The split key of the key with this number, which has it.
+/// The split key of the key with this number, if `number` answers it again.
 fn split_of_number(number: u64) -> Result<u64, Fail> {
     let key = Key::new(number);
     if key.number() != number {
@@ -57,7 +57,7 @@ fn bucket_of_number(number: u64, size: u32) -> Result<u32, Fail> {
     }
 }
 
-/// The bucket of a place in the order, in a table of one of these sizes.
+/// The bucket of a position in the order, in a table of one of these sizes.
 fn bucket_at_split(split: u64, size: u32) -> Result<u32, Fail> {
     match size {
         1 => Ok(bucket_at(split, 1)),
@@ -68,7 +68,7 @@ fn bucket_at_split(split: u64, size: u32) -> Result<u32, Fail> {
     }
 }
 
-/// Calls, and what each answers.
+/// Calls, and the answer to each.
 const ANSWERS: [(Call, Option<u64>); 46] = [
     (Call::Dummy(0), Some(0x0000_0000_0000_0000)),
     (Call::Dummy(2), Some(0x4000_0000_0000_0000)),
@@ -149,7 +149,7 @@ fn numbers(rt: HostRuntime) -> Result<(), Fail> {
     Ok(())
 }
 
-/// Where the key with this number stands.
+/// The sort key of the key with this number.
 fn at(number: u64) -> SortKey {
     SortKey::regular(Key::new(number))
 }

@@ -1,4 +1,5 @@
-//! Tests of `stripe_part`: drawn operations beside std's map, growth, and refused allocations.
+//! Tests of `stripe_part`: drawn operations compared with std's map, growth, and refused
+//! allocations.
 use std::alloc::{AllocError, Global};
 use std::collections::BTreeMap;
 use std::process::Abort;
@@ -27,7 +28,7 @@ struct Plain {
     log: Vec<(u64, Option<u64>)>,
 }
 
-/// Gives a key this value, or none.
+/// Sets the value of a key, or removes the key.
 fn set(plain: &mut Plain, key: u64, value: Option<u64>) -> Result<(), Fail> {
     match value {
         Some(value) => {
@@ -40,7 +41,7 @@ fn set(plain: &mut Plain, key: u64, value: Option<u64>) -> Result<(), Fail> {
     Ok(())
 }
 
-/// What an operation sets its key to, if it is a change of a key with this value.
+/// The value to which an operation sets its key, if it changes a key with this value.
 fn setting(op: Op, was: Option<u64>) -> Option<Option<u64>> {
     match op {
         Op::Put(_, value) => Some(Some(value)),
@@ -81,7 +82,8 @@ fn draw_op(draws: &mut Draws, keys: u64) -> Op {
     }
 }
 
-/// Does an operation; if memory is refused, the part is unchanged and is asked once more.
+/// Does an operation; if memory is refused, the part is unchanged and the operation is tried once
+/// more.
 fn apply_again(rt: &impl Abort, alloc: Global, part: &mut Part, op: Op) -> Result<Reply, Fail> {
     let seen = (part.len(), part.changes());
     match part.apply(alloc, op) {
@@ -105,7 +107,7 @@ fn pairs_of(alloc: Global, part: &Part) -> Result<Vec<(u64, u64)>, AllocError> {
     }
 }
 
-/// The part has the pairs of the plain map, and as many changes to take back.
+/// Checks that the part has the pairs of the plain map, and as many changes to take back.
 fn is_alike(rt: &impl Abort, alloc: Global, part: &Part, plain: &Plain) -> Result<(), Fail> {
     let pairs = pairs_of(alloc, part)?;
     assert!(rt; part.changes() == plain.log.len());
@@ -117,14 +119,14 @@ fn is_alike(rt: &impl Abort, alloc: Global, part: &Part, plain: &Plain) -> Resul
     Ok(())
 }
 
-/// Takes the newest change back, if there is one.
+/// Takes back the newest change, if there is one.
 fn undo_one(part: &mut Part) {
     if part.changes() > 0 {
         part.take_back();
     }
 }
 
-/// Takes the newest change back on both, if there is one.
+/// Takes back the newest change on both, if there is one.
 fn undo_both(part: &mut Part, plain: &mut Plain) -> Result<(), Fail> {
     undo_one(part);
     if let Some((key, before)) = plain.log.pop() {
@@ -158,7 +160,7 @@ fn step_both(
     Ok(())
 }
 
-/// Takes drawn steps on a new part and on a plain map, and all that is left back.
+/// Takes drawn steps on a new part and on a plain map, and then takes all changes back.
 fn run_drawn(
     rt: &impl Abort,
     alloc: Global,
@@ -217,7 +219,7 @@ fn refused_memory(rt: HostRuntime) -> Result<(), Fail> {
     Ok(())
 }
 
-/// An empty part takes no memory, and neither does what changes nothing of it.
+/// An empty part takes no memory, and neither does an operation that changes nothing.
 #[test]
 fn empty(rt: HostRuntime) -> Result<(), Fail> {
     let alloc = rt.alloc();
@@ -232,8 +234,8 @@ fn empty(rt: HostRuntime) -> Result<(), Fail> {
     Ok(())
 }
 
-/// A part that has grown by rising keys has them all, and takes their takes back. The time that a
-/// test has suffices only if the part grows.
+/// A part that has grown by rising keys has them all, and takes the takes of them back. The time of
+/// a test is enough only if the part grows.
 #[test]
 fn rising_keys(rt: HostRuntime) -> Result<(), Fail> {
     let alloc = rt.alloc();

@@ -31,7 +31,7 @@ fn is_refused(alloc: Global) -> bool {
     Box::new(alloc, 0).is_err()
 }
 
-/// Whether it pushed the job, having asked twice for room if memory is refused once.
+/// Whether it pushed the job, after asking for room twice if memory is refused once.
 fn is_pushed(rt: &impl Abort, log: &mut UndoLog<Raised>, number: u64) -> bool {
     let jobs = log.len();
     if log.reserve_one().is_err() {
@@ -45,7 +45,7 @@ fn is_pushed(rt: &impl Abort, log: &mut UndoLog<Raised>, number: u64) -> bool {
     true
 }
 
-/// Makes a savepoint, and asks twice if memory is refused once.
+/// Makes a savepoint, trying twice if memory is refused once.
 fn save(rt: &impl Abort, log: &mut UndoLog<Raised>) -> Option<usize> {
     let level = log.level();
     if let Ok(saved) = log.save() {
@@ -56,8 +56,8 @@ fn save(rt: &impl Abort, log: &mut UndoLog<Raised>) -> Option<usize> {
     log.save().ok()
 }
 
-/// Takes out the newest job above a level and runs it on its count, which it takes back by one.
-/// None if there is no such job, or one of another count.
+/// Takes out the newest job above a level and runs it on its count, which goes back by one. `None`
+/// if there is no such job, or it is of another count.
 fn run_newest(log: &mut UndoLog<Raised>, level: usize, count: u64) -> Option<u64> {
     if level > log.level() {
         return None;
@@ -102,7 +102,7 @@ fn figures(log: &UndoLog<Raised>) -> (usize, usize, bool) {
     (log.level(), log.len(), log.is_empty())
 }
 
-/// Takes back so many jobs, newest first, which are all that there are. No memory is wanted.
+/// Takes back this number of jobs, newest first, which are all that there are. Needs no memory.
 fn take_back(rt: &impl Abort, log: &mut UndoLog<Raised>, jobs: u64) -> Result<(), Fail> {
     assert!(rt; log.len() as u64 == jobs);
     let mut count = jobs;
@@ -119,8 +119,8 @@ fn take_back(rt: &impl Abort, log: &mut UndoLog<Raised>, jobs: u64) -> Result<()
     Ok(())
 }
 
-/// A log of eight jobs, for which no memory is wanted: that none of them is refused is proved, and
-/// that the next one needs memory.
+/// A log of eight jobs, which needs no memory: that none of them is refused is proved, and that the
+/// next one needs memory.
 fn eight_jobs(alloc: Global) -> UndoLog<Raised>
     ensures jobs { length result.jobs ≡ 8 }
     ensures room { result.room ≡ 0 }
@@ -135,7 +135,7 @@ fn eight_jobs(alloc: Global) -> UndoLog<Raised>
     log
 }
 
-/// Eight jobs, without what is proved of them.
+/// Eight jobs, without the clauses about them.
 fn log_of_eight(alloc: Global) -> UndoLog<Raised> {
     eight_jobs(alloc)
 }
@@ -156,7 +156,7 @@ fn empty_log(alloc: Global) -> UndoLog<Raised> {
     UndoLog::new(alloc)
 }
 
-/// How many of two savepoints are made, with the numbers 1 and 2. The level is one more with each.
+/// How many of two savepoints are made, with the numbers 1 and 2. Each raises the level by one.
 fn savepoints(rt: &impl Abort, alloc: Global, log: &mut UndoLog<Raised>) -> usize {
     for (before, number) in [(0, 1), (1, 2)] {
         match save(rt, log) {
@@ -195,7 +195,7 @@ fn a_savepoint_keeps_its_jobs(rt: HostRuntime) -> Result<(), Fail> {
     return_to_1(&rt, &mut log)
 }
 
-/// The number of a savepoint that is made in room of its own, in a log with no job.
+/// The number of a savepoint that is made in reserved room, in a log with no job.
 fn first_savepoint(alloc: Global) -> Result<usize, AllocError> {
     let mut log = UndoLog::<Raised>::new(alloc);
     if log.save_room().is_err() {
@@ -204,7 +204,7 @@ fn first_savepoint(alloc: Global) -> Result<usize, AllocError> {
     log.save()
 }
 
-/// The same of a side value with no change.
+/// The number of a savepoint of a side value with no change.
 fn first_savepoint_of_side(alloc: Global) -> Result<usize, AllocError> {
     let mut side = SideValue::new(alloc, a_register([0, 0, 0, 0]));
     if side.save_room().is_err() {
@@ -213,7 +213,7 @@ fn first_savepoint_of_side(alloc: Global) -> Result<usize, AllocError> {
     side.save()
 }
 
-/// How many jobs three logs have, of which the second is pushed one.
+/// The numbers of jobs of three logs, to the second of which one is pushed.
 fn jobs_of_three(rt: &impl Abort, alloc: Global) -> [usize; 3] {
     let first = empty_log(alloc);
     let mut second = empty_log(alloc);
@@ -271,7 +271,7 @@ fn a_register(words: [u64; 4]) -> Register
     Register { words }
 }
 
-/// Sets the words, and asks twice if memory is refused once. None if it is refused still.
+/// Sets the words, trying twice if memory is refused once. `None` if it is refused again.
 fn set(rt: &impl Abort, side: &mut SideValue<Register>, words: [u64; 4]) -> Option<()> {
     let before = side.words();
     let job = WordsJob {
@@ -286,7 +286,7 @@ fn set(rt: &impl Abort, side: &mut SideValue<Register>, words: [u64; 4]) -> Opti
     side.change(change, job).ok()
 }
 
-/// Makes a savepoint, and asks twice if memory is refused once.
+/// Makes a savepoint, trying twice if memory is refused once.
 fn save_side(rt: &impl Abort, side: &mut SideValue<Register>) -> Option<usize> {
     let level = side.level();
     if let Ok(saved) = side.save() {
@@ -305,8 +305,8 @@ fn words_back(rt: &impl Abort, side: &mut SideValue<Register>, level: usize) -> 
     side.words()
 }
 
-/// The words after a change, a savepoint and two more changes, and back at the savepoint; none
-/// if one of them is refused memory twice.
+/// The words after a change, a savepoint and two more changes, and back at the savepoint; `None` if
+/// one of them is refused memory twice.
 fn words_there(rt: &impl Abort, side: &mut SideValue<Register>) -> Option<[[u64; 4]; 2]> {
     set(rt, side, [1, 0, 0, 0])?;
     assert!(rt; save_side(rt, side)? == 1);
@@ -322,7 +322,7 @@ fn zeros(alloc: Global) -> SideValue<Register> {
     SideValue::new(alloc, a_register([0, 0, 0, 0]))
 }
 
-/// Also run with allocations refused. However many of the changes are made, they are all taken
+/// Also run with allocations refused. However many of the changes are made, all of them are taken
 /// back.
 #[test]
 fn side_value_returns(rt: HostRuntime) {
@@ -341,8 +341,8 @@ fn is_saved_at_1(rt: &impl Abort, side: &mut SideValue<Register>) -> bool {
 }
 
 /// The words after a change, a savepoint and a return to level 0, with or without a settling before
-/// it. Where the change or the savepoint is refused memory, they are as at the beginning, and not
-/// given.
+/// it. If the change or the savepoint is refused memory, they are those at the beginning, and
+/// `None` is answered.
 fn words_after_return(rt: &impl Abort, alloc: Global, settles: bool) -> Option<[u64; 4]> {
     let mut side = zeros(alloc);
     let is_done = is_saved_at_1(rt, &mut side);

@@ -1,4 +1,4 @@
--- Seats that are taken out of their list, the last first.
+-- Seats that are taken out of their list, the last one first.
 use Rattle.std.proofs.Common.{◌≡◌, ◌+◌, List, [], ◌∷◌, ◌++◌, length, get_or, refl, ap, subst, ◌∙◌, arith}
 use Rattle.std.proofs.lemmas.List.{length_push, get_or_push}
 use Rattle.std.proofs.Math.ListN.{get_or-append}
@@ -6,7 +6,8 @@ use Rattle.key_words.specs.declared.seat.KeySeat.{KeySeat}
 use Rattle.key_words.specs.declared.words.KeyWords.{KeyWords}
 use Rattle.key_words.specs.Seats.{AreSeats, IsFresh}
 
--- Without the last the others are the seats of the lower numbers, and the last has the next one.
+-- Without the last, the list has the seats of the lower numbers, and the last one has the next
+-- number.
 pub without_last : (words : KeyWords) (seats rest : List KeySeat) (seat : KeySeat) → seats ≡ rest ++ seat ∷ [] → AreSeats words (length seats) seats
     → AreSeats words (length rest) rest × IsFresh words (length rest) seat
 without_last words seats rest seat is all =

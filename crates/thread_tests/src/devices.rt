@@ -1,5 +1,5 @@
-//! What the tests share: a map under a ledger of its own, its calls and its end, each of which
-//! stands here once.
+//! Shared parts of the tests: a map under its own ledger, its calls and its end, each in one
+//! function.
 ghost use Rattle.std.specs.Prelude.{◌≡◌, ◌<◌, true, All};
 ghost use Rattle.txn_trace.specs.History.{caller_of};
 
@@ -15,7 +15,7 @@ use std::test::Fail;
 use txn_trace::{Entry, Holder, Limits, Op, Reply};
 use undo_log::Side;
 
-/// How many parts a ledger has.
+/// The number of a ledger's parts.
 #[derive(Drop)]
 struct Parts<L: Ledger> {
     count: u64,
@@ -23,14 +23,14 @@ struct Parts<L: Ledger> {
     ghost counted: { count ≡ L.parts },
 }
 
-/// A map, and what it needs to close: how many parts its ledger has.
+/// A map, and the number of its ledger's parts, which it needs to close.
 #[derive(Drop)]
 pub(crate) struct Shared<L: Ledger> {
     pub(crate) map: SharedMap<L>,
     parts: Parts<L>,
 }
 
-/// A new map, and the passes of its callers; none if memory is refused.
+/// A new map, and the passes of its callers, or `None` if memory is refused.
 pub(crate) fn open<L: Ledger>(
     alloc: Global,
     blank: Blank,
@@ -50,9 +50,9 @@ pub(crate) fn open<L: Ledger>(
     }
 }
 
-/// What a test does with a new map.
+/// A test's use of a new map.
 pub(crate) trait Play {
-    /// Plays it.
+    /// Runs the test on the map.
     fn play<L: Ledger, R: Wait + Abort>(
         &self,
         rt: &R,
@@ -62,7 +62,7 @@ pub(crate) trait Play {
     ) -> Result<(), Fail>;
 }
 
-/// Plays it on a new map with 8 stripes and at most 8 buckets.
+/// Runs the test on a new map with 8 stripes and at most 8 buckets.
 pub(crate) fn play_with<P: Play, R: Wait + Abort>(
     rt: &R,
     alloc: Global,
@@ -75,8 +75,8 @@ pub(crate) fn play_with<P: Play, R: Wait + Abort>(
     Err("no memory for a map".into())
 }
 
-/// Plays it on such a map, for which it asks once more if memory is refused. Where it is refused
-/// still, there is nothing to play with.
+/// Runs the test on such a map, for which it asks once more if memory is refused. If it is refused
+/// again, there is nothing to run on.
 pub(crate) fn play_where_made<P: Play, R: Wait + Abort>(
     rt: &R,
     alloc: Global,
@@ -92,7 +92,7 @@ pub(crate) fn play_where_made<P: Play, R: Wait + Abort>(
     Ok(())
 }
 
-/// Plays it on a new map, unless memory is refused for that. Whether it was played.
+/// Runs the test on a new map, unless memory is refused for that. Answers whether it ran.
 fn is_played<P: Play, R: Wait + Abort>(
     rt: &R,
     alloc: Global,
@@ -127,7 +127,7 @@ pub(crate) fn is_refused(alloc: Global) -> bool {
     Box::new(alloc, 0).is_err()
 }
 
-/// The callers of the passes, without side values. Asks once more if memory is refused.
+/// The callers of the passes, without side values. Tries twice if memory is refused once.
 pub(crate) fn callers_of<L: Ledger>(
     alloc: Global,
     passes: Vec<Pass<L>>,
@@ -154,7 +154,7 @@ pub(crate) fn has_seen<L: Ledger>(
     me.number() == place as u64 && me.seen() == wanted
 }
 
-/// Hears nothing of a release.
+/// An observer of releases that does nothing.
 struct Unheard;
 
 impl OnRelease for Unheard {
@@ -171,7 +171,7 @@ pub(crate) fn run<L: Ledger, S: Side, R: Wait>(
     run_heard(rt, shared, me, call, &Unheard)
 }
 
-/// Makes a call by its value, whose releases of the lock are heard.
+/// Makes a call by its value, whose releases of the lock are observed.
 pub(crate) fn run_heard<L: Ledger, S: Side, H: OnRelease, R: Wait>(
     rt: &R,
     shared: &Shared<L>,
@@ -182,7 +182,7 @@ pub(crate) fn run_heard<L: Ledger, S: Side, H: OnRelease, R: Wait>(
     shared.map.run(rt, me, call, hears)
 }
 
-/// What a call by its name answers that did what it was asked.
+/// The answer to a call by its name that did what it was asked to do.
 #[derive(Clone, Copy, Debug, PartialEq, Eq)]
 pub(crate) enum Told {
     /// The number of a transaction or of a savepoint.
@@ -191,7 +191,7 @@ pub(crate) enum Told {
     Replied(Reply),
     /// The receipt of a commit: the transaction, and its number in the commit order.
     Committed(u64, u64),
-    /// Nothing beside.
+    /// No value.
     Done,
 }
 
@@ -240,7 +240,7 @@ fn operate<L: Ledger, R: Wait>(
     }
 }
 
-/// Where a map does not close: it and its callers, if one of these is missing.
+/// A map that does not close, and its callers, if one of these is missing.
 pub(crate) type Missing<L, S> = Option<(Shared<L>, Vec<Caller<L, S>>)>;
 
 /// Closes a map.
@@ -259,7 +259,7 @@ pub(crate) fn close_or_miss<L: Ledger, S: Side>(
     }
 }
 
-/// What is left of a map that closes.
+/// The parts of a map that closes.
 pub(crate) fn close<L: Ledger, S: Side>(
     shared: Shared<L>,
     callers: Vec<Caller<L, S>>,
@@ -270,8 +270,8 @@ pub(crate) fn close<L: Ledger, S: Side>(
     }
 }
 
-/// What the checker says of a history of so many stripes; none if that has an entry of a caller
-/// that the checker does not take.
+/// The verdict of the checker on a history for this number of stripes; `None` if the history has an
+/// entry of a caller that the checker does not take.
 pub(crate) fn judge(
     alloc: Global,
     trace: &[Entry],
@@ -290,15 +290,15 @@ fn has_callers(trace: &[Entry]) -> bool
     trace.iter().all(|entry| entry.caller() < 64)
 }
 
-/// Whether a history of so many stripes is legal by the checker, with no transaction open.
+/// Whether a history for this number of stripes is legal by the checker, with no transaction open.
 pub(crate) fn is_settled(alloc: Global, trace: &[Entry], stripes: u64) -> Result<bool, AllocError> {
     let verdict = judge(alloc, trace, stripes)?;
     Ok(matches!(verdict, Some(Verdict::Legal { running: 0, .. })))
 }
 
-/// Whether a closed core has so many keys, each of them 1 with the value 10, and a history that is
-/// legal with no transaction open. Of list and history, what is refused memory twice is not looked
-/// at.
+/// Whether a closed core has this number of keys, each of them 1 with the value 10, and a history
+/// that is legal with no transaction open. If the list or the history is refused memory twice, it
+/// is not compared.
 pub(crate) fn has_left<R: Abort>(rt: &R, alloc: Global, core: &Core, keys: u64) -> bool {
     let trace = core.trace();
     let Ok(settled) = is_settled(alloc, trace, 8).or_else(|_| is_settled(alloc, trace, 8)) else {

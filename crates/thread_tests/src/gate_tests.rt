@@ -1,5 +1,5 @@
-//! The calls of a gate, all of them and in their order, against tables made by hand: no contract
-//! counts the calls of a caller's own type.
+//! The calls of a gate, all of them and in their order, compared with tables made by hand: no
+//! contract counts the calls of a caller's own type.
 use crate::run_tests::{await_flag, put, run, scripts_of};
 use std::alloc::{AllocError, Global};
 use std::process::Abort;
@@ -23,7 +23,7 @@ enum Heard {
 }
 
 impl Heard {
-    /// The worker whose call this is, of so many workers.
+    /// The worker whose call this is, for this number of workers.
     fn worker(self, workers: usize) -> usize {
         match self {
             Heard::Before(worker, _, _) | Heard::Freed(worker) => worker,
@@ -65,7 +65,7 @@ impl<R: Wait + Abort + Clock + Sync> Gate for Listener<'_, R> {
     }
 }
 
-/// The calls that a gate hears in a run on so many workers.
+/// The calls that a gate gets in a run with this number of workers.
 fn heard_of<R: Threads + Wait + Abort + Clock + Sync>(
     rt: &R,
     alloc: Global,
@@ -97,7 +97,7 @@ fn own(
     Ok(own)
 }
 
-/// Whether just these calls were heard, each so often in a row.
+/// Whether the gate got exactly these calls, each this number of times in a row.
 fn is_heard(heard: &[Heard], wanted: &[(Heard, usize)]) -> bool {
     let mut rest = heard;
     for &(call, times) in wanted {

@@ -1,9 +1,9 @@
-//! Tests of what callers in threads share: of the map under its lock, of the scripts that threads
-//! run on it, and of the locks and the words of its stripes.
+//! Tests of the values that callers in threads share: the map under its lock, the scripts that
+//! threads run on it, and the locks and the words of its stripes.
 //!
-//! They stand apart from what they test since a crate with tests is proved twice. Each call of a
-//! library stands once, in a small function without a contract: a test that goes through these has
-//! no more to prove than that it is safe itself.
+//! They are a separate crate, since a crate with tests is proved twice. Each call of a library
+//! stands once, in a small function without a contract: a test that uses these has only its own
+//! safety to prove.
 #![tactic(auto)]
 
 #[cfg(test)]

@@ -9,13 +9,13 @@ use std::test::Fail;
 /// A caller's turn.
 #[derive(Clone, Copy, Debug)]
 enum Turn {
-    /// It locks a stripe, and is to be answered this.
+    /// It locks a stripe, and must get this answer.
     Lock(usize, LockAnswer),
     /// It releases all its stripes.
     Release,
 }
 
-/// Stripes, and how many there are.
+/// Stripes, and their number.
 #[derive(Drop)]
 struct Stripes {
     locks: KeyLocks,
@@ -23,7 +23,7 @@ struct Stripes {
     ghost sized: { length locks ≡ count },
 }
 
-/// So many free stripes; asks twice if memory is refused once.
+/// This number of free stripes; tries twice if memory is refused once.
 fn free_stripes(alloc: Global, count: usize) -> Result<Stripes, AllocError> {
     if let Ok(locks) = KeyLocks::new(alloc, count) {
         return Ok(Stripes { locks, count });
@@ -32,7 +32,7 @@ fn free_stripes(alloc: Global, count: usize) -> Result<Stripes, AllocError> {
     Ok(Stripes { locks, count })
 }
 
-/// Takes a turn. The answer is whether a lock answered what it is to.
+/// Takes a turn. Answers whether a lock had the answer that it must have.
 fn is_answered(stripes: &mut Stripes, caller: usize, turn: Turn) -> bool {
     if caller >= CALLERS {
         return false;
@@ -48,7 +48,7 @@ fn is_answered(stripes: &mut Stripes, caller: usize, turn: Turn) -> bool {
     }
 }
 
-/// Takes turns, each of the caller of this number, on so many free stripes.
+/// Takes turns, each of the caller of this number, on this number of free stripes.
 fn take_turns<R: Abort>(
     rt: &R,
     alloc: Global,
@@ -97,7 +97,7 @@ fn a_stripe_is_held_until_its_holder_releases(rt: HostRuntime) -> Result<(), Fai
     Ok(())
 }
 
-/// More stripes than memory are refused.
+/// More stripes than there is memory for are refused.
 #[test]
 fn each_stripe_has_a_right(rt: HostRuntime) -> Result<(), Fail> {
     let rights = match StripeRight::all(rt.alloc(), 3) {

@@ -12,8 +12,8 @@ use std::time::{Clock, Duration};
 use thread_runs::{Gate, Open, Outcome, Ran, run_scripts};
 use txn_trace::{Action, Entry, Limits, Op, Refusal, Script};
 
-/// Runs scripts on so many workers, on a map of so many stripes. A script that finds a stripe held
-/// is tried again so often.
+/// Runs scripts on this number of workers, on a map of this number of stripes. A script that finds
+/// a stripe held is tried again at most this number of times.
 pub(crate) fn run<G: Gate, R: Threads + Wait + Sync>(
     rt: &R,
     alloc: Global,
@@ -49,7 +49,7 @@ pub(crate) const fn put(key: u64, value: u64) -> Action {
 /// How often a flag is read, a millisecond apart.
 const TURNS: u64 = 20_000;
 
-/// Waits until a flag is set. The test fails where that takes too long.
+/// Waits until a flag is set. The test fails if that takes too long.
 pub(crate) fn await_flag<R: Abort + Clock>(rt: &R, flag: &AtomicBool) {
     for _ in 0..TURNS {
         if flag.load(Ordering::SeqCst) {
@@ -60,7 +60,7 @@ pub(crate) fn await_flag<R: Abort + Clock>(rt: &R, flag: &AtomicBool) {
     assert!(rt; false, "a flag is set in time");
 }
 
-/// Where a worker may be.
+/// The place at which a worker may be.
 #[derive(Clone, Copy, PartialEq, Eq)]
 enum Place {
     /// Before this action of a script.
@@ -69,7 +69,7 @@ enum Place {
     Release(u64),
 }
 
-/// Worker 0 comes to a place, and does not go on before script 1 is done. Until it is there, worker
+/// Worker 0 reaches a place, and does not go on before script 1 is done. Until it is there, worker
 /// 1 waits before an action.
 #[derive(Drop)]
 struct Meeting<'a, R: Abort + Clock + Sync> {
@@ -113,7 +113,7 @@ impl<R: Abort + Clock + Sync> Gate for Meeting<'_, R> {
     }
 }
 
-/// The place of a script that is committed with no reply to any operation, else 0.
+/// The commit number of a script that is committed with no reply to any operation, else 0.
 fn place_of(outcome: &Outcome) -> u64 {
     match outcome {
         Outcome::Committed { place, replies, .. } if replies.iter().all(|r| r.is_none()) => *place,
@@ -142,7 +142,7 @@ fn meet<R: Threads + Wait + Abort + Clock + Sync>(
     Ok(ran)
 }
 
-/// Two scripts, each with two keys of its own.
+/// Two scripts, each with its own two keys.
 fn crossing_scripts(alloc: Global) -> Result<Vec<Script>, AllocError> {
     let first = [put(1, 10), put(2, 20)];
     let second = [put(3, 30), put(4, 40)];
@@ -171,8 +171,7 @@ fn is_aborted(entry: &Entry) -> bool {
 }
 
 /// Worker 1's action waits for worker 0's third release of the lock, when worker 0 has begun, asked
-/// and sought. So what stands between worker 0's question and its reply is worker 1's put and
-/// commit.
+/// and sought. So worker 1's put and commit are between worker 0's question and its reply.
 #[test]
 fn step_between(rt: HostRuntime) -> Result<(), Fail> {
     let first = [put(2, 20)];
@@ -230,7 +229,7 @@ fn run_once<R: Threads + Wait + Abort + Sync>(
     Ok(())
 }
 
-/// The same scripts by each of 1 to 6 workers, 300 runs in all.
+/// These scripts with 1 to 6 workers, 300 runs in all.
 #[test]
 fn run_any_workers(rt: HostRuntime) -> Result<(), Fail> {
     for round in 0..300 {
@@ -248,7 +247,7 @@ fn script(alloc: Global, number: u64) -> Result<Script, AllocError> {
     Ok(Script::new(actions))
 }
 
-/// The place of script `number`, committed with its replies; else 0.
+/// The commit number of script `number`, committed with its replies; else 0.
 fn own_place(number: u64, outcome: &Outcome) -> u64 {
     match outcome {
         Outcome::Committed { place, replies, .. }
@@ -257,7 +256,7 @@ fn own_place(number: u64, outcome: &Outcome) -> u64 {
     }
 }
 
-/// The places of all scripts, by rising place.
+/// The commit numbers of all scripts, rising.
 fn places(alloc: Global, ran: &Ran) -> Result<Vec<u64>, AllocError> {
     let mut places = Vec::new(alloc);
     for (number, outcome) in ran.outcomes.iter().enumerate() {
@@ -267,7 +266,7 @@ fn places(alloc: Global, ran: &Ran) -> Result<Vec<u64>, AllocError> {
     Ok(places)
 }
 
-/// Four workers. Each script is committed with its replies, at a place of its own.
+/// Four workers. Each script is committed with its replies, and no two with the same number.
 #[test]
 fn four_hundred_scripts(rt: HostRuntime) -> Result<(), Fail> {
     let alloc = rt.alloc();
@@ -286,7 +285,7 @@ fn four_hundred_scripts(rt: HostRuntime) -> Result<(), Fail> {
     Ok(())
 }
 
-/// What the scripts of `crossing_gate` come to on one worker; none where memory for that or a
+/// The result of the scripts of `crossing_gate` with one worker; `None` if memory for that or a
 /// thread is refused.
 fn ran_alone<R: Threads + Wait + Abort + Sync>(rt: &R, alloc: Global) -> Option<Ran> {
     let Ok(scripts) = crossing_scripts(alloc) else {
@@ -301,7 +300,7 @@ fn ran_alone<R: Threads + Wait + Abort + Sync>(rt: &R, alloc: Global) -> Option<
     }
 }
 
-/// How many transactions a history begins, commits and aborts.
+/// The numbers of transactions that a history begins, commits and aborts.
 fn counts(trace: &[Entry]) -> (usize, usize, usize) {
     let began = trace.iter().filter(|entry| is_began(entry)).count();
     let committed = trace.iter().filter(|entry| is_committed(entry)).count();
@@ -309,8 +308,8 @@ fn counts(trace: &[Entry]) -> (usize, usize, usize) {
     (began, committed, aborted)
 }
 
-/// Whether a history is legal, with nobody in a transaction. Where the checker is refused memory
-/// twice, it is not asked.
+/// Whether a history is legal, with no caller in a transaction. If the checker is refused memory
+/// twice, the history is taken as legal.
 fn is_legal<R: Abort>(rt: &R, alloc: Global, trace: &[Entry]) -> bool {
     assert!(rt; trace.iter().all(|entry| entry.caller() < 64));
     for _ in 0..2 {
@@ -330,7 +329,7 @@ fn is_refused_memory(outcome: &Outcome) -> bool {
     matches!(outcome, Outcome::Refused(Refusal::NoMemory))
 }
 
-/// Whether both scripts are committed; else they are refused memory, and nobody is left in a
+/// Whether both scripts are committed; if not, they were refused memory, and no caller is left in a
 /// transaction.
 fn is_whole<R: Abort>(rt: &R, alloc: Global, ran: &Ran) -> bool {
     let outcomes = ran.outcomes.as_slice();
@@ -348,9 +347,9 @@ fn is_whole<R: Abort>(rt: &R, alloc: Global, ran: &Ran) -> bool {
     done == 2
 }
 
-/// What a run leaves that is refused memory. `docs/tests/refused.sh` refuses it. One worker plays
-/// the scripts, until both are committed. Eight refusals in a row end eight runs at most; where the
-/// ninth is not whole either, memory is refused for good.
+/// The state after a run that is refused memory, by `docs/tests/refused.sh`. One worker plays the
+/// scripts, until both are committed. Eight refusals in a row end at most eight runs; if the ninth
+/// does not commit both either, memory is refused for good.
 #[test]
 fn refused_memory_for_crossing_scripts(rt: HostRuntime) {
     for _ in 0..9 {

@@ -1,4 +1,4 @@
-//! Atomic words of stripes, with the rights that lie behind them.
+//! Atomic words of stripes, with the rights that belong to them.
 ghost use Rattle.std.specs.Prelude.{◌≡◌, [], length};
 ghost use Rattle.key_words.specs.Seats.{AreSeats, IsOf, known, stripes_of};
 
@@ -10,7 +10,7 @@ use std::test::Fail;
 use std::thread;
 use std::thread::Threads;
 
-/// A seat that has done nothing, at its words, of which there are so many.
+/// A seat that has done nothing, at its words, and the number of these.
 #[derive(Drop)]
 struct Fresh {
     words: Arc<KeyWords, Global>,
@@ -23,7 +23,7 @@ struct Fresh {
     ghost empty: { (known seat).held ≡ [] },
 }
 
-/// A seat at its words, and the right that it was granted last, if it has not given that back.
+/// A seat at its words, and the right that it was granted last, unless it has given that back.
 #[derive(Drop)]
 struct Seated {
     words: Arc<KeyWords, Global>,
@@ -46,7 +46,7 @@ struct Keeping {
     ghost sized: { stripes_of words.value ≡ stripes },
 }
 
-/// The seats of so many stripes, the last first.
+/// The seats of this number of stripes, the last one first.
 fn fresh_seats(alloc: Global, stripes: usize, count: usize) -> Result<Vec<Fresh>, Fail> {
     if stripes == 0 || count == 0 || count > 64 {
         return Err("no seats".into());
@@ -58,7 +58,7 @@ fn fresh_seats(alloc: Global, stripes: usize, count: usize) -> Result<Vec<Fresh>
     Ok(at_words(alloc, Arc::new(alloc, words)?, stripes, seats)?)
 }
 
-/// The same of the seats of these words. They are taken out of their list.
+/// The seats of these words, taken out of their list.
 fn at_words(
     alloc: Global,
     words: Arc<KeyWords, Global>,
@@ -123,7 +123,7 @@ fn callers_of(alloc: Global, stripes: usize, count: usize) -> Result<Vec<Keeping
 }
 
 /// Takes a stripe, and answers the word that it found: 0 if the stripe is granted, by its own
-/// right. None if there is no such stripe, or the right is another's.
+/// right. `None` if there is no such stripe, or the right is another's.
 fn take(seated: &mut Seated, stripe: usize) -> Option<u64> {
     if stripe >= seated.stripes {
         return None;
@@ -138,8 +138,8 @@ fn take(seated: &mut Seated, stripe: usize) -> Option<u64> {
     }
 }
 
-/// Gives the right back that was granted last. Whether there is one: the stripe's word is the
-/// seat's own.
+/// Gives back the right that was granted last. Answers whether there is one: the stripe's word is
+/// the seat's own.
 fn give(seated: &mut Seated) -> bool {
     let Some(right) = seated.right.take() else {
         return false;
@@ -180,17 +180,17 @@ fn words_of_stripes(rt: HostRuntime) -> Result<(), Fail> {
     Ok(())
 }
 
-/// What a caller does in its turn.
+/// The turn of a caller.
 #[derive(Clone, Copy, Debug)]
 enum Turn {
-    /// It takes a stripe, and is to be answered this.
+    /// It takes a stripe, and must get this answer.
     Take(usize, Tried),
-    /// It gives all its rights back.
+    /// It gives back all its rights.
     GiveBack,
 }
 
-/// Plays a turn. The answer is whether a take answered what it is to, and the right at its place is
-/// the stripe's.
+/// Plays a turn. Answers whether a take had the answer that it must have, and the right at its
+/// position is the stripe's.
 fn is_answered(caller: &mut Keeping, turn: Turn) -> Result<bool, AllocError> {
     let Turn::Take(stripe, wanted) = turn else {
         caller.rights.give_back(&*caller.words);
@@ -206,7 +206,7 @@ fn is_answered(caller: &mut Keeping, turn: Turn) -> Result<bool, AllocError> {
     })
 }
 
-/// A take answers the place of the right if the caller has the stripe, the next place where the
+/// A take answers the position of the right if the caller has the stripe, the next position if the
 /// stripe is free, and one more than the other caller's number if that one has it.
 #[test]
 fn rights_of_two_callers(rt: HostRuntime) -> Result<(), Fail> {
@@ -232,7 +232,7 @@ fn rights_of_two_callers(rt: HostRuntime) -> Result<(), Fail> {
     Ok(())
 }
 
-/// How often each thread takes a stripe.
+/// The number of takes of each thread.
 const TRIES: usize = 100_000;
 
 /// Takes the 64 stripes in turn, and gives back each that is granted.
@@ -244,7 +244,7 @@ fn take_and_give_back<R: Abort>(rt: &R, seated: &mut Seated) {
     }
 }
 
-/// The same in a thread for each seat, all of which begin at the same stripe.
+/// All seats take and give back, each in its thread, all of them beginning at the same stripe.
 fn take_and_give_back_by_all<R: Threads + Wait + Abort + Sync>(rt: &R, seats: &mut [Seated]) {
     thread::scope(thread::scope_env(), rt, |scope| {
         for seated in seats {

@@ -1,5 +1,6 @@
 //! Cores at their limits. Memory may be refused to any call that takes some, so a body that gives
-//! up at a limit is proved; with ample memory these calls are answered as everywhere else.
+//! up at a limit would be proved; with enough memory these calls have the same answers as
+//! elsewhere.
 use super::{Call, begun_core, call_is, help_is, play_calls, put, put_helped};
 use crate::devices::{
     abort, back, core_with, has_map, limits_of, operate, pairs_of, run_steps, sizes_of, step_is,
@@ -10,7 +11,7 @@ use std::process::Abort;
 use std::test::Fail;
 use txn_trace::{Answer, Op, Refusal, Step};
 
-/// Callers, stripes and buckets: of each the least and the most.
+/// Numbers of callers, stripes and buckets: the least and the greatest of each.
 static SIZES: [(u64, u64, u64); 4] = [
     (1, 1, 2),
     (1, 4_096, 65_536),
@@ -60,7 +61,7 @@ fn works_on_keys(rt: &impl Abort, core: &mut Core, caller: u64) -> Result<(), Fa
     Ok(())
 }
 
-/// Each caller has a transaction of its own, and helps; there is none of the next number.
+/// Each caller runs a transaction, and helps; there is no caller of the next number.
 fn callers_work(rt: &impl Abort, core: &mut Core, callers: u64) -> Result<(), Fail> {
     let mut count: u64 = 0;
     for caller in 0..callers {
@@ -108,7 +109,7 @@ fn last_stripe(rt: HostRuntime) -> Result<(), Fail> {
     play_calls(&rt, rt.alloc(), &mut core, &LAST_STRIPE)
 }
 
-/// Caller 0 makes so many savepoints, each after one more key.
+/// Caller 0 makes this number of savepoints, each after one more key.
 fn save_all(rt: &impl Abort, core: &mut Core, levels: u64) -> Result<(), Fail> {
     let mut level: u64 = 0;
     for _ in 0..levels {
@@ -140,7 +141,7 @@ fn levels_to_a_thousand(rt: HostRuntime) -> Result<(), Fail> {
     Ok(())
 }
 
-/// Caller 0 changes a key so often, from 0 on, each time to one more.
+/// Caller 0 changes a key this number of times, from 0 on, each time to one more.
 fn change_often(rt: &impl Abort, core: &mut Core, times: u64) -> Result<(), Fail> {
     let mut value: u64 = 0;
     for _ in 0..times {
@@ -152,10 +153,11 @@ fn change_often(rt: &impl Abort, core: &mut Core, times: u64) -> Result<(), Fail
     Ok(())
 }
 
-/// How many jobs stand in a log: as many as in the log itself, one more, and very many.
+/// Numbers of jobs in a log: as many as fit into the log itself, one more, and very many.
 static JOBS: [u64; 3] = [8, 9, 100_000];
 
-/// Caller 0 changes a key that is 0 so often in one transaction, and takes all back.
+/// Caller 0 changes a key that is 0 this number of times in one transaction, and takes all changes
+/// back.
 fn jobs_are(rt: &impl Abort, core: &mut Core, times: u64) -> Result<(), Fail> {
     change_often(rt, core, times)?;
     assert_eq!(rt; operate(core, 0, Op::Get(5))?, Answer::Done(Some(times)));
@@ -187,7 +189,7 @@ fn logs_to_100_000_jobs(rt: HostRuntime) -> Result<(), Fail> {
     logs_are(&rt, &mut core, &JOBS)
 }
 
-/// So many sweeps by one call, each of which finds nothing.
+/// This number of sweeps by one call, none of which finds a marked node.
 fn run_many(rt: &impl Abort, alloc: Global, core: &mut Core, count: usize) -> Result<(), Fail> {
     let mut steps = Vec::new(alloc);
     for _ in 0..count {
@@ -199,7 +201,7 @@ fn run_many(rt: &impl Abort, alloc: Global, core: &mut Core, count: usize) -> Re
     Ok(())
 }
 
-/// Sees that list and map have so many pairs.
+/// Checks that list and map have this number of pairs.
 fn has_many(rt: &impl Abort, alloc: Global, core: &Core, count: usize) -> Result<(), Fail> {
     let pairs = pairs_of(alloc, core)?;
     assert_eq!(rt; pairs.len(), count);

@@ -1,5 +1,5 @@
-//! Pairs of keys that share a split key, a key below 2^63 and the same with 2^63 more: two callers'
-//! steps in every order, each compared with a plain map that has an undo of its own.
+//! Pairs of keys that share a split key, a key below 2^63 and the one with 2^63 more: two callers'
+//! steps in every order, each compared with a plain map that has its own undo.
 use super::plain_map::{PlainMap, Stage};
 use crate::devices::{core_with, limits_of, pairs_of, sizes_of, step_is, take_step};
 use boost_core::Core;
@@ -8,13 +8,13 @@ use std::process::Abort;
 use std::test::Fail;
 use txn_trace::{Answer, Op, Step};
 
-/// On how many pairs the orders are tried, one after the other.
+/// The number of pairs on which the orders are tried, one after the other.
 const PAIRS: u64 = 24;
 
-/// The orders of two lists of seven steps: bit by bit, whose step comes next.
+/// The orders of two lists of seven steps: bit by bit, whose step is next.
 const ORDERS: u32 = 1 << 14;
 
-/// What a caller does on its own key, or on both keys of the pair.
+/// The operations of a caller on its own key, or on both keys of the pair.
 #[derive(Clone, Copy, Debug)]
 enum Plan {
     PutAborted,
@@ -52,15 +52,15 @@ impl Plan {
     }
 }
 
-/// The plain map that a core is compared with, and whose step was the last.
+/// The plain map with which a core is compared, and the caller whose step was the last.
 #[derive(Drop)]
 struct Compared {
     plain: PlainMap,
     last: Option<u64>,
 }
 
-/// Takes a step of a caller. A place that no longer fits is sought anew at once: that may be wanted
-/// only if the other caller, whose step was the last, came between.
+/// Takes a step of a caller. A position that no longer fits is sought again at once: that may be
+/// needed only if the other caller, whose step was the last, acted in between.
 fn take_anew(
     rt: &impl Abort,
     core: &mut Core,
@@ -77,7 +77,7 @@ fn take_anew(
     Ok(answer)
 }
 
-/// Sees that the plain map answers a step of a caller so.
+/// Checks that the plain map has this answer to a step of a caller.
 fn agrees(
     rt: &impl Abort,
     compared: &mut Compared,
@@ -91,7 +91,7 @@ fn agrees(
     Ok(())
 }
 
-/// Takes a step of a caller, and compares the answer and how many keys there are.
+/// Takes a step of a caller, and compares the answer and the number of keys.
 fn take(
     rt: &impl Abort,
     core: &mut Core,
@@ -119,7 +119,7 @@ fn end(rt: &impl Abort, core: &mut Core, compared: &mut Compared, caller: u64) -
     Ok(())
 }
 
-/// Sees that the list has the pairs of the plain map, in split order and then by key.
+/// Checks that the list has the pairs of the plain map, in split order and then by key.
 fn compare(rt: &impl Abort, alloc: Global, core: &Core, compared: &Compared) -> Result<(), Fail> {
     let pairs = pairs_of(alloc, core)?;
     let wanted = compared.plain.in_split_order(alloc)?;
@@ -216,12 +216,12 @@ fn initialise(rt: &impl Abort, core: &mut Core) -> Result<(), Fail> {
     Ok(())
 }
 
-/// The key of a pair that is below 2^63.
+/// The lower key of a pair, below 2^63.
 fn lower_of(pair: u64) -> u64 {
     (pair % PAIRS).wrapping_mul(401)
 }
 
-/// The key of a pair that is 2^63 more.
+/// The upper key of a pair, 2^63 more.
 fn upper_of(pair: u64) -> u64 {
     lower_of(pair) | 1 << 63
 }
@@ -235,8 +235,8 @@ fn prepare_all(rt: &impl Abort, core: &mut Core, compared: &mut Compared) -> Res
     initialise(rt, core)
 }
 
-/// Two plans on a pair: how many stripes there are, whether the keys of the pair are there before,
-/// and what the callers do.
+/// Two plans on a pair: the number of stripes, whether the keys of the pair are there before, and
+/// the two plans.
 type Case = (u64, bool, Plan, Plan);
 
 /// One order of two plans, on a pair.
@@ -293,20 +293,20 @@ fn compare_case(
     compare(rt, alloc, core, compared)
 }
 
-/// The same beside a plain map.
+/// Tries a case on a core, compared with a plain map.
 fn try_beside(rt: &impl Abort, alloc: Global, core: &mut Core, case: &Case) -> Result<(), Fail> {
     let mut compared = plain_of(alloc, case);
     compare_case(rt, alloc, core, &mut compared, case)
 }
 
-/// The same on a core of its own.
+/// Tries a case on a new core.
 fn try_case(rt: &impl Abort, alloc: Global, case: &Case) -> Result<(), Fail> {
     let mut core = core_with(alloc, limits_of(2, case.0, 32)?)?;
     try_beside(rt, alloc, &mut core, case)
 }
 
-/// With 7 stripes the two keys of a pair have stripes of their own, so that both callers work; with
-/// 8 they share one, and whoever asks second is busy.
+/// With 7 stripes the two keys of a pair have different stripes, so that both callers work; with 8
+/// they share one, and the caller that asks second is busy.
 static CASES: [Case; 8] = [
     (7, false, Plan::PutAborted, Plan::PutAborted),
     (7, false, Plan::PutAndTake, Plan::PutAborted),

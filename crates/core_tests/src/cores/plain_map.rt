@@ -1,10 +1,10 @@
-//! What the steps of two callers are answered on a plain map that has stripes, and an undo for each
+//! The answers to the steps of two callers on a plain map that has stripes, and an undo for each
 //! caller.
 use std::alloc::{AllocError, Global};
 use std::collections::BTreeMap;
 use txn_trace::{Answer, Op, Refusal, Step};
 
-/// Where a caller is.
+/// The stage of a caller.
 #[derive(Clone, Copy, Debug, PartialEq, Eq)]
 pub(super) enum Stage {
     Closed,
@@ -14,8 +14,8 @@ pub(super) enum Stage {
     Aborting,
 }
 
-/// A caller: where it is, the stripes that it holds, and of each change the key with the value
-/// before it.
+/// A caller: its stage, the stripes that it holds, and of each change the key with the value before
+/// it.
 #[derive(Drop)]
 struct Player {
     stage: Stage,
@@ -49,7 +49,7 @@ impl Player {
         self.undo.clear();
     }
 
-    /// The refusal of what only an open caller with nothing unfinished may do.
+    /// The refusal of a step that only an open caller with nothing unfinished may take.
     fn unready(&self) -> Option<Refusal> {
         match self.stage {
             Stage::Closed => Some(Refusal::NotOpen),
@@ -106,7 +106,7 @@ impl PlainMap {
         Ok(pairs)
     }
 
-    /// Does a step of a caller, and gives what it is answered.
+    /// Takes a step of a caller, and answers its answer.
     pub(super) fn answer(&mut self, step: Step) -> Result<Answer, AllocError> {
         match step {
             Step::Begin(caller) => Ok(self.begin(caller)),
@@ -178,7 +178,7 @@ impl PlainMap {
         Ok(Answer::Done(before))
     }
 
-    /// Takes the newest change back, or ends the taking back.
+    /// Takes back the newest change, or ends the undoing.
     fn undo_one(&mut self, caller: u64) -> Result<Answer, AllocError> {
         match self.player(caller).undo.pop() {
             Some((key, Some(value))) => {

@@ -1,5 +1,5 @@
-//! What refused memory leaves of a core: tests that are also run with each allocation refused in
-//! turn, and with all from one on.
+//! The state of a core after memory was refused: tests that are also run with each allocation
+//! refused in turn, and with all from one on.
 use crate::devices::{
     abort, core_if_made, limits_of, owed_by, pairs_of, sizes_of, step_is, take_step, trace_of,
 };
@@ -9,14 +9,13 @@ use std::process::Abort;
 use std::test::Fail;
 use txn_trace::{Answer, Op, Refusal, Reply, Step};
 
-/// How many entries there are, how many buckets and keys, and how many entries are owed, for which
-/// no memory is wanted.
+/// The numbers of entries, buckets and keys, and of the entries owed, which take no memory to read.
 fn figures(core: &Core) -> (usize, (u32, u64), usize) {
     (trace_of(core).len(), sizes_of(core), owed_by(core))
 }
 
-/// Takes a step. If it is refused memory, all is as it was before, and the answer is false. The
-/// pairs are compared if there is memory for their lists.
+/// Takes a step. If it is refused memory, nothing has changed, and the answer is false. The pairs
+/// are compared if there is memory for their lists.
 fn try_step(
     rt: &impl Abort,
     alloc: Global,
@@ -39,7 +38,7 @@ fn try_step(
     Ok(false)
 }
 
-/// Takes steps up to one that is refused memory, where all stays: then the answer is false.
+/// Takes steps up to one that is refused memory, which changes nothing: then the answer is false.
 fn try_steps(
     rt: &impl Abort,
     alloc: Global,
@@ -91,7 +90,7 @@ fn put_and_take(
     Ok(try_steps(rt, alloc, core, &put)? && try_steps(rt, alloc, core, &take)?)
 }
 
-/// Five callers begin and change a key each three times; false if memory is refused.
+/// Five callers begin and change a key three times each; false if memory is refused.
 fn change_five(rt: &impl Abort, alloc: Global, core: &mut Core) -> Result<bool, Fail> {
     for caller in 0..5 {
         if !begin_and_put(rt, alloc, core, caller)? {
@@ -106,8 +105,8 @@ fn change_five(rt: &impl Abort, alloc: Global, core: &mut Core) -> Result<bool, 
     Ok(true)
 }
 
-/// Sees that five keys have this value. The pairs are compared if there is memory for their
-/// list, and else counted.
+/// Checks that five keys have this value. The pairs are compared if there is memory for their list,
+/// and else counted.
 fn has_five(rt: &impl Abort, alloc: Global, core: &Core, value: u64) {
     assert_eq!(rt; sizes_of(core), (2, 5));
     let wanted = [(4, value), (2, value), (1, value), (5, value), (3, value)];
@@ -116,7 +115,7 @@ fn has_five(rt: &impl Abort, alloc: Global, core: &Core, value: u64) {
     }
 }
 
-/// Each caller takes its newest change back, after which each key has this value.
+/// Each caller takes back its newest change, after which each key has this value.
 fn undo_five(
     rt: &impl Abort,
     alloc: Global,
@@ -134,7 +133,7 @@ fn undo_five(
     Ok(())
 }
 
-/// Five callers abort, and leave from there.
+/// Five callers abort, and are leaving from then on.
 fn leave_five(rt: &impl Abort, core: &mut Core) -> Result<(), Fail> {
     assert_eq!(rt; owed_by(core), 25);
     for caller in 0..5 {
@@ -152,7 +151,7 @@ fn end_five(rt: &impl Abort, core: &mut Core) -> Result<(), Fail> {
     Ok(())
 }
 
-/// Five callers change a key each three times, if memory is not refused, and take their changes
+/// Five callers change a key three times each, if memory is not refused, and take their changes
 /// back in turn.
 fn change_and_undo_five(rt: &impl Abort, alloc: Global, core: &mut Core) -> Result<(), Fail> {
     if !change_five(rt, alloc, core)? {
@@ -165,8 +164,8 @@ fn change_and_undo_five(rt: &impl Abort, alloc: Global, core: &mut Core) -> Resu
     end_five(rt, core)
 }
 
-/// Aborts the callers below a number, each of which may not have begun, and looks that nothing is
-/// left. No memory is wanted.
+/// Aborts the callers below a number, each of which may not have begun, and checks that nothing is
+/// left. Needs no memory.
 fn abort_all(rt: &impl Abort, core: &mut Core, callers: u64) {
     for caller in 0..callers {
         let answer = abort(core, caller);
@@ -183,8 +182,8 @@ fn play_five(rt: &impl Abort, alloc: Global, core: &mut Core) -> Result<(), Fail
     Ok(())
 }
 
-/// If memory is refused every caller aborts, for which none is wanted. Without a core there is
-/// nothing to show.
+/// If memory is refused every caller aborts, which needs none. Without a core there is nothing to
+/// show.
 #[test]
 fn five_callers_undone(rt: HostRuntime) -> Result<(), Fail> {
     let limits = limits_of(5, 8, 8)?;
@@ -244,8 +243,7 @@ static SECOND_SEGMENT: [(Step, Answer); 12] = [
     (Step::InitSeek(0, 64), Answer::Ready),
 ];
 
-/// Fills the table and stores the bucket; or the caller aborts if a step is refused memory
-/// twice.
+/// Fills the table and stores the bucket; or the caller aborts if a step is refused memory twice.
 fn fill_segments(rt: &impl Abort, alloc: Global, core: &mut Core) -> Result<(), Fail> {
     let is_done = put_many(rt, alloc, core)? && try_steps_twice(rt, alloc, core, &SECOND_SEGMENT)?;
     if !is_done {
@@ -257,9 +255,8 @@ fn fill_segments(rt: &impl Abort, alloc: Global, core: &mut Core) -> Result<(), 
     Ok(())
 }
 
-/// Bucket 64 is the first of the second segment, so its store takes memory. Where a step is refused
-/// it may be taken again, and if it is refused again the caller aborts, for which no memory is
-/// wanted.
+/// Bucket 64 is the first of the second segment, so its store takes memory. A step that is refused
+/// may be taken again, and if it is refused again the caller aborts, which needs no memory.
 #[test]
 fn segments(rt: HostRuntime) -> Result<(), Fail> {
     let limits = limits_of(1, 8, 128)?;

@@ -1,4 +1,4 @@
-//! Operations that are asked for where stripes are words.
+//! Operations that are asked for when stripes are words.
 use crate::devices::{core_of, limits_of, take_step, trace_of};
 use boost_core::Core;
 use key_locks::StripeRight;
@@ -28,7 +28,7 @@ fn ask_by_right(core: &mut Core, right: &StripeRight, caller: u64, op: Op) -> Re
     Ok(core.ask_with(caller, op, right))
 }
 
-/// Asks where a word stands.
+/// Asks with the word of the stripe.
 fn ask_by_word(core: &mut Core, caller: u64, op: Op, word: u64) -> Result<Answer, Fail> {
     if !core.words() {
         return Err("stripes are no words".into());
@@ -39,7 +39,8 @@ fn ask_by_word(core: &mut Core, caller: u64, op: Op, word: u64) -> Result<Answer
     Ok(core.ask_held(caller, op, word))
 }
 
-/// A step, or an operation that is asked for with the right or where a word stands.
+/// A step, or an operation that is asked for with the right to its stripe or with the stripe's
+/// word.
 #[derive(Clone, Copy, Debug)]
 enum Ask {
     Step(Step),
@@ -121,7 +122,7 @@ fn play(rt: &impl Abort, alloc: Global, core: &mut Core) -> Result<(), Fail> {
     Ok(())
 }
 
-/// A core is ordinary unless it is made with words.
+/// A core has stripes that are not words, unless it is made with words.
 fn is_ordinary(rt: &impl Abort, alloc: Global) -> Result<(), Fail> {
     let core = core_of(alloc, 3)?;
     assert!(rt; !has_words(&core));

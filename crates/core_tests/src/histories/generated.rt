@@ -3,7 +3,7 @@ use super::plain::{self, Place};
 use std::alloc::{AllocError, Global};
 use txn_trace::{Entry, Holder, Op};
 
-/// The callers of a history that has so many of them.
+/// The callers of a history, if it has this number of them.
 const CALLERS: [u64; 4] = [0, 1, 7, 63];
 
 /// Numbers that a seed determines, by Knuth's linear congruential generator (MMIX).
@@ -11,7 +11,7 @@ const CALLERS: [u64; 4] = [0, 1, 7, 63];
 pub(super) struct Draws(pub(super) u64);
 
 impl Draws {
-    /// A number below the bound, where that is not 0.
+    /// A number below the bound, if that is not 0.
     pub(super) fn below(&mut self, bound: u64) -> u64 {
         self.0 = self
             .0
@@ -20,7 +20,7 @@ impl Draws {
         (self.0 >> 33).checked_rem(bound).unwrap_or(0)
     }
 
-    /// One of the first callers, of which there are so many.
+    /// One of this number of first callers.
     fn caller(&mut self, callers: u64) -> u64 {
         let place = self.below(callers);
         CALLERS.get(place as usize).copied().unwrap_or(0)
@@ -43,7 +43,7 @@ impl Draws {
     }
 }
 
-/// A legal history of so many entries, whose Busy entries name such a caller.
+/// A legal history of this number of entries, whose Busy entries name such a caller.
 pub(super) fn legal_history(
     alloc: Global,
     draws: &mut Draws,
@@ -93,7 +93,7 @@ fn next_entry(
     })
 }
 
-/// An entry that the caller may add in an open transaction with so many levels.
+/// An entry that the caller may add in an open transaction with this number of levels.
 fn next_in_open(
     draws: &mut Draws,
     history: &[Entry],
@@ -117,8 +117,8 @@ fn next_in_open(
     }
 }
 
-/// What comes of an operation in an open transaction: it is asked for, or a holder of its stripe is
-/// in the way. Where its stripe was looked at early, that is any other caller that has begun.
+/// The entry for an operation in an open transaction: it is asked for, or its stripe is held. If
+/// its stripe was tested early, the holder may be any other caller that has begun.
 fn next_operation(history: &[Entry], caller: u64, op: Op, stripes: u64, is_early: bool) -> Entry {
     let stripe = plain::stripe_of(op, stripes);
     for other in CALLERS {
@@ -162,7 +162,7 @@ fn change_operation(draws: &mut Draws, history: &mut [Entry], place: usize) {
     }
 }
 
-/// The entry with another number, reply, operation or caller; now and then with the same.
+/// The entry with another number, reply, operation or caller; sometimes unchanged.
 fn change_entry(draws: &mut Draws, entry: Entry) -> Entry {
     let caller = entry.caller();
     let other = draws.caller(4);

@@ -1,9 +1,9 @@
-//! The rules of a legal history word for word, on whole maps: the slow program that the checker is
-//! compared with.
+//! The rules of a legal history word for word, on whole maps: the slow program with which the
+//! checker is compared.
 //!
-//! It judges each beginning of a history from nothing. It counts and looks back in the list of
-//! entries where the checker keeps numbers, and it runs each transaction again on copies of maps
-//! where the checker keeps one map.
+//! It judges each prefix of a history from the beginning. It counts and looks back in the list of
+//! entries, while the checker keeps numbers, and it runs each transaction again on copies of maps,
+//! while the checker keeps one map.
 
 use history_check::{Rule, Verdict};
 use std::alloc::{AllocError, Global};
@@ -12,7 +12,7 @@ use txn_trace::{Entry, Holder, Op, Reply};
 
 type Values = BTreeMap<u64, u64>;
 
-/// Where a caller is in the state table.
+/// The state of a caller in the state table.
 #[derive(Clone, Copy, Debug, PartialEq, Eq)]
 pub(super) enum Place {
     Closed,
@@ -40,7 +40,8 @@ pub(super) fn last_of(
     Ok(entries)
 }
 
-/// Where a transaction's entries leave its caller: the last of them says it, but for an Undone.
+/// The state of a caller after a transaction's entries: the last entry other than an Undone says
+/// it.
 pub(super) fn place_after(entries: &[Entry]) -> Place {
     for entry in entries.iter().rev() {
         return match *entry {
@@ -57,7 +58,8 @@ pub(super) fn place_after(entries: &[Entry]) -> Place {
     Place::Closed
 }
 
-/// How many changes stand after a transaction's entries: those done, but for those taken back.
+/// The number of changes that stand after a transaction's entries: those done, without those taken
+/// back.
 pub(super) fn count_standing(entries: &[Entry]) -> usize {
     let mut asked = None;
     let mut done: usize = 0;
@@ -83,7 +85,7 @@ fn is_change_done(asked: Option<Op>, reply: Reply) -> bool {
     }
 }
 
-/// How many changes stood at each level: none at level 0, then those at each savepoint that is
+/// The numbers of changes at each level: none at level 0, then those at each savepoint that is
 /// left.
 pub(super) fn standing_at_levels(
     alloc: Global,
@@ -100,7 +102,7 @@ pub(super) fn standing_at_levels(
     Ok(kept)
 }
 
-/// How many transactions began, are committed and aborted.
+/// The numbers of transactions that began, committed and aborted.
 #[derive(Clone, Copy)]
 pub(super) struct Counts {
     pub(super) began: u64,
@@ -160,7 +162,7 @@ fn may_come_in_open(entry: &Entry, kept: &[usize], committed: u64) -> bool {
     }
 }
 
-/// Whether an entry may come on the way to a level, at which so many changes stood.
+/// Whether an entry may come on the way to a level, at which this number of changes stood.
 fn may_come_on_the_way(entry: &Entry, level: u64, kept: usize, standing: usize) -> bool {
     match *entry {
         Entry::Undone(_) => kept < standing,
@@ -226,7 +228,7 @@ fn is_locked(history: &[Entry], entry: &Entry, stripes: u64, holder: Holder) -> 
     }
 }
 
-/// The map that an operation leaves.
+/// The map after an operation.
 fn map_after(values: &Values, op: Op) -> Result<Values, AllocError> {
     let mut left = values.clone()?;
     match op {
@@ -246,7 +248,7 @@ fn map_after(values: &Values, op: Op) -> Result<Values, AllocError> {
     Ok(left)
 }
 
-/// What an operation answers.
+/// The reply of an operation.
 fn reply_of(values: &Values, op: Op) -> Reply {
     values.get(&op.key()).copied()
 }
@@ -264,10 +266,10 @@ fn is_change(values: &Values, op: Op) -> bool {
 /// A transaction that runs alone.
 #[derive(Drop)]
 struct Running {
-    /// The map that it began with, and after each change that stands the map that it left.
+    /// The map at its beginning, and after each change that stands.
     maps: Vec<Values>,
     pending: Option<Op>,
-    /// How many maps there were at each level, 1 at level 0.
+    /// The number of maps at each level, 1 at level 0.
     notes: Vec<usize>,
 }
 
@@ -300,7 +302,7 @@ impl Running {
         Ok(true)
     }
 
-    /// The operation that is pending has its reply; answers whether that is the last map's.
+    /// Takes in the reply of the pending operation; answers whether that is the last map's.
     fn reply(&mut self, reply: Reply) -> Result<bool, AllocError> {
         let (Some(op), Some(last)) = (self.pending.take(), self.maps.last()) else {
             return Ok(false);
@@ -316,8 +318,7 @@ impl Running {
     }
 }
 
-/// The last map of a transaction that runs alone on these values; none if it has another reply
-/// than it would have.
+/// The last map of a transaction that runs alone on these values; `None` if it has a wrong reply.
 fn run_alone(
     start: &Values,
     entries: &[Entry],
@@ -332,7 +333,7 @@ fn run_alone(
     Ok(run.maps.pop())
 }
 
-/// The reply that the operation a caller waits for has where its transaction runs alone.
+/// The reply that the operation a caller waits for has if its transaction runs alone.
 pub(super) fn reply_alone(
     alloc: Global,
     history: &[Entry],
@@ -360,8 +361,8 @@ fn serial_map(alloc: Global, history: &[Entry]) -> Result<Values, AllocError> {
     Ok(values)
 }
 
-/// Whether each open transaction has the replies of running alone after the committed ones. Where
-/// an entry is a caller's last Began, its transaction's entries are the caller's from there on.
+/// Whether each open transaction has the replies of running alone after the committed ones. If an
+/// entry is a caller's last Began, its transaction's entries are the caller's from there on.
 fn replies_hold(alloc: Global, history: &[Entry]) -> Result<bool, AllocError> {
     let settled = serial_map(alloc, history)?;
     for entry in history {
@@ -374,7 +375,7 @@ fn replies_hold(alloc: Global, history: &[Entry]) -> Result<bool, AllocError> {
     Ok(true)
 }
 
-/// The rule that the last entry of a beginning breaks.
+/// The rule that the last entry of a prefix breaks.
 fn broken_rule(
     alloc: Global,
     beginning: &[Entry],
@@ -408,8 +409,8 @@ pub(super) fn first_bad(
     Ok(None)
 }
 
-/// The verdict on a history of which this is the first bad entry. A caller is in a transaction from
-/// its Began to its end.
+/// The verdict on a history with this first bad entry. A caller is in a transaction from its Began
+/// to its end.
 pub(super) fn verdict(history: &[Entry], bad: Option<(usize, Rule)>) -> Verdict {
     if let Some((entry, rule)) = bad {
         let entry = entry as u64;

@@ -1,4 +1,4 @@
-//! What `check` prints of history files.
+//! The output of `check` for history files.
 
 use super::mixes::{HISTORY_OF_VERSION_2, ONE_HISTORY};
 use super::{Command, Files};
@@ -10,14 +10,14 @@ pub const CHECKED: &str =
     [\"leave\",1,null],[\"undone\",1],[\"aborted\",1],[\"began\",0,3],[\"asked\",0,\"get\",1],\
     [\"did\",0,10],[\"committed\",0,2]]}";
 
-/// The same with gaps for the last reply and for the step that takes back.
+/// The history `CHECKED` with gaps for the last reply and for the step that takes back.
 const CHECKED_OF: &str =
     "{\"version\":1,\"stripes\":8,\"entries\":[[\"began\",0,1],[\"asked\",0,\"put\",1,10],\
     [\"did\",0,null],[\"committed\",0,1],[\"began\",1,2],[\"asked\",1,\"put\",1,99],[\"did\",1,10],\
     [\"leave\",1,null],@[\"aborted\",1],[\"began\",0,3],[\"asked\",0,\"get\",1],\
     #,[\"committed\",0,2]]}";
 
-/// The same with a gap for the number of stripes.
+/// The history `CHECKED` with a gap for the number of stripes.
 const STRIPES_OF: &str =
     "{\"version\":1,\"stripes\":@,\"entries\":[[\"began\",0,1],[\"asked\",0,\"put\",1,10],\
     [\"did\",0,null],[\"committed\",0,1],[\"began\",1,2],[\"asked\",1,\"put\",1,99],[\"did\",1,10],\
@@ -35,7 +35,7 @@ const OF_VERSION_2: &str = r#"{"version":2,"stripes":8,"entries":[#]}"#;
 
 const IN_VERSION: &str = r#"{"version":@,"stripes":8,"entries":[#]}"#;
 
-/// History files, and what is printed of them.
+/// History files, and the output for each.
 pub const FILES: &[Files] = &[
     // `checker_replies`; and a wrong shape behind it.
     Files {
@@ -178,7 +178,8 @@ pub const FILES: &[Files] = &[
         printed: "refused 22\n",
         status: 3,
     },
-    // `put_if_history`: a change of `put_if` is taken back once, what changed nothing never.
+    // `put_if_history`: a change by `put_if` is taken back once, a `put_if` that changed nothing
+    // never.
     Files {
         command: Command::Check,
         frame: OF_VERSION_2,
@@ -252,7 +253,7 @@ pub const FILES: &[Files] = &[
         printed: "illegal entry 1 rule 2\n",
         status: 1,
     },
-    // The history of `mix_one_worker`, and another that is mixed.
+    // The history of `mix_one_worker`, and another one of `mix`.
     Files {
         command: Command::Check,
         frame: ONE_HISTORY,

@@ -15,7 +15,7 @@ use std::test::Fail;
 use std::thread::Threads;
 use txn_files::{FileFault, Part};
 
-/// A command, a file, and what is printed of it.
+/// A command, a file, and the output.
 type Printed = (Command, &'static str, &'static str);
 
 const OF_EACH_COMMAND: &[Printed] = &[
@@ -59,7 +59,7 @@ fn failing_reads(rt: HostRuntime) {
     }
 }
 
-/// A write that fails, or takes nothing, is not tried again: a beginning is written.
+/// A write that fails, or takes nothing, is not tried again: a prefix is written.
 fn fail_writes<T: Abort + Threads + Wait + Sync>(
     rt: &T,
     alloc: Global,
@@ -98,13 +98,13 @@ fn reads_no_more_than_shows_too_much(rt: HostRuntime) {
     assert!(rt; input.given == 16_777_217 && ended.output.calls == 0);
 }
 
-/// Whether one of these texts is this one.
+/// Whether this text is one of these.
 fn is_among(known: &[&str], text: &str) -> bool {
     known.iter().any(|one| *one == text)
 }
 
-/// Checks that one of these texts is printed, or if memory is refused, or of a run a thread,
-/// nothing.
+/// Checks that one of these texts is printed, or nothing if memory, or for a run a thread, is
+/// refused.
 fn refuse_memory<T: Abort + Threads + Wait + Sync>(
     rt: &T,
     alloc: Global,
@@ -123,34 +123,34 @@ fn refuse_memory<T: Abort + Threads + Wait + Sync>(
     }
 }
 
-/// The reports of one commit: the whole one, and those where memory was refused to the begin or the
-/// ask.
+/// The reports of one commit: the whole one, and those in which memory was refused to the begin or
+/// the ask.
 const REPORTS: &[&str] = &[
     FIRST_REPORT,
     "refused 14\nrefused 3\nrefused 3\nrefused 3\nrefused 3\nsize 2 count 0\n",
     "began 1\nrefused 14\nrefused 8\nrefused 8\ncommitted 1\nsize 2 count 0\n",
 ];
 
-/// Is to be run with each allocation refused in turn: nothing is written, or the step that was
+/// Meant to be run with each allocation refused in turn: nothing is written, or the step that was
 /// refused memory has changed nothing.
 #[test]
 fn refused_allocations(rt: HostRuntime) {
     refuse_memory(&rt, rt.alloc(), Command::Replay, FIRST_COMMIT, REPORTS);
 }
 
-/// Is to be run with each allocation refused in turn: the whole line is written, or nothing.
+/// Meant to be run with each allocation refused in turn: the whole line is written, or nothing.
 #[test]
 fn history_without_memory(rt: HostRuntime) {
     refuse_memory(&rt, rt.alloc(), Command::Check, CHECKED, &[LEGAL]);
 }
 
-/// One worker with two scripts, of which the first sets a savepoint.
+/// One worker with two scripts, the first of which sets a savepoint.
 const TWO_SCRIPTS: &str =
     "{\"version\":1,\"workers\":1,\"stripes\":8,\"buckets\":8,\"tries\":0,\"scripts\":[[[\"put\",1,\
     10],[\"save\"]],[[\"get\",1]]]}";
 
-/// The histories of these scripts: the whole one, and those where memory was refused to one step of
-/// it, which ended its script: to the begin, the ask or the save of the first script, or to the
+/// The histories of these scripts: the whole one, and those in which memory was refused to one
+/// step, which ended its script: to the begin, the ask or the save of the first script, or to the
 /// begin or the ask of the second.
 const TWO_SCRIPTS_HISTORIES: &[&str] = &[
     "{\"entries\":[[\"began\",0,1],[\"asked\",0,\"put\",1,10],[\"did\",0,null],[\"saved\",0],\
@@ -170,7 +170,7 @@ const TWO_SCRIPTS_HISTORIES: &[&str] = &[
         \"version\":1}\n",
 ];
 
-/// Is to be run with each allocation refused in turn: nothing is written, or a whole history, in
+/// Meant to be run with each allocation refused in turn: nothing is written, or a whole history, in
 /// which the script whose step was refused memory has changed nothing.
 #[test]
 fn mix_without_memory(rt: HostRuntime) {
@@ -183,8 +183,8 @@ fn mix_without_memory(rt: HostRuntime) {
     );
 }
 
-/// Is to be run with each allocation refused in turn: nothing is written, or the whole history of a
-/// worker, whether its script was refused memory or not.
+/// Meant to be run with each allocation refused in turn: nothing is written, or the whole history
+/// of a worker, whether its script was refused memory or not.
 #[test]
 fn run_without_memory(rt: HostRuntime) {
     let known = [SHORT_RUN, NO_ENTRIES];
@@ -207,7 +207,7 @@ const LINES: &[(Fault, &str, u8)] = &[
     (Fault::OutOfStep, "out of step", 4),
 ];
 
-/// A fault as text, which its message is too; and its status.
+/// The text of a fault, which is its message too, and its status.
 fn line_of(alloc: Global, fault: &Fault) -> Result<(String, String, u8), Fail> {
     let message = fault.message().to_string(alloc)?;
     Ok((fault.to_string(alloc)?, message, fault.status()))

@@ -1,4 +1,4 @@
-//! What `mix` prints of script files.
+//! The output of `mix` for script files.
 
 use super::{Command, Files, compare_file, run_on};
 use crate::devices::Narrow;
@@ -7,7 +7,7 @@ use std::process::Abort;
 use std::sync::Wait;
 use std::thread::Threads;
 
-/// One worker with two scripts, of which the second aborts.
+/// One worker with two scripts, the second of which aborts.
 pub const ONE_WORKER: &str =
     "{\"version\":1,\"workers\":1,\"stripes\":8,\"buckets\":8,\"tries\":0,\"scripts\":[[[\"put\",1,\
     10],[\"save\"],[\"take\",1],[\"back\",1]],[[\"get\",1],[\"abort\"]]]}";
@@ -39,7 +39,7 @@ pub const BAD_KEY: &str =
 pub const WORKERS_OF: &str =
     r#"{"version":1,"workers":@,"stripes":8,"buckets":8,"tries":0,"scripts":#}"#;
 
-/// Script files, and what is printed of them.
+/// Script files, and the output for each.
 pub const FILES: &[Files] = &[
     // Version 2 has a key of 2^63 and an action `put_if`: its history is of version 2.
     Files {
@@ -105,10 +105,10 @@ const THREE_WORKERS: &str =
     10],[\"put\",2,20]],[[\"put\",2,21],[\"take\",1]],[[\"get\",1],[\"save\"],[\"put\",3,30],\
     [\"back\",1]],[[\"take\",2],[\"help\",5]],[[\"put\",4,40],[\"abort\"]],[[\"get\",2]]]}";
 
-/// The empty history is legal and plays scripts as they are asked for, but is not what is printed.
+/// The empty history is legal and plays scripts as they are asked for, but is not printed.
 const NOTHING: &str = "{\"entries\":[],\"stripes\":2,\"version\":1}\n";
 
-/// What `mix` prints of three workers.
+/// The output of `mix` for three workers.
 fn mix_three<T: Threads + Wait + Sync>(rt: &T, alloc: Global, seed: u64) -> Narrow {
     let input = &mut THREE_WORKERS.as_bytes();
     run_on(rt, alloc, Command::Mix(seed), input, Narrow::whole()).output
@@ -128,7 +128,7 @@ pub fn judge<T: Abort + Threads + Wait + Sync>(rt: &T, alloc: Global, history: &
     assert!(rt; line.ends_with(" commits 0 open\n"), "{line}");
 }
 
-/// One worker does the same whatever the seed. The checker's files have its history.
+/// One worker does the same whatever the seed. Its history is among the checker's files.
 #[test]
 fn mix_one_worker(rt: HostRuntime) {
     for seed in [0, 1, 7, 199, u64::MAX] {
@@ -142,8 +142,8 @@ fn mix_one_worker(rt: HostRuntime) {
     }
 }
 
-/// The history of any seed is legal with nothing open, and the same when it is made again. Not all
-/// seeds give the same history, and none an empty one.
+/// The history of any seed is legal with nothing open, and the same each time. Not all seeds give
+/// the same history, and none an empty one.
 #[test]
 fn mix_any_seed(rt: HostRuntime) {
     let first = mix_three(&rt, rt.alloc(), 0);

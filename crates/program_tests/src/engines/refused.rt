@@ -1,5 +1,5 @@
-//! Callers whose changes are taken back in turn, if memory is refused: what the core leaves, and
-//! what the checker says of its history.
+//! Callers whose changes are taken back in turn, if memory is refused: the state of the core, and
+//! the verdict of the checker on its history.
 
 use boost_core::Core;
 use history_check::{Verdict, check};
@@ -8,11 +8,11 @@ use std::process::Abort;
 use std::test::Fail;
 use txn_trace::{Answer, Entry, Holder, Limits, Op, Refusal, Step};
 
-/// How often a call is tried before memory is taken to be refused for good: once more than
-/// `docs/tests/refused.py` refuses in a row, unless it refuses all from one on.
+/// The number of times that a call is tried before memory is taken to be refused for good: once
+/// more than `docs/tests/refused.py` refuses in a row, unless it refuses all from one on.
 const TRIES: usize = 9;
 
-/// The caller that looks on. Each caller below it changes the key one above its number.
+/// The caller that looks on. Each caller below it changes the key that is one above its number.
 const ONLOOKER: u64 = 5;
 
 const NO_MEMORY: Answer = Answer::Refused(Refusal::NoMemory);
@@ -71,7 +71,7 @@ const CHANGES: [(Step, Answer); 50] = [
     (Step::Act(4), Answer::Done(Some(20))),
 ];
 
-/// They leave, take a change each back in three rounds, and end.
+/// They leave, take back one change each in three rounds, and end.
 const ABORTS: [(Step, Answer); 40] = [
     (Step::Abort(0), Answer::Leaving),
     (Step::Abort(1), Answer::Leaving),
@@ -115,7 +115,7 @@ const ABORTS: [(Step, Answer); 40] = [
     (Step::Act(4), Answer::Aborted),
 ];
 
-/// What all these steps add to the history.
+/// The entries that all these steps add to the history.
 const ENTRIES: [Entry; 60] = [
     Entry::Began(0, 1),
     Entry::Asked(0, Op::Put(1, 10)),
@@ -179,7 +179,7 @@ const ENTRIES: [Entry; 60] = [
     Entry::Aborted(4),
 ];
 
-/// How many of them the changes add.
+/// The number of them that the changes add.
 const CHANGED: usize = 35;
 
 /// The callers and their keys, in the order of the list, which is that of reversed bits.
@@ -190,7 +190,7 @@ fn is_refused(alloc: Global) -> bool {
     Box::new(alloc, 0).is_err()
 }
 
-/// A core of these limits; none if memory is refused.
+/// A core of these limits, or `None` if memory is refused.
 fn core_if_made(alloc: Global, limits: Limits) -> Option<Core> {
     for _ in 0..TRIES {
         if let Ok(core) = Core::new(alloc, limits) {
@@ -200,7 +200,7 @@ fn core_if_made(alloc: Global, limits: Limits) -> Option<Core> {
     None
 }
 
-/// Takes a step, whose stripes are no words.
+/// Takes a step on a core whose stripes are not words.
 fn take(rt: &impl Abort, core: &mut Core, step: Step) -> Answer {
     assert!(rt; !core.words());
     core.step(step)
@@ -211,17 +211,17 @@ fn abort(core: &mut Core, caller: u64) -> Answer {
     core.abort(caller)
 }
 
-/// The history, and how many entries are owed beyond it.
+/// The history, and the number of entries owed beyond it.
 fn history_of(core: &Core) -> (&[Entry], usize) {
     (core.trace(), core.owed())
 }
 
-/// How many buckets and keys there are.
+/// The numbers of buckets and keys.
 fn sizes_of(core: &Core) -> (u32, u64) {
     (core.size(), core.count())
 }
 
-/// The pairs in the order of the list; none if memory is refused.
+/// The pairs in the order of the list, or `None` if memory is refused.
 fn pairs_of(alloc: Global, core: &Core) -> Option<Vec<(u64, u64)>> {
     for _ in 0..TRIES {
         if let Ok(pairs) = core.regular_list(alloc) {
@@ -231,7 +231,7 @@ fn pairs_of(alloc: Global, core: &Core) -> Option<Vec<(u64, u64)>> {
     None
 }
 
-/// Takes a step; none if memory is refused.
+/// Takes a step; `None` if memory is refused.
 fn answer_if_given(rt: &impl Abort, core: &mut Core, step: Step) -> Option<Answer> {
     for _ in 0..TRIES {
         let answer = take(rt, core, step);
@@ -242,20 +242,20 @@ fn answer_if_given(rt: &impl Abort, core: &mut Core, step: Step) -> Option<Answe
     None
 }
 
-/// What a caller has after some entries.
+/// The state of a caller after some entries.
 #[derive(Clone, Copy)]
 struct CallerState {
     /// Whether it is in a transaction.
     is_open: bool,
-    /// Whether the stripe of its key is its own.
+    /// Whether it holds the stripe of its key.
     holds: bool,
-    /// How many of its changes stand.
+    /// The number of its changes that stand.
     changes: u64,
-    /// How many entries it may still add without memory.
+    /// The number of entries that it may still add without memory.
     owed: usize,
 }
 
-/// What a caller has in no transaction.
+/// The state of a caller in no transaction.
 const IDLE: CallerState = CallerState {
     is_open: false,
     holds: false,
@@ -263,7 +263,7 @@ const IDLE: CallerState = CallerState {
     owed: 0,
 };
 
-/// What a caller has after one entry more.
+/// The state of a caller after one more entry.
 fn state_after(had: CallerState, entry: Entry) -> CallerState {
     let mut state = had;
     match entry {
@@ -286,7 +286,7 @@ fn state_after(had: CallerState, entry: Entry) -> CallerState {
     state
 }
 
-/// What a caller has after these entries.
+/// The state of a caller after these entries.
 fn state_of(caller: u64, entries: &[Entry]) -> CallerState {
     let mut state = IDLE;
     for entry in entries {
@@ -297,7 +297,7 @@ fn state_of(caller: u64, entries: &[Entry]) -> CallerState {
     state
 }
 
-/// The value that the key of a caller has, with so many of its changes.
+/// The value of a caller's key, with this number of its changes.
 fn value_with(changes: u64) -> Option<u64> {
     match changes {
         1 => Some(10),
@@ -306,7 +306,7 @@ fn value_with(changes: u64) -> Option<u64> {
     }
 }
 
-/// Compares the entries of all but the onlooker.
+/// Compares the entries of all callers except the onlooker.
 fn compare_entries(rt: &impl Abort, core: &Core, entries: &[Entry]) {
     let mut wanted = entries.iter();
     for entry in history_of(core).0 {
@@ -317,8 +317,8 @@ fn compare_entries(rt: &impl Abort, core: &Core, entries: &[Entry]) {
     assert!(rt; wanted.next().is_none());
 }
 
-/// Compares how many buckets and keys there are, how many entries are owed, and where there is
-/// memory the pairs.
+/// Compares the numbers of buckets, of keys and of entries owed, and the pairs if there is memory
+/// for them.
 fn compare_map(rt: &impl Abort, alloc: Global, core: &Core, entries: &[Entry]) {
     let pairs = pairs_of(alloc, core);
     assert!(rt; pairs.is_some() || is_refused(alloc));
@@ -338,8 +338,8 @@ fn compare_map(rt: &impl Abort, alloc: Global, core: &Core, entries: &[Entry]) {
     assert!(rt; sizes_of(core) == (2, count) && history_of(core).1 == owed);
 }
 
-/// What the onlooker is answered where it asks for a key, after which it aborts; none where memory
-/// is refused.
+/// The answer to the onlooker when it asks for a key, after which it aborts; `None` if memory is
+/// refused.
 fn seen_of(rt: &impl Abort, core: &mut Core, key: u64) -> Option<Answer> {
     let began = answer_if_given(rt, core, Step::Begin(ONLOOKER))?;
     assert!(rt; matches!(began, Answer::Began(_)));
@@ -348,7 +348,7 @@ fn seen_of(rt: &impl Abort, core: &mut Core, key: u64) -> Option<Answer> {
     answer
 }
 
-/// Compares who holds the stripe of each key.
+/// Compares the holders of the stripes of all keys.
 fn compare_stripes(rt: &impl Abort, alloc: Global, core: &mut Core, entries: &[Entry]) {
     for (caller, key) in KEYS {
         let wanted = if state_of(*caller, entries).holds {
@@ -364,12 +364,12 @@ fn compare_stripes(rt: &impl Abort, alloc: Global, core: &mut Core, entries: &[E
     }
 }
 
-/// The first so many entries.
+/// The first entries; the number says how many.
 fn first_entries(count: usize) -> &'static [Entry] {
     ENTRIES.get(..count).unwrap_or(&ENTRIES)
 }
 
-/// Compares all that there is after these entries, the stripes only if the onlooker may look on.
+/// Compares everything after these entries, the stripes only if the onlooker may look on.
 fn compare(rt: &impl Abort, alloc: Global, core: &mut Core, entries: &[Entry], looks_on: bool) {
     compare_entries(rt, core, entries);
     compare_map(rt, alloc, core, entries);
@@ -379,8 +379,8 @@ fn compare(rt: &impl Abort, alloc: Global, core: &mut Core, entries: &[Entry], l
 }
 
 /// Takes steps up to the first that is refused memory, which only a begin and an ask may be, and
-/// compares what there is behind each that adds an entry. So many entries there are before; the
-/// answer is how many there are then.
+/// compares the state after each that adds an entry. `count` entries were there before; answers how
+/// many there are then.
 fn play(
     rt: &impl Abort,
     alloc: Global,
@@ -406,8 +406,8 @@ fn play(
     count
 }
 
-/// Aborts each caller that is in a transaction after these entries, for which no memory is wanted.
-/// They add just the entries that were owed.
+/// Aborts each caller that is in a transaction after these entries, which needs no memory. The
+/// aborts add exactly the entries that were owed.
 fn abort_all(rt: &impl Abort, core: &mut Core, entries: &[Entry]) {
     let (trace, owed) = history_of(core);
     let wanted_length = trace.len().saturating_add(owed);
@@ -422,7 +422,7 @@ fn abort_all(rt: &impl Abort, core: &mut Core, entries: &[Entry]) {
     assert!(rt; history_of(core).0.len() == wanted_length);
 }
 
-/// Has the checker judge the history, which is legal and leaves nobody in a transaction.
+/// Has the checker judge the history, which is legal and leaves no caller in a transaction.
 fn judge(rt: &impl Abort, alloc: Global, core: &Core) {
     let (trace, _) = history_of(core);
     assert!(rt; trace.iter().all(|entry| entry.caller() < 64));
@@ -439,7 +439,7 @@ fn judge(rt: &impl Abort, alloc: Global, core: &Core) {
     assert!(rt; is_refused(alloc));
 }
 
-/// Plays the changes, and takes all back that were not refused memory.
+/// Plays the changes, and takes back all that were not refused memory.
 fn play_all(rt: &impl Abort, alloc: Global, core: &mut Core) {
     let count = play(rt, alloc, core, &CHANGES, 0);
     compare(rt, alloc, core, first_entries(count), true);
@@ -453,7 +453,7 @@ fn play_all(rt: &impl Abort, alloc: Global, core: &mut Core) {
     judge(rt, alloc, core);
 }
 
-/// Has a caller begin, ask for an operation and seek; none if memory is refused.
+/// A caller begins, asks for an operation and seeks; `None` if memory is refused.
 fn placed_if_given(rt: &impl Abort, core: &mut Core, caller: u64, op: Op) -> Option<Answer> {
     let began = answer_if_given(rt, core, Step::Begin(caller))?;
     assert!(rt; matches!(began, Answer::Began(_)));
@@ -465,7 +465,7 @@ fn placed_if_given(rt: &impl Abort, core: &mut Core, caller: u64, op: Op) -> Opt
 /// The steps of the other caller.
 const BESIDE: &[Step] = &[Step::Begin(1), Step::Ask(1, Op::Put(2, 20))];
 
-/// Has caller 0 seek the place of its put, the other caller take a step, and caller 0 act.
+/// Caller 0 seeks the position of its put, the other caller takes a step, and caller 0 acts.
 fn act_beside(rt: &impl Abort, alloc: Global, core: &mut Core, step: Step) {
     let placed = placed_if_given(rt, core, 0, Op::Put(1, 10));
     if placed.is_none() {
@@ -489,7 +489,8 @@ fn play_beside(rt: &impl Abort, alloc: Global, core: &mut Core) {
     }
 }
 
-/// Plays all or the steps beside on a core of so many callers, where memory for that is given.
+/// Plays all steps, or the steps beside, on a core of this number of callers, if there is memory
+/// for it.
 fn play_on_core(rt: &impl Abort, alloc: Global, callers: u64, is_all: bool) -> Result<(), Fail> {
     let core = core_if_made(alloc, Limits::new(callers, 8, 8)?);
     assert!(rt; core.is_some() || is_refused(alloc));
@@ -503,17 +504,17 @@ fn play_on_core(rt: &impl Abort, alloc: Global, callers: u64, is_all: bool) -> R
     Ok(())
 }
 
-/// Is to be run with allocations refused: one, eight in a row, or all from one on. Where a change
-/// is refused memory, all is as it was before, and every caller aborts. What wants memory to be
-/// seen is compared if there is memory.
+/// Meant to be run with allocations refused: one, eight in a row, or all from one on. If a change
+/// is refused memory, nothing has changed, and every caller aborts. State that takes memory to read
+/// is compared if there is memory.
 #[test]
 fn five_callers_undone_is_legal(rt: HostRuntime) -> Result<(), Fail> {
     play_on_core(&rt, rt.alloc(), 6, true)
 }
 
-/// Is to be run with allocations refused, as the test above. A caller has sought the place of its
-/// put when another caller's step is refused memory: its cursor stands, since it acts by it and
-/// need not seek again.
+/// Meant to be run with allocations refused, like the test above. A caller has sought the position
+/// of its put when another caller's step is refused memory: its cursor still fits, since it acts by
+/// it and need not seek again.
 #[test]
 fn a_cursor_stands_beside_a_refusal(rt: HostRuntime) -> Result<(), Fail> {
     play_on_core(&rt, rt.alloc(), 2, false)

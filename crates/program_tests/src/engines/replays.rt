@@ -1,4 +1,4 @@
-//! What `replay` prints of step files.
+//! The output of `replay` for step files.
 
 use super::{Command, Files, run_on};
 use crate::devices::{Narrow, compare_ended};
@@ -13,12 +13,12 @@ pub const FIRST_COMMIT: &str =
     "{\"version\":1,\"callers\":2,\"stripes\":8,\"buckets\":8,\"steps\":[[\"begin\",0],[\"ask\",0,\
     \"put\",1,10],[\"seek\",0],[\"act\",0],[\"commit\",0]]}";
 
-/// The same in a file of some callers, with a gap for a step before the last.
+/// The transaction in a file of some callers, with a gap for a step before the last.
 const FIRST_COMMIT_OF: &str =
     "{\"version\":1,\"callers\":@,\"stripes\":8,\"buckets\":8,\"steps\":[[\"begin\",0],[\"ask\",0,\
     \"put\",1,10],[\"seek\",0],[\"act\",0],#[\"commit\",0]]}";
 
-/// The same with gaps for the members before the others, and for a step behind the first.
+/// The transaction with gaps for the members before the others, and for a step behind the first.
 const MEMBERS_OF: &str =
     "{#,\"stripes\":8,\"buckets\":8,\"steps\":[[\"begin\",0],@[\"ask\",0,\"put\",1,10],\
     [\"seek\",0],[\"act\",0],[\"commit\",0]]}";
@@ -31,7 +31,7 @@ const PUT_IF: &str =
     "{\"version\":@,\"callers\":1,\"stripes\":8,\"buckets\":8,\"steps\":[#[\"begin\",0],[\"ask\",0,\
     \"put_if\",1,null,5]]}";
 
-/// Step files, and what is printed of them.
+/// Step files, and the output for each.
 pub const FILES: &[Files] = &[
     // `empty_file`; and too many callers.
     Files {
@@ -60,7 +60,7 @@ pub const FILES: &[Files] = &[
         status: 0,
     },
     // `bad_input`: a file that ends too early, a step whose number is a text, and too many callers;
-    // and others like these.
+    // and other similar files.
     Files {
         command: Command::Replay,
         frame: "#",
@@ -94,8 +94,8 @@ pub const FILES: &[Files] = &[
         printed: "refused 21\n",
         status: 3,
     },
-    // `wrong_shapes`: numbers that are none, a missing member, another version, a wrong step before
-    // too many callers, and a member that no step file has.
+    // `wrong_shapes`: wrong numbers, a missing member, another version, a wrong step before too
+    // many callers, and a member that no step file has.
     Files {
         command: Command::Replay,
         frame: MEMBERS_OF,
@@ -165,7 +165,7 @@ pub const FILES: &[Files] = &[
     },
 ];
 
-/// Five keys, and a doubling that has to wait for the fifth.
+/// Five keys, and a doubling that must wait for the fifth.
 const FIVE_KEYS: &str = r#"["begin",0] = began 1
 ["ask",0,"put",1,10],["seek",0],["act",0] = asked, placed, done none
 ["ask",0,"put",2,20],["seek",0],["act",0] = asked, placed, done none
@@ -301,7 +301,7 @@ const INITIALISATION: &str = r#"["commit",0] = committed 1
 ["init_store",1] = stored
 ["init_seek",1,3] = ready"#;
 
-/// Five callers change a key each three times, and take it all back in turn.
+/// Five callers change a key three times each, and take it all back in turn.
 const FIVE_CALLERS_UNDONE: &str = r#"["begin",0] = began 1
 ["ask",0,"put",1,10],["seek",0],["act",0] = asked, placed, done none
 ["begin",1] = began 2
@@ -353,8 +353,8 @@ const COMMIT: &str = r#"["commit",0] = committed 1"#;
 
 const FIVE_KEYS_REPORT: &str = "size 4 count 5\n4 40\n2 20\n1 10\n5 50\n3 30\n";
 
-/// A step file by a name, and its report. In each line of its parts stand steps, and behind ` = `
-/// the answers to them.
+/// A step file by its name, and its report. Each line of its parts has steps, and behind ` = ` the
+/// answers to them.
 #[derive(Clone, Copy)]
 struct Run {
     name: &'static str,
@@ -362,7 +362,7 @@ struct Run {
     callers: u64,
     buckets: u64,
     parts: &'static [&'static str],
-    /// What is reported after the answers.
+    /// The report after the answers.
     rest: &'static str,
 }
 
@@ -518,7 +518,7 @@ fn reports(rt: HostRuntime) -> Result<(), Fail> {
     Ok(())
 }
 
-/// A caller begins, and puts so many keys.
+/// A caller begins, and puts this number of keys.
 fn puts_of(alloc: Global, count: u64) -> Result<String, Fail> {
     let mut part = String::new(alloc);
     part.push_str("[\"begin\",0] = began 1\n")?;
@@ -549,8 +549,7 @@ const SEGMENTS: &str = r#"["double",2] = doubled 4
 ["commit",0] = committed 1
 ["sweep"] = clean"#;
 
-/// A file of one caller and at most 128 buckets, and what its report ends with up to the third
-/// pair.
+/// A file of one caller and at most 128 buckets, and the end of its report up to the third pair.
 const OF_SEGMENTS: Run = Run {
     name: "segments",
     version: 1,

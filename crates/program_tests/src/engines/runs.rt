@@ -1,4 +1,4 @@
-//! What `run` prints of script files.
+//! The output of `run` for script files.
 
 use super::mixes::{BAD_KEY, ONE_WORKER, WORKERS_OF, judge};
 use super::{Command, Files, run_on};
@@ -12,12 +12,12 @@ use std::thread::Threads;
 pub const SHORT_RUN: &str =
     "{\"entries\":[[\"began\",0,1],[\"committed\",0,1]],\"stripes\":8,\"version\":3}\n";
 
-/// The same if memory was refused to the script.
+/// The history if memory was refused to the script.
 pub const NO_ENTRIES: &str = "{\"entries\":[],\"stripes\":8,\"version\":3}\n";
 
-/// Script files, and what is printed of them.
+/// Script files, and the output for each.
 pub const FILES: &[Files] = &[
-    // One worker does what it does where turns are mixed; the history is of version 3.
+    // One worker does what it does when turns are mixed; the history is of version 3.
     Files {
         command: Command::Run,
         frame: ONE_WORKER,
@@ -29,7 +29,7 @@ pub const FILES: &[Files] = &[
             [\"did\",0,10],[\"leave\",0,null],[\"aborted\",0]],\"stripes\":8,\"version\":3}\n",
         status: 0,
     },
-    // Keys of a script file of version 2 are every number; its history is of version 3 too.
+    // Every number is a key in a script file of version 2; its history is of version 3 too.
     Files {
         command: Command::Run,
         frame: "#",
@@ -93,7 +93,7 @@ const ANY_WORKERS: &str =
     10],[\"put\",2,20]],[[\"put\",2,21],[\"take\",1]],[[\"get\",1],[\"save\"],[\"put\",3,30],\
     [\"back\",1]],[[\"take\",2],[\"help\",5]],[[\"put\",4,40],[\"abort\"]],[[\"get\",2]]]}";
 
-/// What `run` prints of so many workers.
+/// The output of `run` for this number of workers.
 fn run_workers<T: Threads + Wait + Sync>(
     rt: &T,
     alloc: Global,
@@ -112,7 +112,7 @@ fn run_workers<T: Threads + Wait + Sync>(
     )
 }
 
-/// The same scripts by one worker to six: the history is legal with nothing open, and not empty.
+/// These scripts with one to six workers: the history is legal with nothing open, and not empty.
 #[test]
 fn run_any_workers(rt: HostRuntime) -> Result<(), Fail> {
     for workers in "1 2 3 4 5 6".split(' ') {

@@ -34,7 +34,7 @@ const EVERY_ENTRY: &[Entry] = &[
     Entry::Aborted(5),
 ];
 
-/// The same as a history that is written.
+/// These entries as a history that is written.
 const EVERY_KIND: &str =
     "{\"entries\":[[\"began\",0,1],[\"saved\",0],[\"asked\",0,\"put\",1,10],[\"did\",0,null],\
     [\"asked\",0,\"take\",2],[\"did\",0,18446744073709551615],[\"asked\",0,\"get\",\
@@ -42,7 +42,7 @@ const EVERY_KIND: &str =
     [\"committed\",0,1],[\"busy\",63,\"put\",1,20,0],[\"busy\",1,\"take\",7,63],[\"busy\",1,\
     \"get\",0,2],[\"leave\",5,null],[\"aborted\",5]],\"stripes\":4096,\"version\":1}";
 
-/// The same with its members in another order.
+/// The history with its members in another order.
 const EVERY_KIND_READ: &str =
     "{\"version\":1,\"stripes\":4096,\"entries\":[[\"began\",0,1],[\"saved\",0],\
     [\"asked\",0,\"put\",1,10],[\"did\",0,null],[\"asked\",0,\"take\",2],\
@@ -51,7 +51,7 @@ const EVERY_KIND_READ: &str =
     [\"busy\",63,\"put\",1,20,0],[\"busy\",1,\"take\",7,63],[\"busy\",1,\"get\",0,2],\
     [\"leave\",5,null],[\"aborted\",5]]}";
 
-/// White space, members in another order, others beside them, and one given twice.
+/// White space, members in another order, further members, and one given twice.
 const ANY_ORDER: &str =
     " { \"entries\" : [ [ \"undone\" , 3 ] ],\n\"note\":null,\"stripes\":0,\"stripes\":1,\
     \"version\":1}\n";
@@ -60,15 +60,15 @@ const VERSION_2: &str = "{\"entries\":[[\"asked\",0,\"put_if\",1,null,5],\
     [\"asked\",0,\"put_if\",18446744073709551615,4,6],[\"busy\",1,\"put_if\",1,0,7,0],\
     [\"busy\",1,\"put_if\",2,null,8,63]],\"stripes\":8,\"version\":2}";
 
-/// Version 3, of history files alone, has the shapes of version 2.
+/// Version 3, which only history files have, has the shapes of version 2.
 const VERSION_3: &str =
     r#"{"entries":[["began",1,1],["busy",1,"put_if",2,null,8,0]],"stripes":8,"version":3}"#;
 
-/// A history file, and what it holds.
+/// A history file, and its content.
 #[derive(Clone, Copy)]
 struct Read {
     text: &'static str,
-    /// Whether the text is what is written of the history.
+    /// Whether the text is the one that is written for the history.
     is_written: bool,
     version: u64,
     stripes: u32,
@@ -132,12 +132,12 @@ const READ: &[Read] = &[
     },
 ];
 
-/// The text that is written of a history.
+/// The text that is written for a history.
 fn text_of(alloc: Global, read: Read) -> Result<String, Fail> {
     Ok(history_text(alloc, read.version, read.stripes, read.entries)?)
 }
 
-/// Compares what a history file holds.
+/// Compares the content of a history file.
 fn compare(rt: &impl Abort, alloc: Global, read: Read) -> Result<(), Fail> {
     let (stripes, entries, version) = read_history(alloc, read.text.as_bytes())?;
     assert!(rt;
@@ -161,7 +161,7 @@ fn contents_of_histories(rt: HostRuntime) -> Result<(), Fail> {
     Ok(())
 }
 
-/// Histories that are alike in their fault.
+/// Histories with the same kind of fault.
 pub const FILES: &[Files] = &[
     Files {
         kind: Kind::History,
@@ -294,7 +294,7 @@ null
         fillings: "64 18446744073709551615",
         fault: Some(FileFault::Limit),
     },
-    // A number too large for a float makes the file no JSON, wherever it stands.
+    // A number too large for a float makes the file not JSON, wherever the number is.
     Files {
         kind: Kind::History,
         frame: "#",

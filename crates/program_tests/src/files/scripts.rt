@@ -14,12 +14,13 @@ const SIZES: &str = r#""version":1,"workers":1,"stripes":8,"buckets":8"#;
 const SCRIPTS_IN_VERSION: &str =
     r#"{"version":@,"workers":1,"stripes":2,"buckets":8,"tries":3,"scripts":#}"#;
 
-/// The same with a gap for one script.
+/// These files with a gap for one script.
 const BETWEEN_SCRIPTS: &str =
     "{\"version\":@,\"workers\":1,\"stripes\":2,\"buckets\":8,\"tries\":3,\"scripts\":[[],\
     [[\"get\",1]],#,[0]]}";
 
-/// Files with a gap for scripts, or for the actions of a script; and those with a wrong one behind.
+/// Files with a gap for scripts, or for the actions of a script; and those with a wrong one behind
+/// it.
 pub const SCRIPTS: &str =
     r#"{"version":1,"workers":1,"stripes":2,"buckets":8,"tries":3,"scripts":[#]}"#;
 
@@ -41,7 +42,7 @@ const EVERY_ACTION: &str =
 const VERSION_2: &str = "{\"version\":2,\"workers\":1,\"stripes\":2,\"buckets\":8,\"tries\":3,\
     \"scripts\":[[[\"save\"]],[[\"put_if\",1,null,10],[\"put_if\",18446744073709551615,10,12]]]}";
 
-/// A script file, and what it holds.
+/// A script file, and its content.
 #[derive(Clone, Copy)]
 struct Read {
     text: &'static str,
@@ -110,7 +111,7 @@ fn are_scripts(scripts: &[Script], wanted: &[&[Action]]) -> bool {
             .all(|(script, actions)| script.actions() == *actions)
 }
 
-/// The actions of a script, which it gives back, and how many it says there are.
+/// The actions of a script, by value, and how many it says there are.
 fn given_back(alloc: Global, actions: &[Action]) -> Result<(usize, Vec<Action>), Fail> {
     let script = Script::new(actions.to_vec(alloc)?);
     Ok((script.actions().len(), script.into_actions()))
@@ -134,7 +135,7 @@ fn contents_of_script_files(rt: HostRuntime) -> Result<(), Fail> {
     Ok(())
 }
 
-/// Script files that are alike in their fault.
+/// Script files with the same kind of fault.
 pub const FILES: &[Files] = &[
     Files {
         kind: Kind::Scripts,
@@ -248,7 +249,7 @@ null
         fillings: "2",
         fault: None,
     },
-    // A number too large for a float makes the file no JSON, wherever it stands.
+    // A number too large for a float makes the file not JSON, wherever the number is.
     Files {
         kind: Kind::Scripts,
         frame: "#",

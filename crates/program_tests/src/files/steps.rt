@@ -12,8 +12,8 @@ pub const FIRST_COMMIT: &str =
     "{\"version\":1,\"callers\":2,\"stripes\":8,\"buckets\":8,\"steps\":[[\"begin\",0],[\"ask\",0,\
     \"put\",1,10],[\"seek\",0],[\"act\",0],[\"commit\",0]]}";
 
-/// Every step, with white space, numbers at both ends, members in another order, others beside
-/// them, and one given twice.
+/// Every step, with white space, numbers at both ends, members in another order, further members,
+/// and one given twice.
 const EVERY_STEP: &str =
     " { \"steps\" : [[\"abort\",18446744073709551615], [\"ask\",7,\"take\",0],\n[\"ask\",0,\"get\",\
     9223372036854775808],[\"ask\",1,\"put\",18446744073709551615,0],\n[\"save\",3],[\"back\",4,\
@@ -25,7 +25,7 @@ const VERSION_2: &str =
     "{\"version\":2,\"callers\":1,\"stripes\":8,\"buckets\":8,\"steps\":[[\"ask\",0,\"put_if\",\
     9223372036854775809,null,11],[\"ask\",0,\"put_if\",1,10,12]]}";
 
-/// Files whose steps stand in a gap.
+/// Files with a gap for their steps.
 const STEPS_OF_ONE: &str = r#"{"version":1,"callers":1,"stripes":8,"buckets":8,"steps":#}"#;
 
 const STEPS_OF_TWO: &str = r#"{"version":1,"callers":2,"stripes":8,"buckets":8,"steps":#}"#;
@@ -48,14 +48,14 @@ const BEFORE_MEMBERS: &str =
 const BEYOND_MEMBERS: &str =
     r#"{"version":1,"callers":1,"stripes":8,"buckets":8,"steps":[["sweep"]]#}"#;
 
-/// The same with a gap for the value of a member that no step file has.
+/// These files with a gap for the value of a member that no step file has.
 const BEFORE_STEPS: &str =
     r#"{"x":#,"version":1,"callers":1,"stripes":8,"buckets":8,"steps":[["sweep"]]}"#;
 
 pub const BEYOND_STEPS: &str =
     r#"{"version":1,"callers":1,"stripes":8,"buckets":8,"steps":[["sweep"]],"x":#}"#;
 
-/// Values of members that are passed over.
+/// Values of members that are skipped.
 const VALUES: &[&str] = &[
     "null",
     "true",
@@ -72,7 +72,7 @@ const VALUES: &[&str] = &[
 struct Read {
     frame: &'static str,
     pieces: &'static [&'static str],
-    /// The numbers of callers, of stripes and of buckets, and whether keys are half keys alone.
+    /// The numbers of callers, of stripes and of buckets, and whether only half keys are taken.
     sizes: (u32, u32, u32, bool),
     steps: &'static [Step],
 }
@@ -121,7 +121,7 @@ const READ: &[Read] = &[
     PASSED_BEYOND,
 ];
 
-/// A member that is passed over before the others, or behind them.
+/// A member that is skipped, before the others or behind them.
 const PASSED_BEFORE: Read = Read {
     frame: BEFORE_STEPS,
     pieces: VALUES,
@@ -136,7 +136,7 @@ const PASSED_BEYOND: Read = Read {
     steps: &[Step::Sweep],
 };
 
-/// What a step file holds, as `Read` has it.
+/// The content of a step file, as `Read` has it.
 fn content_of(alloc: Global, bytes: &[u8]) -> Result<((u32, u32, u32, bool), Vec<Step>), Fail> {
     let (limits, steps) = read_steps(alloc, bytes)?;
     let half_keys = limits.has_half_keys();
@@ -149,7 +149,7 @@ fn content_of(alloc: Global, bytes: &[u8]) -> Result<((u32, u32, u32, bool), Vec
     Ok((sizes, steps))
 }
 
-/// Compares what the file with this piece holds.
+/// Compares the content of the file with this piece.
 fn compare(rt: &impl Abort, alloc: Global, read: Read, piece: &str) -> Result<(), Fail> {
     let text = read.frame.replace(alloc, "#", piece)?;
     let (sizes, steps) = content_of(alloc, text.as_bytes())?;
@@ -174,7 +174,7 @@ fn contents_of_step_files(rt: HostRuntime) -> Result<(), Fail> {
     compare(&rt, rt.alloc(), PASSED_BEYOND, &objects)
 }
 
-/// Step files that are alike in their fault.
+/// Step files with the same kind of fault.
 pub const FILES: &[Files] = &[
     // Members.
     Files {
@@ -228,7 +228,7 @@ null
         fillings: r#""stripes":8,"buckets":8,"steps":[]"#,
         fault: Some(FileFault::Limit),
     },
-    // The empty file, and others that are no JSON or lack a member.
+    // The empty file, and others that are not JSON or lack a member.
     Files {
         kind: Kind::Steps,
         frame: "#",
@@ -244,7 +244,7 @@ null
         fillings: "",
         fault: Some(FileFault::Member),
     },
-    // A number too large for a float makes the file no JSON, wherever it stands.
+    // A number too large for a float makes the file not JSON, wherever the number is.
     Files {
         kind: Kind::Steps,
         frame: "#",
@@ -255,7 +255,7 @@ null
         fillings: "",
         fault: Some(FileFault::NotJson),
     },
-    // Steps that are none.
+    // Steps that are no steps.
     Files {
         kind: Kind::Steps,
         frame: STEPS_OF_TWO,
@@ -330,7 +330,7 @@ null
         fillings: "",
         fault: Some(FileFault::Piece(Part::Step, 1)),
     },
-    // What is no JSON comes before a wrong step, also behind it.
+    // Text that is not JSON is found before a wrong step, also behind it.
     Files {
         kind: Kind::Steps,
         frame: STEPS_OF_ONE,
@@ -338,7 +338,7 @@ null
         fillings: "",
         fault: Some(FileFault::NotJson),
     },
-    // A `put_if` that is none in any version; and one that version 1 has not.
+    // A `put_if` that is none in any version; and one that version 1 does not have.
     Files {
         kind: Kind::Steps,
         frame: STEPS_IN_VERSION,
@@ -426,7 +426,7 @@ null
         fillings: "",
         fault: Some(FileFault::Limit),
     },
-    // What is passed over is JSON too.
+    // A skipped value must be JSON too.
     Files {
         kind: Kind::Steps,
         frame: BEYOND_STEPS,

@@ -1,4 +1,4 @@
-//! Buckets with their list, which owe one another what no test can look at.
+//! Buckets with their list, as one value, so that their invariants hold without a test.
 ghost use Rattle.std.specs.Prelude.{◌≡◌};
 ghost use Rattle.bucket_table.specs.Home.{IsHome};
 ghost use Rattle.bucket_table.specs.Dummies.{IsKeyed};
@@ -39,11 +39,11 @@ pub enum Call {
     Link(u64),
     /// A store by a helper.
     Store(u64),
-    /// A doubling of the size that was seen.
+    /// A doubling that names this size.
     Double(u64),
 }
 
-/// What a call answered.
+/// The answer to a call.
 #[derive(Clone, Copy, PartialEq, Eq)]
 pub enum Answer {
     Seek(Result<InitSeek, InitRefusal>),
@@ -92,8 +92,8 @@ fn put(
 }
 
 impl Home {
-    /// A list of the dummy of bucket 0, with this stamp, and two buckets on it, which can grow to
-    /// `max`, 2 or 8. None if memory is refused.
+    /// A list that has the dummy of bucket 0, with this stamp, and two buckets on it, which can
+    /// grow to `max`, 2 or 8. `None` if memory is refused.
     pub fn new(alloc: Global, first_stamp: u64, max: u32, helpers: u32) -> Option<Home> {
         if first_stamp == u64::MAX {
             return None;
@@ -122,7 +122,7 @@ impl Home {
         put(rt, &mut self.list, &self.buckets, number)
     }
 
-    /// Takes the place of one spare for good.
+    /// Keeps the place of one spare for good.
     pub fn keep_spare(&mut self) -> Result<u64, SpareFault> {
         let spare = self.list.spare()?;
         Ok(spare.stamp())
@@ -142,7 +142,7 @@ impl Home {
         }
     }
 
-    /// Split key, kind and key of the node of a rank.
+    /// The split key, kind and key of the node of a rank.
     pub fn node(&self, rank: usize) -> Option<(u64, Kind, u64)> {
         let mut place = self.list.head();
         for _ in 0..rank {

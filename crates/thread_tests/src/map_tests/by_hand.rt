@@ -1,4 +1,4 @@
-//! Calls that are driven by hand, a hold of the lock at a time.
+//! Calls that are driven by hand, one hold of the lock at a time.
 ghost use Rattle.std.specs.Prelude.{◌≡◌};
 ghost use Rattle.locked_map.specs.Tokens.{HasTried};
 
@@ -12,7 +12,7 @@ use std::sync::ledger::Ledger;
 use std::test::Fail;
 use txn_trace::{Answer, Entry, Limits, Op, Refusal};
 
-/// Takes the turns of a call until it has ended; none if it has not after nine.
+/// Takes the turns of a call until it has ended; `None` if it has not after nine.
 fn drive<L: Ledger>(booked: &mut Booked<L>, me: &mut Caller<L, NoSide>, call: Call) -> Option<End>
     requires { HasTried me.old call }
 {
@@ -25,7 +25,7 @@ fn drive<L: Ledger>(booked: &mut Booked<L>, me: &mut Caller<L, NoSide>, call: Ca
     None
 }
 
-/// The same, once the word of an operation's stripe is tried.
+/// The end of a call by `drive`, after the word of an operation's stripe was tried.
 fn end_of<L: Ledger>(
     booked: &mut Booked<L>,
     me: &mut Caller<L, NoSide>,
@@ -37,7 +37,8 @@ fn end_of<L: Ledger>(
     Ok(drive(booked, me, call))
 }
 
-/// Keys 1 and 9 have one stripe. Caller 0 finds its word free, and caller 1 finds caller 0 there.
+/// Keys 1 and 9 have the same stripe. Caller 0 finds its word free, and caller 1 finds caller 0
+/// there.
 struct ByTurns;
 
 impl Play for ByTurns {
@@ -73,7 +74,7 @@ impl Play for ByTurns {
     }
 }
 
-/// What the callers have then seen.
+/// The entries that the callers have then seen.
 fn have_seen<L: Ledger, R: Abort>(rt: &R, callers: &[Caller<L, NoSide>]) {
     let first = [
         Entry::Began(0, 1),
@@ -95,7 +96,8 @@ fn calls_by_hand(rt: HostRuntime) -> Result<(), Fail> {
     play_with(&rt, rt.alloc(), 2, &ByTurns)
 }
 
-/// Lays another core of so many stripes, which are words, under the lock. Neither has a history.
+/// Puts another core of this number of stripes, which are words, under the lock. Neither core has a
+/// history.
 fn lay_core<L: Ledger>(
     rt: &impl Abort,
     alloc: Global,
@@ -109,8 +111,8 @@ fn lay_core<L: Ledger>(
     Ok(())
 }
 
-/// The words are 8. A core of 4 stripes breaks the token: it takes no step then, nor with a core of
-/// 8 stripes later.
+/// There are 8 words. A core of 4 stripes breaks the token: it takes no step then, nor with a core
+/// of 8 stripes later.
 struct OtherStripes;
 
 impl Play for OtherStripes {

@@ -1,4 +1,4 @@
-//! What lies under the lock of a new map, and what a map that is closed hands out: no contract sees
+//! The contents of the lock of a new map, and the core of a map that is closed: no contract sees
 //! through the lock.
 use super::rows::play_rows;
 use crate::devices::{Play, Shared, Told, callers_of, close, play_with};
@@ -11,7 +11,7 @@ use std::sync::ledger::Ledger;
 use std::test::Fail;
 use txn_trace::{Answer, Limits, Op, Refusal, Step};
 
-/// Takes a step that asks for no operation; none for one that does.
+/// Takes a step that asks for no operation; `None` for one that does.
 fn step(core: &mut Core, step: Step) -> Option<Answer> {
     match step {
         Step::Ask(..) => None,
@@ -19,7 +19,7 @@ fn step(core: &mut Core, step: Step) -> Option<Answer> {
     }
 }
 
-/// The steps are answered so.
+/// Takes the steps, which must have these answers.
 fn play_steps<R: Abort>(rt: &R, core: &mut Core, steps: &[(Step, Answer)]) {
     for &(what, wanted) in steps {
         assert_eq!(rt; step(core, what), Some(wanted), "{what:?}");
@@ -68,8 +68,8 @@ fn new_core(rt: HostRuntime) -> Result<(), Fail> {
     play_with(&rt, rt.alloc(), 2, &Unused)
 }
 
-/// The node of a key that is taken is marked, and nobody seeks past it: the core that is handed out
-/// has it still.
+/// The node of a key that is taken is marked, and no one seeks past it: the core of the closed map
+/// still has it.
 struct Marked;
 
 impl Play for Marked {
@@ -104,7 +104,7 @@ fn marked_node_at_close(rt: HostRuntime) -> Result<(), Fail> {
     play_with(&rt, rt.alloc(), 1, &Marked)
 }
 
-/// A token without a transaction tries no word, so nobody finds its stripe held.
+/// A token without a transaction tries no word, so no one finds its stripe held.
 struct Idle;
 
 impl Play for Idle {

@@ -1,4 +1,4 @@
-//! What calls leave that are refused memory. `docs/tests/refused.sh` refuses it to them.
+//! The state after calls that are refused memory, by `docs/tests/refused.sh`.
 use crate::devices::{Play, Shared, callers_of, close, has_left, is_refused, play_where_made, run};
 use boost_core::{Call, End};
 use locked_map::{Caller, Closed, NoSide, Pass};
@@ -9,11 +9,11 @@ use std::sync::ledger::Ledger;
 use std::test::Fail;
 use txn_trace::{Answer, Op, Refusal};
 
-/// A call of the caller at a place, and how it ends if memory is there.
+/// A call of the caller at a position, and its end if there is memory.
 type Wanted = (usize, Call, End);
 
-/// Makes a call, once more if it is refused memory, and answers how it ends. Where it is refused
-/// memory, `seen` is as it was.
+/// Makes a call, once more if it is refused memory, and answers its end. If it is refused memory,
+/// `seen` is unchanged.
 fn end_of<L: Ledger, R: Wait + Abort>(
     rt: &R,
     shared: &Shared<L>,
@@ -31,7 +31,7 @@ fn end_of<L: Ledger, R: Wait + Abort>(
     End::Refused(Refusal::NoMemory)
 }
 
-/// Makes the calls up to the first that is refused memory twice. The answer is whether none was.
+/// Makes the calls up to the first that is refused memory twice. Answers whether none was.
 fn is_whole<L: Ledger, R: Wait + Abort>(
     rt: &R,
     alloc: Global,
@@ -51,7 +51,7 @@ fn is_whole<L: Ledger, R: Wait + Abort>(
     true
 }
 
-/// Gives up each caller's transaction, if it has one, for which no memory is wanted.
+/// Gives up each caller's transaction, if it has one, which needs no memory.
 fn give_up<L: Ledger, R: Wait + Abort>(
     rt: &R,
     shared: &Shared<L>,
@@ -69,8 +69,8 @@ fn give_up<L: Ledger, R: Wait + Abort>(
     }
 }
 
-/// Calls that are made up to the first that is refused memory twice; then all callers give up.
-/// Where a call was so refused, no key is left, and else one key, with this many entries.
+/// Calls that are made up to the first that is refused memory twice; then all callers give up. If a
+/// call was refused so, no key is left, and if none was, one key, with this number of entries.
 #[derive(Clone, Copy)]
 struct Refused<'a> {
     calls: &'a [Wanted],
@@ -121,7 +121,7 @@ fn refused_memory_between_callers(rt: HostRuntime) -> Result<(), Fail> {
     play_where_made(&rt, rt.alloc(), 2, &what)
 }
 
-/// Each kind of call, among them a help that doubles and makes buckets.
+/// Each kind of call, including a help that doubles and stores buckets.
 #[test]
 fn refused_memory_in_each_call(rt: HostRuntime) -> Result<(), Fail> {
     let done = End::Answered(Answer::Done(None));

@@ -9,7 +9,7 @@ pub(super) struct Register {
     pub(super) words: [u64; 4],
 }
 
-/// A closure that a test made, to be run once, and what it makes of which words.
+/// A closure that a test made, to be run once, and the words before and after it.
 #[derive(Drop)]
 pub(super) struct RegisterJob {
     pub(super) before: [u64; 4],

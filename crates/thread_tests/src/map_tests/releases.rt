@@ -1,4 +1,4 @@
-//! Who hears of releases hears of each hold of the lock, once.
+//! An observer of releases is told of each hold of the lock, once.
 use crate::devices::{Play, Shared, callers_of, play_with, run_heard};
 use boost_core::Call;
 use locked_map::{Caller, NoSide, OnRelease, Pass};
@@ -22,7 +22,7 @@ impl OnRelease for Count {
     }
 }
 
-/// How many releases a call tells of.
+/// The number of releases of a call.
 fn releases_of<L: Ledger, R: Wait>(
     rt: &R,
     shared: &Shared<L>,
@@ -37,7 +37,7 @@ fn releases_of<L: Ledger, R: Wait>(
 }
 
 /// One caller. A call that its token refuses takes no lock. A bucket is initialised by three holds,
-/// an operation takes three, and where changes are taken back there are three and two for each.
+/// an operation takes three, and taking changes back takes three and two for each change.
 struct OneEach;
 
 impl Play for OneEach {

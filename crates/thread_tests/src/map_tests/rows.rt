@@ -11,7 +11,7 @@ use std::sync::ledger::Ledger;
 use std::test::Fail;
 use txn_trace::{Answer, Entry, Op, Step};
 
-/// The place of a caller, its call, and what that is to answer.
+/// The position of a caller, its call, and the answer that the call must have.
 pub(super) type Row = (usize, Call, Result<Told, Stop>);
 
 /// Makes the calls.
@@ -39,8 +39,8 @@ pub(super) fn play_row<L: Ledger, R: Wait + Abort>(
     assert_eq!(rt; told, wanted, "caller {}: {call:?}", me.number());
 }
 
-/// Closes a map without caller 0, which is missing: map and caller 1 come back. Then closes it with
-/// both.
+/// Closes a map without caller 0, which is missing: map and caller 1 are returned. Then closes it
+/// with both.
 fn close_missing_caller<L: Ledger, R: Abort>(
     rt: &R,
     alloc: Global,
@@ -116,13 +116,13 @@ fn counted_entries<L: Ledger, R: Abort>(rt: &R, closed: &Closed<L, NoSide>) {
     }
 }
 
-/// The number of the caller at a place, and how many entries it has seen.
+/// The number of the caller at a position, and the number of entries that it has seen.
 fn figures_of<L: Ledger>(callers: &[Caller<L, NoSide>], place: usize) -> Option<(u64, usize)> {
     let me = callers.get(place)?;
     Some((me.number(), me.seen().len()))
 }
 
-/// Caller 1 finds caller 0's stripe held, begins anew and commits first. The map is then closed
+/// Caller 1 finds caller 0's stripe held, begins again and commits first. The map is then closed
 /// without caller 0, which is missing, and with both: see `close_missing_caller` and
 /// `counted_entries`.
 #[test]
@@ -130,9 +130,9 @@ fn busy_between_callers(rt: HostRuntime) -> Result<(), Fail> {
     play_with(&rt, rt.alloc(), 2, &BusyBetween)
 }
 
-/// Calls, and what the core is to be when they are made and the map is closed: its size, its keys
-/// with their values in the order of the list, and what it answers a helper that seeks the place of
-/// the dummy node of which bucket.
+/// Calls, and the state of the core after they are made and the map is closed: its size, its keys
+/// with their values in the order of the list, and its answer to a helper that seeks the position
+/// of a bucket's dummy node.
 #[derive(Clone, Copy)]
 struct Worked<'a> {
     rows: &'a [Row],
@@ -165,12 +165,12 @@ impl Play for Worked<'_> {
     }
 }
 
-/// What the core answers helper 0 that seeks the place of a bucket's dummy node.
+/// The answer of the core to helper 0 that seeks the position of a bucket's dummy node.
 fn init_seek(core: &mut Core, bucket: u64) -> Answer {
     core.step(Step::InitSeek(0, bucket))
 }
 
-/// A help that does nothing would meet its contract, and fails here.
+/// A help that does nothing would meet its contract; it fails here.
 #[test]
 fn help_grows(rt: HostRuntime) -> Result<(), Fail> {
     let rows = [
@@ -234,9 +234,9 @@ fn keys_of_64_bits(rt: HostRuntime) -> Result<(), Fail> {
     play_with(&rt, rt.alloc(), 2, &what)
 }
 
-/// Rights to stripes come back at the end of a transaction and not before: keys 1, 9 and 17 have
-/// one stripe. A savepoint and a return to it leave caller 0 its right; an abort, a commit and a
-/// busy stripe give all back.
+/// Rights to stripes are given back at the end of a transaction and not before: keys 1, 9 and 17
+/// have the same stripe. A savepoint and a return to it leave caller 0 its right; an abort, a
+/// commit and a busy stripe give back all.
 #[test]
 fn rights_come_back(rt: HostRuntime) -> Result<(), Fail> {
     let rows = [

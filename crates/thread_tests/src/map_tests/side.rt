@@ -1,4 +1,4 @@
-//! A side value that returns with its caller's transaction.
+//! A side value that is rolled back with its caller's transaction.
 ghost use Rattle.std.specs.Prelude.{◌≡◌, [], ◌∷◌, IfSome};
 
 use super::register::{OfWords, Register, RegisterJob};
@@ -13,15 +13,15 @@ use std::test::Fail;
 use txn_trace::Refusal;
 use undo_log::{Side, SideJob};
 
-/// How much a caller has seen, and the words of its side value.
+/// The number of entries that a caller has seen, and the words of its side value.
 type Marks = (usize, [u64; 4]);
 
 fn marks_of<L: Ledger, S: Side>(me: &Caller<L, S>) -> Marks {
     (me.seen().len(), me.words())
 }
 
-/// Makes a call, once more if it is refused memory; none if it is refused still. A refused
-/// one leaves its caller's marks.
+/// Makes a call, once more if it is refused memory; `None` if it is refused again. A refused call
+/// leaves its caller's marks unchanged.
 fn try_call<L: Ledger, S: Side, R: Wait + Abort>(
     rt: &R,
     shared: &Shared<L>,
@@ -40,8 +40,8 @@ fn try_call<L: Ledger, S: Side, R: Wait + Abort>(
     None
 }
 
-/// Changes the first word of the side value, whose others are 0. If that is refused memory,
-/// nothing has changed, and what is handed back is tried once more; none if it is refused still.
+/// Changes the first word of the side value, whose others are 0. If that is refused memory, nothing
+/// has changed, and the returned change is tried once more; `None` if it is refused again.
 fn change<L: Ledger, S: OfWords, R: Abort>(
     rt: &R,
     shared: &Shared<L>,
@@ -69,7 +69,7 @@ fn change<L: Ledger, S: OfWords, R: Abort>(
 }
 
 /// The words after a change from 0 to 1, a savepoint and two more changes, and back at the
-/// savepoint; none if a call is refused memory twice.
+/// savepoint; `None` if a call is refused memory twice.
 fn words_there<L: Ledger, S: OfWords, R: Wait + Abort>(
     rt: &R,
     shared: &Shared<L>,
@@ -94,8 +94,8 @@ fn words_there<L: Ledger, S: OfWords, R: Wait + Abort>(
     Some([there, me.words()])
 }
 
-/// Aborts, for which no memory is wanted; an open transaction is never refused it. The words are
-/// then as at the beginning.
+/// Aborts, which needs no memory and is never refused in an open transaction. The words are then
+/// those at the beginning.
 fn give_up<L: Ledger, S: Side, R: Wait + Abort>(
     rt: &R,
     shared: &Shared<L>,
@@ -111,7 +111,7 @@ fn give_up<L: Ledger, S: Side, R: Wait + Abort>(
     assert_eq!(rt; me.words(), [0, 0, 0, 0]);
 }
 
-/// Closes the map of a caller that has put nothing, where memory for a list of callers is there.
+/// Closes the map of a caller that has put nothing, if there is memory for a list of callers.
 fn close_alone<L: Ledger, S: Side, R: Abort>(
     rt: &R,
     alloc: Global,
@@ -129,7 +129,7 @@ fn close_alone<L: Ledger, S: Side, R: Abort>(
     Ok(())
 }
 
-/// The same of a new caller, which then aborts in any case, and has left nothing.
+/// Runs `words_there` with a new caller, which then aborts in any case, and has left nothing.
 fn there_and_back<L: Ledger, S: OfWords, R: Wait + Abort>(
     rt: &R,
     alloc: Global,
@@ -154,7 +154,7 @@ fn there_and_back<L: Ledger, S: OfWords, R: Wait + Abort>(
     close_alone(rt, alloc, shared, me)
 }
 
-/// Boxes a value, once more if memory is refused; none if it is refused still.
+/// Boxes a value, once more if memory is refused; `None` if it is refused again.
 fn make_box<T: Drop>(alloc: Global, value: T) -> Option<Box<T>>
     ensures { IfSome result (λ block. block.value ≡ value) }
 {
@@ -171,7 +171,8 @@ fn register(words: [u64; 4]) -> Register
     Register { words }
 }
 
-/// The same of a register, whose jobs are boxed; nothing was done if they are refused memory.
+/// Runs `there_and_back` with a register, whose jobs are boxed; nothing was done if they are
+/// refused memory.
 fn register_returns<L: Ledger, R: Wait + Abort>(
     rt: &R,
     alloc: Global,
@@ -219,7 +220,7 @@ impl Play for SideReturns {
     }
 }
 
-/// Where a call is refused memory twice, as `docs/tests/refused.sh` does it, the caller gives up.
+/// If a call is refused memory twice, as by `docs/tests/refused.sh`, the caller gives up.
 #[test]
 fn side_value_returns(rt: HostRuntime) -> Result<(), Fail> {
     play_where_made(&rt, rt.alloc(), 1, &SideReturns)

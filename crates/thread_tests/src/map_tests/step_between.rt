@@ -39,7 +39,7 @@ fn put_four<L: Ledger, R: Wait + Abort>(rt: &R, shared: &Shared<L>, me: &mut Cal
     }
 }
 
-/// Caller 0 begins and puts 20 at key 2, and the other caller comes between. It is handed back.
+/// Caller 0 begins and puts 20 at key 2, and the other caller acts in between. It is returned.
 fn put_two<L: Ledger, R: Wait + Abort>(
     rt: &R,
     shared: &Shared<L>,

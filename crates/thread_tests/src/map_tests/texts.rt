@@ -1,4 +1,4 @@
-//! Why a call stopped, as text.
+//! The texts of the reasons why a call stopped.
 use locked_map::Stop;
 use std::alloc::{AllocError, Global};
 use std::test::Fail;

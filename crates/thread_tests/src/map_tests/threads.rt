@@ -1,4 +1,4 @@
-//! Callers in threads of their own.
+//! Callers that each run in a thread.
 ghost use Rattle.std.specs.Prelude.{◌≡◌};
 
 use super::rows::{Row, play_row};
@@ -15,17 +15,17 @@ use std::thread;
 use std::thread::Threads;
 use txn_trace::{Entry, Limits, Op};
 
-/// What the callers of a map do in their threads.
+/// The work of a map's callers in their threads.
 #[derive(Clone, Copy)]
 enum Plan<'a> {
-    /// Each makes its own calls of these, and its thread begins when that of the caller before has
+    /// Each makes its calls of these, and its thread begins when that of the caller before has
     /// ended.
     InTurn(&'a [Row]),
-    /// All make calls at once that look random, by a seed.
+    /// All make calls at the same time that look random, by a seed.
     AtOnce(u64),
 }
 
-/// Makes the calls of the caller alone.
+/// Makes the calls of only this caller.
 fn play_own<L: Ledger, R: Wait + Abort>(
     rt: &R,
     shared: &Shared<L>,
@@ -104,7 +104,7 @@ fn transact<L: Ledger, R: Wait>(
     make(rt, shared, me, Call::Commit)
 }
 
-/// What one thread does.
+/// The work of one thread.
 fn work<L: Ledger, R: Wait + Abort>(
     rt: &R,
     shared: &Shared<L>,
@@ -121,7 +121,7 @@ fn work<L: Ledger, R: Wait + Abort>(
     }
 }
 
-/// Each caller works in a thread of its own, all at once.
+/// Each caller works in a thread, all at the same time.
 fn work_at_once<L: Ledger + Send + Sync, R: Threads + Wait + Abort + Sync>(
     rt: &R,
     shared: &Shared<L>,
@@ -164,7 +164,7 @@ fn play_under<L: Ledger + Send + Sync, R: Threads + Wait + Abort + Sync>(
     Ok(())
 }
 
-/// The same under a ledger of its own.
+/// Plays a plan on a new map, under a new ledger.
 fn play<R: Threads + Wait + Abort + Sync>(
     rt: &R,
     alloc: Global,
