@@ -8,7 +8,7 @@ use history_check::{Callers, Rule};
 use std::alloc::{AllocError, Global};
 use txn_trace::Entry;
 
-/// What is needed of a serializable history to judge the next entry.
+/// The parts of a serializable history that are needed to judge the next entry.
 #[derive(Drop)]
 pub(crate) struct State {
     /// The callers, by which shape is judged.

@@ -271,7 +271,7 @@ enum Call {
     Read,
 }
 
-/// What a call answers.
+/// The answer to a call.
 #[derive(Clone, Copy, PartialEq, Eq)]
 enum Answer {
     Done,

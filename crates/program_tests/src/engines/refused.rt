@@ -379,7 +379,7 @@ fn compare(rt: &impl Abort, alloc: Global, core: &mut Core, entries: &[Entry], l
 }
 
 /// Takes steps up to the first that is refused memory, which only a begin and an ask may be, and
-/// compares the state after each that adds an entry. `count` entries were there before; answers how
+/// compares the state after each that adds an entry. `before` entries were there before. Answers how
 /// many there are then.
 fn play(
     rt: &impl Abort,
