@@ -379,8 +379,8 @@ fn compare(rt: &impl Abort, alloc: Global, core: &mut Core, entries: &[Entry], l
 }
 
 /// Takes steps up to the first that is refused memory, which only a begin and an ask may be, and
-/// compares the state after each that adds an entry. `before` entries were there before. Answers how
-/// many there are then.
+/// compares the state after each that adds an entry. `before` entries were there before. Answers
+/// how many there are then.
 fn play(
     rt: &impl Abort,
     alloc: Global,
