@@ -160,7 +160,7 @@ build() {
     done < <(libraries)
     count=$((${#waiting[@]} + 1))
     most=$(nproc)
-    if [ -x "$built" ]; then echo "$program: building anew: its sources changed" >&2; else say_how_long; fi
+    if [ -x "$built" ]; then echo "$program: building again: its sources have changed" >&2; else say_how_long; fi
     begin_ready
     while [ ${#running[@]} -gt 0 ]; do
         await_one
