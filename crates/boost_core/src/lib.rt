@@ -18,10 +18,10 @@
 //! stripes elsewhere, as atomic words, an operation is asked for by such a right or by the word
 //! (`Words`). A `Drive` takes the steps of a caller between which others act.
 //!
-//! A step costs what it does on the table. Memory is taken only to begin, to ask, to save, to go
-//! back, to link a bucket and to store the first bucket of a segment: all that an operation and its
-//! undoing need is reserved when it is asked for. Calls take constant time and no memory unless
-//! they say otherwise.
+//! A step costs the time of its work on the table. Memory is taken only to begin, to ask, to save,
+//! to go back, to link a bucket and to store the first bucket of a segment: all that an operation
+//! and its undoing need is reserved when it is asked for. Calls take constant time and no memory
+//! unless they say otherwise.
 #![tactic(auto)]
 
 mod adding;

@@ -297,8 +297,8 @@ const PAST_READY: &[Turns] = &[
     Turns::One(Step::InitSeek(0, 27), Answer::Ready),
 ];
 
-/// A helper goes by the size right after its own doubling, although another caller doubles the
-/// table once more.
+/// A helper makes the buckets ready that its own doubling added, although another caller doubles
+/// the table once more.
 const BY_ITS_SIZE: &[Turns] = &[
     Turns::At(2, Step::Double(2), Answer::Doubled(4)),
     Turns::At(8, Step::InitSeek(2, 1), Answer::Ready),
