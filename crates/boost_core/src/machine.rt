@@ -138,9 +138,11 @@ impl Core {
     /// If a test refuses the step, the first that does is the answer, and the state is unchanged.
     /// Only `Begin`, `Ask`, `Save`, `Back`, `InitLink` and `InitStore` may be refused with
     /// `NoMemory`, after all tests; so no caller needs memory to seek, to act, to commit or to
-    /// abort. `InitStore` is only if no bucket of its segment of 64 is stored. `Again` means that
-    /// the cursor of the caller or helper no longer fits; it is dropped. As long as its two nodes
-    /// stay neighbours it is never the answer, whatever happens elsewhere in the list.
+    /// abort. `InitStore` may be refused so only if no bucket of its segment of 64 is stored.
+    ///
+    /// `Again` means that the cursor of the caller or helper no longer fits; it is dropped. That is
+    /// never the answer as long as the cursor's two nodes stay neighbours, whatever happens
+    /// elsewhere in the list.
     ///
     /// If stripes are words, no step may be an `Ask`: use `ask_with` and `ask_held`.
     ///

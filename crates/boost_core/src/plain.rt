@@ -46,8 +46,6 @@ impl Core {
     /// # Cost
     ///
     /// That of `put`.
-    ///
-    /// That of `put`.
     pub fn put_if(&mut self, caller: u64, key: u64, expected: Option<u64>, value: u64) -> Answer
         requires { self.old.words ≡ false }
         ensures operates { Operates self.old caller (Op.PutIf key expected value) result self.new }

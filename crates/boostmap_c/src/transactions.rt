@@ -17,7 +17,7 @@ use txn_trace::Step;
 ///
 /// # Cost
 ///
-/// Constant time, amortized; may take memory for the history.
+/// Amortized constant time; may take memory for the history.
 #[unsafe(no_mangle)]
 pub extern "C" fn boostmap_begin(
     alloc: Global,
@@ -45,7 +45,7 @@ pub extern "C" fn boostmap_begin(
 ///
 /// # Cost
 ///
-/// Constant time, amortized; may take memory for the history and the level.
+/// Amortized constant time; may take memory for the history and the level.
 #[unsafe(no_mangle)]
 pub extern "C" fn boostmap_save(alloc: Global, map: &mut Handle, caller: u64, word: &mut u64) -> u32
     ensures { Answers (λ old answer new. Move old (Step.Save caller) answer new)

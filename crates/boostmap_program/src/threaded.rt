@@ -91,7 +91,7 @@ fn fault_of(refusal: Refusal) -> Fault
 ///   script as refused.
 /// - `NoThread` if a thread could not be started; the workers that were started finish.
 /// - `OutOfStep` if the history is not what the workers saw.
-/// `Write` if a write fails or takes nothing: a proper prefix of the line is written.
+/// - `Write` if a write fails or takes nothing: a proper prefix of the line is written.
 ///
 /// # Cost
 ///

@@ -1,4 +1,4 @@
-//! A history as lines, one for each entry: the text that a store writes which records itself.
+//! A history as lines, one for each entry: the text of a store that records its own history.
 ghost use Rattle.std.specs.Prelude.{◌≡◌, [], ◌∷◌, ◌++◌, decimal, OnOk, IfOk, string_bytes};
 ghost use Rattle.std.specs.List.{join_with_byte};
 ghost use Rattle.txn_files.specs.HistoryText.{array_text, comma, optional_text, quoted};

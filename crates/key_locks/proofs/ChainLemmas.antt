@@ -52,7 +52,7 @@ held_below holders stripe caller held =
     ]
 
 -- ---- chains
--- a write at a stripe that is not in the chain leaves the chain unchanged
+-- A write at a stripe that is not in the chain leaves the chain unchanged.
 Leads-set : (older : Holders) (first : Option ℕ) (chain : List ℕ) (stripe : ℕ) (next : Option ℕ) → is_in chain stripe ≡ false → Leads older first chain → Leads (set older stripe next) first chain
 Leads-set older first [] stripe next out leads = leads
 Leads-set older first (other ∷ rest) stripe next out leads =
@@ -107,7 +107,7 @@ IsChain-freed holders older caller stripe rest is =
     }
 
 -- ---- holders
--- only callers hold stripes, also after a write of a caller or of none
+-- Only callers hold stripes, also after a write of a caller or of none.
 abbrev NoneElse : Holders → Type 0
 NoneElse holders = (stripe holder : ℕ) → get_or holders stripe None ≡ Some holder → holder < 64
 
@@ -137,7 +137,7 @@ Releases-none holders older newest caller are past = record {
 }
 
 -- ---- all chains
--- a write of one caller's newest stripe leaves the chains of the others unchanged
+-- A write of one caller's newest stripe leaves the chains of the others unchanged.
 AreChained-set : (holders older newest : Holders) (caller : ℕ) (first : Option ℕ) → length older ≡ length holders → length newest ≡ 64 → caller < 64
     → (chain : List ℕ) × IsChain holders older caller first chain
     → ((other : ℕ) → other < 64 → other ≢ caller → (chain : List ℕ) × IsChain holders older other (get_or newest other None) chain)

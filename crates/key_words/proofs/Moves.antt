@@ -28,7 +28,7 @@ times_other k j ks ne = ap (λ b. cond b 1 0 + times k ks) (ne_eqb j k ne) ∙ (
 once_at_most : (n word : ℕ) → once_for n word ≤ 1
 once_at_most n word = dite (ℕ_discrete word (n + 1)) (λ e. omega (arith, once_yes n word e)) (λ ne. omega (arith, once_no n word ne))
 
--- if a seat holds a stripe, the word is the seat's
+-- If a seat holds a stripe, the stripe's word is the seat's.
 own_word : (n word many : ℕ) → many ≡ once_for n word → 0 < many → word ≡ n + 1
 own_word n word many e h = dite (ℕ_discrete word (n + 1)) (λ y. y) (λ ne. absurd (omega (arith, once_no n word ne)))
 
@@ -115,7 +115,7 @@ front_of hs c x k ks e ne lx lk at = let a : Act (Option ℕ) = chain gives (cha
       l₃ ∙ l₂ ∙ l₁,
     ))
 
--- the effect of an act that brings the stripe k to the front
+-- The effect of an act that brings the stripe k to the front.
 pub record Fronts (hs : Slots) (k : ℕ) (ks : List ℕ) (a : Act (Option ℕ)) : Type 0 where
   pub valid : Valid hs (emptied ks) a
   pub order : carried_after (emptied ks) a ≡ emptied (k ∷ removed k ks)

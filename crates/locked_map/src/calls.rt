@@ -69,13 +69,13 @@ impl<L: Ledger> SharedMap<L> {
     /// # Errors
     ///
     /// - `Refused`, and the transaction is unchanged:
-    /// - `OutOfStep` if the token is broken.
-    /// - `NotOpen`, `Leaving`, `OperationUnfinished` and `BadKey` (a key of 2^63 or more, if the
-    ///   limits have half keys), the first that applies.
-    /// - Then `NoMemory` if memory is refused, for one more right, before any word is tried, or for
-    ///   the operation; `StampsUsedUp` if no stamp is left; `StaleWord` if by the core's record the
-    ///   word of the key's stripe does not say who holds it; and `OutOfStep`, which breaks the
-    ///   token.
+    ///   - `OutOfStep` if the token is broken.
+    ///   - `NotOpen`, `Leaving`, `OperationUnfinished` and `BadKey` (a key of 2^63 or more, if the
+    ///     limits have half keys), the first that applies.
+    ///   - Then `NoMemory` if memory is refused, for one more right, before any word is tried, or
+    ///     for the operation; `StampsUsedUp` if no stamp is left; `StaleWord` if by the core's
+    ///     record the word of the key's stripe does not say who holds it; and `OutOfStep`, which
+    ///     breaks the token.
     /// - `Busy` if the word of the key's stripe names another caller: the transaction is aborted,
     ///   with all its changes taken back and all its rights given back, and the side value has the
     ///   words that it had when the transaction began.
@@ -109,13 +109,13 @@ impl<L: Ledger> SharedMap<L> {
     /// # Errors
     ///
     /// - `Refused`, and the transaction is unchanged:
-    /// - `OutOfStep` if the token is broken.
-    /// - `NotOpen`, `Leaving`, `OperationUnfinished` and `BadKey` (a key of 2^63 or more, if the
-    ///   limits have half keys), the first that applies.
-    /// - Then `NoMemory` if memory is refused, for one more right, before any word is tried, or for
-    ///   the operation; `StampsUsedUp` if no stamp is left; `StaleWord` if by the core's record the
-    ///   word of the key's stripe does not say who holds it; and `OutOfStep`, which breaks the
-    ///   token.
+    ///   - `OutOfStep` if the token is broken.
+    ///   - `NotOpen`, `Leaving`, `OperationUnfinished` and `BadKey` (a key of 2^63 or more, if the
+    ///     limits have half keys), the first that applies.
+    ///   - Then `NoMemory` if memory is refused, for one more right, before any word is tried, or
+    ///     for the operation; `StampsUsedUp` if no stamp is left; `StaleWord` if by the core's
+    ///     record the word of the key's stripe does not say who holds it; and `OutOfStep`, which
+    ///     breaks the token.
     /// - `Busy` if the word of the key's stripe names another caller: the transaction is aborted,
     ///   with all its changes taken back and all its rights given back, and the side value has the
     ///   words that it had when the transaction began.
@@ -147,13 +147,13 @@ impl<L: Ledger> SharedMap<L> {
     /// # Errors
     ///
     /// - `Refused`, and the transaction is unchanged:
-    /// - `OutOfStep` if the token is broken.
-    /// - `NotOpen`, `Leaving`, `OperationUnfinished` and `BadKey` (a key of 2^63 or more, if the
-    ///   limits have half keys), the first that applies.
-    /// - Then `NoMemory` if memory is refused, for one more right, before any word is tried, or for
-    ///   the operation; `StampsUsedUp` if no stamp is left; `StaleWord` if by the core's record the
-    ///   word of the key's stripe does not say who holds it; and `OutOfStep`, which breaks the
-    ///   token.
+    ///   - `OutOfStep` if the token is broken.
+    ///   - `NotOpen`, `Leaving`, `OperationUnfinished` and `BadKey` (a key of 2^63 or more, if the
+    ///     limits have half keys), the first that applies.
+    ///   - Then `NoMemory` if memory is refused, for one more right, before any word is tried, or
+    ///     for the operation; `StampsUsedUp` if no stamp is left; `StaleWord` if by the core's
+    ///     record the word of the key's stripe does not say who holds it; and `OutOfStep`, which
+    ///     breaks the token.
     /// - `Busy` if the word of the key's stripe names another caller: the transaction is aborted,
     ///   with all its changes taken back and all its rights given back, and the side value has the
     ///   words that it had when the transaction began.
@@ -189,13 +189,13 @@ impl<L: Ledger> SharedMap<L> {
     /// # Errors
     ///
     /// - `Refused`, and the transaction is unchanged:
-    /// - `OutOfStep` if the token is broken.
-    /// - `NotOpen`, `Leaving`, `OperationUnfinished` and `BadKey` (a key of 2^63 or more, if the
-    ///   limits have half keys), the first that applies.
-    /// - Then `NoMemory` if memory is refused, for one more right, before any word is tried, or for
-    ///   the operation; `StampsUsedUp` if no stamp is left; `StaleWord` if by the core's record the
-    ///   word of the key's stripe does not say who holds it; and `OutOfStep`, which breaks the
-    ///   token.
+    ///   - `OutOfStep` if the token is broken.
+    ///   - `NotOpen`, `Leaving`, `OperationUnfinished` and `BadKey` (a key of 2^63 or more, if the
+    ///     limits have half keys), the first that applies.
+    ///   - Then `NoMemory` if memory is refused, for one more right, before any word is tried, or
+    ///     for the operation; `StampsUsedUp` if no stamp is left; `StaleWord` if by the core's
+    ///     record the word of the key's stripe does not say who holds it; and `OutOfStep`, which
+    ///     breaks the token.
     /// - `Busy` if the word of the key's stripe names another caller: the transaction is aborted,
     ///   with all its changes taken back and all its rights given back, and the side value has the
     ///   words that it had when the transaction began.

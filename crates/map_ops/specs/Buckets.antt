@@ -96,7 +96,7 @@ IsPlacedFor t helper bucket =
     (cursor : Cursor) × (helper_cursor t helper ≡ Some cursor)
     × IsPlaced t.list cursor × (at_of cursor ≡ dummy_at bucket)
 
--- A seek placed a cursor for the bucket: the helper has it, with the change number of now, and it
+-- A seek placed a cursor for the bucket: the helper has it, with the present change number, and it
 -- fits.
 pub record Seeks (old new : TableAt) (helper bucket : ℕ) : Type 0 where
   pub helps : Helps old new helper (Sought bucket (table_changes new))

@@ -76,7 +76,7 @@ linked_of t = map (has_dummy t.list.nodes) (range_with_len 0 (limit_of t.buckets
 abbrev pub helps_of : TableAt → List Help
 helps_of t = map help_of t.buckets.helpers
 
--- The buckets are unchanged, and so is each thing that is read of them.
+-- The buckets are unchanged, and so is everything that is read of them.
 pub record KeepsBuckets (old new : TableAt) : Type 0 where
   pub all : new.buckets ≡ old.buckets
   pub size : size_of new ≡ size_of old

@@ -75,9 +75,9 @@ impl Table {
         Table::with_list(alloc, list, max, callers)
     }
 
-    /// A table as from `new`, but without counts of marked nodes by region: `sweep` walks the list
-    /// if a node is marked. It is for an owner who unlinks each node right after marking it, by a
-    /// seek for its key.
+    /// A new table without counts of marked nodes by region: `sweep` walks the list if a node is
+    /// marked. It is for an owner who unlinks each node right after marking it, by a seek for its
+    /// key.
     ///
     /// # Errors
     ///
@@ -456,8 +456,9 @@ impl Table {
 
     /// Doubles the size. No node moves.
     ///
-    /// Nothing changes, in this order, if the size is not the one seen (`Moved`), if it is the
-    /// largest (`AtLimit`), or if there are at most twice as many keys as buckets (`Light`).
+    /// Three tests come first, in this order, and if one of them holds nothing changes: the size is
+    /// not the one seen (`Moved`); it is the largest (`AtLimit`); there are at most twice as many
+    /// keys as buckets (`Light`).
     pub fn double(&mut self, seen: u64) -> Double
         ensures answer { result
             ≡ double_answer (size_of self.old) (largest_of self.old)

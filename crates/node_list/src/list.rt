@@ -95,8 +95,8 @@ impl NodeList {
         NodeList::with_marks(alloc, first_stamp, Marks::ByRegion(tally))
     }
 
-    /// A list as from `new`, but without counts of marked nodes by region: `marks_begin` walks the
-    /// list if a node is marked. It is for an owner who unlinks each node right after marking it.
+    /// A new list without counts of marked nodes by region: `marks_begin` walks the list if a node
+    /// is marked. It is for an owner who unlinks each node right after marking it.
     ///
     /// # Errors
     ///

@@ -24,7 +24,6 @@ pub fn parent(bucket: u32) -> u32
 /// The bucket of a key in a table of this size, a power of two: the key's lowest bits. The dummies
 /// of the bucket and of all its ancestors stand before the key, so a search for the key may begin
 /// at any of them.
-/// Constant time; takes no memory.
 pub fn bucket_of(key: Key, size: u32) -> u32
     requires { IsPowerOfTwo size }
     ensures value { result ≡ key % size }
@@ -37,7 +36,6 @@ pub fn bucket_of(key: Key, size: u32) -> u32
 /// The bucket to which a position of the split order belongs, in a table of this size, a power of
 /// two: of the table's dummies whose split keys are not above `split`, this bucket's has the
 /// greatest. The dummies of its ancestors are not above `split` either.
-/// Constant time; takes no memory.
 pub fn bucket_at(split: u64, size: u32) -> u32
     requires { IsPowerOfTwo size }
     ensures value { result ≡ reversed split % size }
