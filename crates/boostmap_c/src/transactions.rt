@@ -1,4 +1,5 @@
-//! The beginning and the ends of a transaction, and its savepoints.
+//! The beginning and the ends of a transaction, and its savepoints. A commit and an abort take no
+//! memory.
 ghost use Rattle.boost_core.specs.Machine.{Move};
 ghost use Rattle.boost_core.specs.Plain.{Aborts, Returns};
 ghost use Rattle.boostmap_c.specs.Calls.{Answers};

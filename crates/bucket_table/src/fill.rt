@@ -1,4 +1,5 @@
-//! Vectors filled with one value.
+//! Vectors filled with one value: the idle helpers of a new table, and the entries of a new
+//! segment.
 ghost use Rattle.std.specs.Prelude.{◌≡◌, replicate, IfOk};
 
 use std::alloc::{AllocError, Global};

@@ -1,4 +1,5 @@
-//! Worked runs on the core.
+//! Worked runs on the core: calls in tables, each with its answer, and the pairs and the history
+//! that they leave.
 mod limits;
 mod pairs;
 mod plain_map;

@@ -1,4 +1,5 @@
-//! The calls of a core, each without a contract.
+//! The calls of a core, each in a function without a contract, so that a test has only its own
+//! safety to prove.
 use boost_core::Core;
 use std::alloc::{AllocError, Global};
 use std::process::Abort;

@@ -1,4 +1,5 @@
-//! Workers that take turns as a seed says.
+//! Workers that take turns as a seed says: the history of each mix, compared with the turns of its
+//! workers.
 use rand_core::SeedableRng;
 use rand_core::utils::NextWord;
 use rand_pcg::Pcg32;

@@ -1,4 +1,5 @@
-//! An entry from the elements of its array, in the form of the newest version of history files.
+//! An entry from the elements of its array, in the form of the newest version of history files. The
+//! elements were read before, so this takes no memory.
 ghost use Rattle.std.specs.Prelude.{◌≡◌, map, option_map};
 ghost use Rattle.piece_files.specs.Plain.{data_of};
 ghost use Rattle.txn_files.specs.Entries.{busy_of, entry_named, entry_of, transaction_entry};

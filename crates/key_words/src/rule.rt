@@ -1,4 +1,5 @@
-//! The rule of the words, and the names of its steps.
+//! The rule of the words, and a type for each of the steps that keep it. A call names its step by
+//! the type, and no value of these types is made.
 ghost use Rattle.std.specs.Prelude.{[]};
 ghost use Rattle.key_words.specs.Rule.{IsOrderly, view};
 ghost use Rattle.key_words.specs.Steps.{brought, elder, freed, newborn, took};

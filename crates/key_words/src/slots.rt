@@ -1,4 +1,5 @@
-//! The slots of the stripes before the words are made.
+//! The slots of the stripes before the words are made. Each right is moved into its stripe's slot,
+//! and out again if memory for the words is refused, so that no right is lost.
 ghost use Rattle.std.specs.Prelude.{◌≡◌, ◌≤◌, [], IfOk, vec_len, vec_capacity};
 ghost use Rattle.key_locks.specs.Rights.{AreAll};
 ghost use Rattle.key_words.specs.Slots.{AreLaid};

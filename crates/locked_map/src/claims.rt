@@ -1,4 +1,5 @@
-//! The rights to stripes that a caller holds, and the word that it tried last.
+//! The rights to stripes that a caller holds, and the word that it tried last: an operation is
+//! asked for by one of these.
 ghost use Rattle.std.specs.Prelude.{◌≡◌, ◌<◌, [], true, None, IfErr, OnOk};
 ghost use Rattle.txn_trace.specs.Locks.{stripe_of};
 ghost use Rattle.txn_trace.specs.Map.{key_of};

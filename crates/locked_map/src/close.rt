@@ -1,4 +1,5 @@
-//! Closing a map: its history is compared with what the callers saw.
+//! Closing a map: its history is compared with what the callers saw. The ledger has counted what
+//! they saw, so if each caller's own entries are right there are no others.
 ghost use Rattle.std.specs.Prelude.{◌≡◌, ◌+◌, ◌==◌, ◌↔◌, All, IsTrue, IfOk, IfErr, length};
 ghost use Rattle.std.specs.List.{list_any, sum_by};
 ghost use Rattle.txn_trace.specs.declared.holder.Holder.TheVariants.{Begun};

@@ -1,4 +1,5 @@
-//! The ends that a call may have, and those that break its token.
+//! The ends that a call may have, and those that break its token: an end that a call may not have
+//! shows that core and token are out of step.
 ghost use Rattle.std.specs.Prelude.{◌≡◌, ◌||◌, not};
 ghost use Rattle.locked_map.specs.Suits.{is_odd, may_refuse};
 ghost use Rattle.locked_map.specs.Holds.{end_in, odd_if};

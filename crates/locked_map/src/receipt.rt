@@ -1,4 +1,4 @@
-//! The answer to a commit: the transaction's number and its commit number.
+//! The receipt of a commit: two numbers with names, so that they are not mixed up.
 /// The answer to a commit.
 #[derive(Clone, Copy, Debug, PartialEq, Eq)]
 pub struct Receipt {

@@ -1,4 +1,5 @@
-//! The entries that a caller has seen.
+//! The entries that a caller has seen, with its seat after them and its share of the ledger.
+//! Invariant: there is room for all that the caller owes, and the share counts the entries.
 ghost use Rattle.std.specs.Prelude.{◌≡◌, ◌+◌, ◌<◌, ◌≤◌, ◌^◌, ℕ, true, [], ◌++◌, is_some, length, Some, OnOk, OnErr};
 ghost use Rattle.txn_trace.specs.Entries.{entries_of};
 ghost use Rattle.txn_trace.specs.Owed.{owed_by};

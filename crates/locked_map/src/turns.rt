@@ -1,4 +1,5 @@
-//! The turns of a drive on the core: takes their steps, and notes their entries.
+//! The turns of a drive on the core. A step is taken on the core, in the book, in the seen entries
+//! and in the drive by one function, so that none of them misses it.
 ghost use Rattle.std.specs.Prelude.{◌≡◌, ℕ, true, false, Some, List, [], is_some};
 ghost use Rattle.txn_trace.specs.declared.entry.Entry.{Entry};
 ghost use Rattle.txn_trace.specs.declared.refusal.Refusal.{Refusal};

@@ -1,4 +1,5 @@
-//! Nodes, and the references that name them.
+//! Nodes, and the references that name them. A reference is a place in the slab; the stamp of a
+//! node tells it from any other node that is ever at its place.
 ghost use Rattle.std.specs.Prelude.{◌≡◌, ◌-◌, ◌^◌, ◌<◌, if◌then◌else◌, None, true, false};
 ghost use Rattle.node_list.specs.Nodes.{is_regular};
 ghost use Rattle.node_list.specs.declared.node.Kind.TheVariants.{Dummy};

@@ -1,4 +1,5 @@
-//! The slots of the slab: a linked node, or a place that is kept for a spare.
+//! The slots of the slab: a linked node, or a place that is kept for a spare. A slot is as large as
+//! a node, 48 bytes, since the node itself says whether it is linked.
 ghost use Rattle.std.specs.Prelude.{◌≡◌, Some, true, option_copied};
 ghost use Rattle.slab.specs.Slab.{get, with_value, ContainsKey};
 ghost use Rattle.node_list.specs.declared.node.Node.{Node};

@@ -1,4 +1,5 @@
-//! The check of a whole history in memory, by the order of its commits.
+//! The check of a whole history in memory, by the order of its commits: a `Checker` is fed all
+//! entries.
 ghost use Rattle.std.specs.Prelude.{◌<◌, IfOk};
 ghost use Rattle.std.specs.List.{All};
 ghost use Rattle.txn_trace.specs.History.{caller_of};

@@ -1,4 +1,6 @@
-//! The course of one script to its outcome.
+//! The course of one script to its outcome: call after call on the shared map, by the rules of
+//! `Attempt` (`script_worker`). The loop keeps an account of the entries that the caller has added
+//! since the script began (`specs/Accounts.antt`).
 ghost use Rattle.std.specs.Prelude.{◌≡◌, ◌-◌, [], true, false, is_some, vec_len, vec_capacity};
 ghost use Rattle.txn_trace.specs.declared.refusal.Refusal.{Refusal};
 ghost use Rattle.txn_trace.specs.declared.seat.Phase.{Phase};

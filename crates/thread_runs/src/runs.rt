@@ -1,4 +1,6 @@
-//! A run of scripts: the map, the threads, and the result.
+//! A run of scripts: makes the map, lets the workers run in their threads, closes the map, and
+//! merges the outcomes. It picks the names of ledger and terms itself, so that its callers need
+//! none.
 ghost use Rattle.std.specs.Prelude.{◌≡◌, ◌≤◌, IfOk, IfErr, map, reverse};
 ghost use Rattle.thread_runs.specs.Runs.{IsRunOf, IsRunRefusal};
 

@@ -1,4 +1,4 @@
-//! The terms of a run, named by a type.
+//! The terms of a run, named by a type, by which the promise of a worker's thread refers to them.
 use std::marker::Brand;
 
 /// The number of workers of a run, how often each tries a script again, and the scripts. Contracts

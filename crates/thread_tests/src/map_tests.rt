@@ -1,4 +1,4 @@
-//! Worked runs of callers of one map.
+//! Worked runs of callers of one map: by tables, by hand, in threads, and with memory refused.
 mod by_hand;
 mod cores;
 mod refused;

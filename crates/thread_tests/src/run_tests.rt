@@ -1,4 +1,5 @@
-//! Runs of scripts on threads.
+//! Runs of scripts on threads: in an order that a gate forces, with any number of workers, and with
+//! memory refused.
 use crate::devices::{is_refused, is_settled, judge};
 use history_check::Verdict;
 use std::alloc::{AllocError, Global};

@@ -1,4 +1,5 @@
-//! The actions of scripts.
+//! The actions of scripts. None of them begins or commits: a worker begins a transaction before the
+//! first action of a script and commits after the last.
 
 use crate::op::Op;
 

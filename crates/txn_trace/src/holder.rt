@@ -1,4 +1,6 @@
-//! The two rules for the caller that a Busy entry names.
+//! The two rules for the caller that a Busy entry names. The rule is a parameter of the rule of
+//! locks, so that one definition of legal histories serves maps that record an entry when they test
+//! the stripe and maps that record it later.
 
 /// The caller that a Busy entry may name, in the rule of locks: another caller, which holds the
 /// stripe of the operation now, or at least has begun a transaction before.

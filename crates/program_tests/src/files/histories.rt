@@ -1,4 +1,5 @@
-//! History files, read and written.
+//! History files: their content, the text that is written for it, and the first fault of each that
+//! is refused.
 
 use super::{Files, Kind};
 use std::alloc::Global;

@@ -1,4 +1,4 @@
-//! Step files.
+//! Step files: their content, and the first fault of each that is refused.
 
 use super::{Files, Kind};
 use std::alloc::Global;

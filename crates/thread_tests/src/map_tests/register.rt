@@ -1,3 +1,4 @@
+//! The tests' side value, a register of four words, and the job that takes back one change of it.
 ghost use Rattle.std.specs.Prelude.{◌≡◌};
 ghost use Rattle.thread_tests.specs.declared.map_tests.register.Register.{Register as Value};
 

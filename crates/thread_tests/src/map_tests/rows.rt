@@ -1,4 +1,4 @@
-//! Calls by their names, in the order of a table.
+//! Calls by their names, in the order of a table, each compared with the answer that it must have.
 use crate::devices::{
     Play, Shared, Told, callers_of, close, close_or_miss, has_seen, is_settled, make, play_with,
 };

@@ -1,4 +1,4 @@
-//! Callers that each run in a thread.
+//! Callers that each run in a thread, one after the other or all at the same time.
 ghost use Rattle.std.specs.Prelude.{◌≡◌};
 
 use super::rows::{Row, play_row};
