@@ -1,0 +1,69 @@
+#!/usr/bin/env bash
+# Gives `judge watch` and its twin in plain Rust (whole/) the same entries, one a line, of 64 callers on 100,000 keys (entries.rs),
+# and prints of each way to judge and each length the seconds of processor time of one run of both, the middle of the rounds, and
+# their ratio; the most memory of both in MB; and the millions of instructions of both on the first 200,000 of the entries, and
+# their ratio. What both print is compared, of each third entry left out too, which is illegal. It needs valgrind, and 300 MB for
+# the entries. Other work on the machine changes only the times. PROGRAM may name the program `judge`.
+# Usage: docs/speed/watch.sh [ENTRIES] [ROUNDS]
+source "$(dirname "${BASH_SOURCE[0]}")/common.sh"
+entries=${1:-10000000}
+rounds=${2:-5}
+
+take_program judge
+build_whole
+rustc -O -o "$work/entries" docs/speed/entries.rs
+"$work/entries" "$entries" 100000 >"$work/long"
+head -n 200000 "$work/long" >"$work/short"
+
+# One run of a program on a file: its seconds of processor time, and its most memory in KB.
+costs() {
+  /usr/bin/time -o "$work/costs" -f '%U %S %M' "$work/$1" "${@:3}" <"$2" >"$work/$1.text"
+  awk '{ print $1 + $2, $3 }' "$work/costs"
+}
+
+# The millions of instructions of one run of a program on the short file.
+millions() {
+  valgrind --tool=callgrind --callgrind-out-file="$work/counts" "$work/$1" "${@:2}" 2>"$work/log" <"$work/short" >"$work/$1.text"
+  awk '/Collected/ { print $4 / 1e6 }' "$work/log"
+}
+
+compare() {
+  cmp "$work/proved.text" "$work/plain.text"
+}
+
+# That both find the same entry bad where the file has one left out.
+same_illegal() {
+  local left_out program
+  for left_out in 3 50 1000 20001 150000; do
+    sed "${left_out}d" "$work/short" >"$work/cut"
+    for program in proved plain; do
+      "$work/$program" "$@" <"$work/cut" >"$work/$program.text" || [ $? = 1 ]
+    done
+    compare
+    grep -q '^illegal entry' "$work/proved.text"
+  done
+}
+
+# Prints the row of a way to judge.
+row() {
+  local program middle=$(((rounds + 1) / 2))
+  rm -f "$work"/*.costs
+  for _ in $(seq "$rounds"); do
+    for program in proved plain; do
+      costs $program "$work/long" "$@" >>"$work/$program.costs"
+    done
+    compare
+  done
+  grep -q '^legal' "$work/proved.text"
+  same_illegal "$@"
+  for program in proved plain; do
+    echo "$(sort -n "$work/$program.costs" | sed -n "${middle}p") $(millions $program "$@") "
+  done | tr -d '\n' | awk -v way="$2" -v entries="$entries" '{
+    printf "%-15s %9d %8.2f %8.2f %6.2f %7.1f %7.1f %9.1f %9.1f %6.2f\n", way, entries, $1, $4, $1 / $4, $2 / 1024, $5 / 1024, $3, $6,
+      $3 / $6 }' way="${2#--}"
+  compare
+}
+
+printf '%-15s %9s %8s %8s %6s %7s %7s %9s %9s %6s\n' rules entries proved plain ratio MB plain proved plain ratio
+row watch --stripes 4096
+row watch --serializable
