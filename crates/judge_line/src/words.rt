@@ -165,7 +165,8 @@ fn basis_in(by_commits: bool, word: Option<&str>) -> Option<Basis>
 
 /// The call for the outcomes of these files, unless standard input would have to be both.
 fn outcomes_of<'a>(scripts: &'a str, history: &'a str) -> Option<Call<'a>>
-    ensures { option_map asked_of result ≡ outcomes_for scripts.entry.now history.entry.now }
+    ensures call { option_map asked_of result ≡ outcomes_for scripts.entry.now history.entry.now }
+    ensures stripes { IfSome result (λ call. IsReady (asked_of call)) }
 {
     if scripts == STANDARD && history == STANDARD {
         None
