@@ -24,14 +24,13 @@ build_proved() {
   cp "crates/$1/out/$1" "$work/proved"
 }
 
-# Takes the program `boostmap`, or the one that is given, which is then `proved` in $work: the file that PROGRAM names, or else
-# that of this repository, which is proved and built where it is not.
+# Takes the program, which is then `proved` in $work: the file that PROGRAM names, or else that of this repository, which is
+# proved and built where it is not.
 take_program() {
-  local program=${1:-boostmap}
   if [ -z "${PROGRAM:-}" ]; then
-    quietly "./$program" check examples/checked.json
+    quietly ./boostmap check examples/checked.json
   fi
-  cp "${PROGRAM:-crates/$program/out/$program}" "$work/proved"
+  cp "${PROGRAM:-crates/boostmap/out/boostmap}" "$work/proved"
 }
 
 # Builds a program in plain Rust, as rustc lays memory out, and as the proved program has it.

@@ -49,7 +49,7 @@ pub enum Action {
     Abort,
 }
 
-pub type Refused = Box<dyn error::Error>;
+type Refused = Box<dyn error::Error>;
 
 /// Refuses operations that a file of this version has not.
 fn are_of(version: u64, mut ops: impl Iterator<Item = Op>) -> Result<(), Refused> {
@@ -96,24 +96,6 @@ pub fn read_scripts(bytes: &[u8]) -> Result<Scripts, Refused> {
     })
 }
 
-/// Whether the callers of an entry are.
-fn are_in_range(entry: &Entry) -> bool {
-    match *entry {
-        Entry::Busy(caller, _, holder) => caller < 64 && holder < 64,
-        _ => entry.caller() < 64,
-    }
-}
-
-/// The entry that a line is.
-pub fn read_entry(line: &[u8]) -> Result<Entry, Refused> {
-    let entry = serde_json::from_slice(line)?;
-    if are_in_range(&entry) {
-        Ok(entry)
-    } else {
-        Err("a number out of range".into())
-    }
-}
-
 pub fn read_history(bytes: &[u8]) -> Result<HistoryFile, Refused> {
     let file: HistoryFile = serde_json::from_slice(bytes)?;
     let ops = file.entries.iter().filter_map(|entry| match *entry {
@@ -121,7 +103,10 @@ pub fn read_history(bytes: &[u8]) -> Result<HistoryFile, Refused> {
         _ => None,
     });
     are_of(file.version, ops)?;
-    let are_callers = file.entries.iter().all(are_in_range);
+    let are_callers = file.entries.iter().all(|entry| match *entry {
+        Entry::Busy(caller, _, holder) => caller < 64 && holder < 64,
+        _ => entry.caller() < 64,
+    });
     let is_version = (1..=3).contains(&file.version);
     if are_callers && is_version && (1..=4096).contains(&file.stripes) {
         Ok(file)

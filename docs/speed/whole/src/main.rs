@@ -1,9 +1,8 @@
-//! The commands `replay`, `check`, `mix` and `run` of the program, and `watch` of the program `judge`, in plain Rust: read with
-//! typed serde, do, write. It writes what the program writes, and nothing is proved of it. See ../../SPEED.md.
+//! The commands `replay`, `check`, `mix` and `run` of the program, in plain Rust: read with typed serde, do, write. It writes
+//! what the program writes, and nothing is proved of it. See ../../SPEED.md.
 //!
 //! Usage: whole replay FILE | whole check FILE | whole mix --seed N FILE | whole run FILE | whole run_kept FILE, which also
-//! keeps what each worker saw | whole watch --stripes N | whole watch --serializable | whole history FILE N, which writes the
-//! first N entries of a step file's history.
+//! keeps what each worker saw | whole history FILE N, which writes the first N entries of a step file's history.
 #![allow(dead_code, unexpected_cfgs)]
 
 mod check;
@@ -20,7 +19,6 @@ mod split;
 mod step;
 #[path = "../../tally.rs"]
 mod tally;
-mod watch;
 
 use files::{Scripts, history_text, read_history, read_scripts, read_steps};
 use machine::Core;
@@ -79,8 +77,6 @@ fn output() -> Result<(String, bool), Box<dyn Error>> {
             history_text(&entries, limits.stripes, version)
         }
         ["check", file] => return Ok(check::verdict(&read_history(&fs::read(file)?)?)),
-        ["watch", "--serializable"] => return watch::watch(None),
-        ["watch", "--stripes", stripes] => return watch::watch(Some(stripes.parse()?)),
         ["mix", "--seed", seed, file] => {
             let scripts = read_scripts(&fs::read(file)?)?;
             let version = scripts.version;
