@@ -38,17 +38,27 @@ compare() {
   cmp "$work/proved.text" "$work/plain.text"
 }
 
-# That both find the same entry bad where the file has one left out.
+# That both find the same entry bad if one is left out, or a reply is another.
 same_illegal() {
-  local left_out program
-  for left_out in 3 50 1000 20001 150000; do
-    sed "${left_out}d" "$work/short" >"$work/cut"
-    for program in proved plain; do
-      "$work/$program" "$@" <"$work/cut" >"$work/$program.text" || [ $? = 1 ]
+  local line change program
+  for line in 3 50 1000 20001 150000; do
+    for change in out reply; do
+      awk -v line=$line -v change=$change '
+        NR >= line && !done && (change == "out" || /"did"/) {
+          done = 1
+          if (change == "out") next
+          sub(/[0-9a-z]+]$/, "1000000000]")
+        }
+        { print }' "$work/short" >"$work/forged"
+      for program in proved plain; do
+        "$work/$program" "$@" <"$work/forged" >"$work/$program.text" || [ $? = 1 ]
+      done
+      compare
+      cat "$work/proved.text" >>"$work/verdicts"
     done
-    compare
-    grep -q '^illegal entry' "$work/proved.text"
   done
+  grep -q '^illegal .* rule 1' "$work/verdicts"
+  grep -q '^illegal .* rule 3' "$work/verdicts"
 }
 
 # Prints the row of a way to judge.
