@@ -1,6 +1,7 @@
 pub mod Asking
 pub mod Building
 pub mod Calls
+pub mod Doing
 pub mod Running
 pub mod Sources
 pub mod Stripes

@@ -4,37 +4,18 @@ use Rattle.std.specs.Prelude.{IfSome}
 use Rattle.std.specs.Result.{IsErrAnd}
 use Rattle.std.specs.declared.io.ErrorKind.{ErrorKind}
 use Rattle.std.specs.declared.io.ErrorKind.TheVariants.{OutOfMemory}
-use Rattle.std.specs.Io.KnownBytes.{Keeps}
 use Rattle.clap.specs.Words.{Text}
-use Rattle.judge_engine.specs.declared.fault.Fault.{Fault as EngineFault}
 use Rattle.judge_engine.specs.declared.fault.Fault.TheVariants as faults
-use Rattle.judge_engine.specs.declared.outcomes.OutcomesFault.TheVariants as both
 use Rattle.judge_line.specs.declared.failure.Failure.{Failure}
-use Rattle.judge_line.specs.declared.failure.Failure.TheVariants.{Usage, Fault, Outcomes}
+use Rattle.judge_line.specs.declared.failure.Failure.TheVariants.{Usage, Fault}
 use Rattle.judge_line.specs.Words.{Asked, Asks}
-use Rattle.judge_line.specs.Runs.{ByFault, Does, DoesNothing, Files, LeavesBoth, Outcome, Runs, memory_or}
-
-pub keeps_same : (known : Option (List ℕ)) → Keeps known known
-keeps_same None = tt
-keeps_same (Some xs) = refl
+use Rattle.judge_line.specs.Runs.{Does, DoesNothing, Files, Outcome, Runs, memory_or}
+use Rattle.judge_line.proofs.Doing.{keeps_same}
 
 -- Want of memory is a failure of its own.
 pub memory_or_is : (kind : ErrorKind) (other : Failure) → (memory_or kind other ≡ Fault faults.NoMemory) ⊎ (memory_or kind other ≡ other)
 memory_or_is OutOfMemory other = inl refl
 memory_or_is kind other = inr refl
-
--- A source that is not opened is a fault of the engine, which is want of memory or a failed read.
-pub not_opened : (P : EngineFault → Type 0) (failure : Failure) → P faults.NoMemory → P faults.Read → (failure ≡ Fault faults.NoMemory) ⊎ (failure ≡ Fault faults.Read) → ByFault P failure
-not_opened P failure memory read (inl is) = subst (ByFault P) (sym is) memory
-not_opened P failure memory read (inr is) = subst (ByFault P) (sym is) read
-
-pub scripts_not_opened : (s h known : Option (List ℕ)) (failure : Failure) → (failure ≡ Fault faults.NoMemory) ⊎ (failure ≡ Outcomes both.ScriptsRead) → LeavesBoth s h known known failure
-scripts_not_opened s h known failure (inl is) = subst (LeavesBoth s h known known) (sym is) (refl, keeps_same known)
-scripts_not_opened s h known failure (inr is) = subst (LeavesBoth s h known known) (sym is) (keeps_same known)
-
-pub history_not_opened : (s h known : Option (List ℕ)) (failure : Failure) → (failure ≡ Fault faults.NoMemory) ⊎ (failure ≡ Outcomes both.HistoryRead) → LeavesBoth s h known known failure
-history_not_opened s h known failure (inl is) = subst (LeavesBoth s h known known) (sym is) (refl, keeps_same known)
-history_not_opened s h known failure (inr is) = subst (LeavesBoth s h known known) (sym is) (keeps_same known)
 
 -- What holds of the words holds of the words that are known.
 of_known : (spoken : Option (List Text)) (words : List Text) (P : List Text → Type 0) → IfSome spoken (λ known. words ≡ known) → P words → IfSome spoken P

@@ -1,6 +1,6 @@
 //! The command line, by the rules of `clap`: which call the words ask for, or that they ask for
 //! none. Each command is made and added by itself, which keeps the proof of `command` cheap.
-ghost use Rattle.std.specs.Prelude.{◌≡◌, ◌⊎◌, Some, None, IfOk, IfErr, IfSome, codes, map, option_and_then, option_map};
+ghost use Rattle.std.specs.Prelude.{◌≡◌, ◌⊎◌, Some, None, IfOk, IfErr, IfSome, codes, map, option_map};
 ghost use Rattle.std.specs.String.{string_bytes};
 ghost use Rattle.clap.specs.Words.{first_of, found_of, rows_of, rule_of};
 ghost use Rattle.judge_engine.specs.declared.fault.Fault.TheVariants as faults;
