@@ -4,7 +4,7 @@ use Rattle.std.specs.Prelude.{IfOk, IfErr, option_map, option_and_then}
 use Rattle.std.specs.Option.{ok_or}
 use Rattle.clap.specs.declared.error.Error.{Error}
 use Rattle.clap.specs.declared.error.kind.ErrorKind.{ErrorKind}
-use Rattle.clap.specs.declared.error.kind.ErrorKind.TheVariants.{OutOfMemory}
+use Rattle.clap.specs.declared.error.kind.ErrorKind.TheVariants.{DisplayHelp, DisplayVersion, OutOfMemory}
 use Rattle.clap.specs.Words.{App, HasKind, IsAmong, Kinds, Row, Text, fault_of, is_simple, is_simple_and_free, kind_of, subcommand_of}
 use Rattle.clap.proofs.OnLiterals.{clap_on_literals}
 use Rattle.judge_engine.specs.declared.fault.Fault.TheVariants as faults
@@ -34,6 +34,12 @@ refused app words error what same fails other is = elim (fails (ap is_simple_and
   | inl memory ↦ absurd (other memory)
   | inr among ↦ by_kind (fault_of command_line words) (subcommand_of command_line words) (kind_of error) what (subst (λ a. IsAmong (kind_of error) (fault_of a words)) same among) is
 ]
+
+-- A kind that is neither help nor the version is none of the program's answers.
+pub no_answer : (kind : ErrorKind) → (kind ≡ DisplayHelp → ⊥) → (kind ≡ DisplayVersion → ⊥) → None ≡ answer_to kind
+no_answer DisplayHelp no_help no_version = absurd (no_help refl)
+no_answer DisplayVersion no_help no_version = absurd (no_version refl)
+no_answer kind no_help no_version = refl
 
 -- What a parse that passes finds is asked for.
 pub found : (app : App) (words : List Text) (met : Option (Text × List Row)) (what : Option Asked) → app ≡ command_line → (is_simple_and_free app ≡ true → fault_of app words ≡ []) → (is_simple app ≡ true → met ≡ subcommand_of app words)

@@ -7,8 +7,8 @@ use Rattle.judge_engine.specs.declared.fault.Fault.{Fault}
 use Rattle.judge_engine.specs.declared.fault.Fault.TheVariants.{Input, Line, NoMemory, Read, Write}
 use Rattle.judge_engine.specs.declared.outcomes.OutcomesFault.{OutcomesFault}
 use Rattle.judge_engine.specs.declared.outcomes.OutcomesFault.TheVariants as both
-use Rattle.judge_engine.specs.Files.{Checks, FailsToCheck, FailsToExplain, OfFile}
-use Rattle.judge_engine.specs.Outcomes.{LeavesOutcomes, WritesOutcomes, Tells}
+use Rattle.judge_engine.specs.Files.{Checks, FailsToCheck, FailsToExplain, OfFile, max_read}
+use Rattle.judge_engine.specs.Outcomes.{IsReport, LeavesOutcomes, WritesOutcomes, Tells}
 use Rattle.judge_engine.specs.Outputs.{Leaves, WritesLine, WritesLines}
 use Rattle.judge_engine.specs.Watching.{FailsToWatch, OfAll, Watches}
 
@@ -21,10 +21,10 @@ read_same None bytes P same holds = tt
 read_same (Some xs) bytes P same holds = subst (λ b. IfSome b P) same holds
 
 pub of_file : (known bytes : Option (List ℕ)) (P : List ℕ → Type 0) → Holds known bytes → OfFile bytes P → OfFile known P
-of_file known bytes P same (read, is, holds) = (read, read_same known bytes _ same is, holds)
+of_file known bytes P same (read, is, holds) = (read, read_same known bytes (λ all. read ≡ take max_read all) same is, holds)
 
 pub of_all : (known bytes : Option (List ℕ)) (P : List ℕ → Type 0) → Holds known bytes → OfAll bytes P → OfAll known P
-of_all known bytes P same (read, is, holds) = (read, read_same known bytes _ same is, holds)
+of_all known bytes P same (read, is, holds) = (read, read_same known bytes (λ all. read ≡ all) same is, holds)
 
 -- What follows for verdicts follows for what is written of them.
 pub writes_line : (P Q : Verdict → Type 0) (well : Bool) (old new : Option (List ℕ)) → ((v : Verdict) → P v → Q v) → WritesLine P well old new → WritesLine Q well old new
@@ -63,7 +63,8 @@ fails_to_watch basis known bytes Write same h = h
 
 -- The same of the two files of `outcomes`.
 tells : (s h left right : Option (List ℕ)) (text : List ℕ) (well : Bool) → Holds s left → Holds h right → Tells left right text well → Tells s h text well
-tells s h left right text well one two (read, is, more) = (read, read_same s left _ one is, of_file h right _ two more)
+tells s h left right text well one two (read, is, more) =
+    (read, read_same s left (λ all. read ≡ take max_read all) one is, of_file h right (λ right_read. IsReport read right_read text well) two more)
 
 pub writes_outcomes : (s h left right old new : Option (List ℕ)) (well : Bool) → Holds s left → Holds h right → WritesOutcomes left right old new well → WritesOutcomes s h old new well
 writes_outcomes s h left right old new well one two (text, told, grows) = (text, tells s h left right text well one two told, grows)

@@ -10,7 +10,7 @@ use Rattle.clap.specs.declared.builder.action.ArgAction.TheVariants.{Set, SetTru
 use Rattle.clap.specs.declared.builder.command.Command.{Command}
 use Rattle.clap.specs.declared.builder.command.Command.TheViews.{out-Command}
 use Rattle.clap.specs.declared.error.kind.ErrorKind.{ErrorKind}
-use Rattle.clap.specs.declared.error.kind.ErrorKind.TheVariants.{DisplayHelp, DisplayVersion}
+use Rattle.clap.specs.declared.error.kind.ErrorKind.TheVariants.{DisplayHelp, DisplayVersion, OutOfMemory}
 use Rattle.clap.specs.Words.{App, IsAmong, Kinds, Rule, Row, Text, app_of, fault_of, first_of}
 use Rattle.clap.specs.Words.{new_app, new_rule, subcommand_of, with_rule, with_subcommand}
 use Rattle.clap.specs.Simple.{on_top}
@@ -149,6 +149,10 @@ abbrev pub answer_to : ErrorKind → Option Asked
 answer_to DisplayHelp = Some Help
 answer_to DisplayVersion = Some Version
 answer_to kind = None
+
+-- An error of this kind, which is no want of memory, is answered so.
+abbrev pub IsAnswered : ErrorKind → Option Asked → Type 0
+IsAnswered kind what = (kind ≡ OutOfMemory → ⊥) × (what ≡ answer_to kind)
 
 -- What the words ask for, by the kinds of error that they may give, and by the command that was
 -- found if they give none.

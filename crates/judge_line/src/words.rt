@@ -6,7 +6,7 @@ ghost use Rattle.clap.specs.Words.{first_of, found_of, rows_of, rule_of};
 ghost use Rattle.judge_engine.specs.declared.fault.Fault.TheVariants as faults;
 ghost use Rattle.judge_engine.specs.Bases.{HasStripes};
 ghost use Rattle.judge_line.specs.declared.failure.Failure.TheVariants as failures;
-ghost use Rattle.judge_line.specs.Words.{Asks, Has, IsReady, asked_in, asked_of, basis_for};
+ghost use Rattle.judge_line.specs.Words.{Asks, Has, IsAnswered, IsReady, asked_in, asked_of, basis_for};
 ghost use Rattle.judge_line.specs.Words.{command_line, flagged, is_set, outcomes_for, over_both};
 ghost use Rattle.judge_line.specs.Words.{over_history, file_word, serializable_word, stripes_of};
 ghost use Rattle.judge_line.specs.Words.{watching};
@@ -203,6 +203,22 @@ fn call_named<'a>(name: &str, found: &ArgMatches<'a>) -> Option<Call<'a>>
     }
 }
 
+/// The call that words are which `clap` answers with an error of this kind: help and the version
+/// are such.
+fn call_for<'a>(kind: ErrorKind) -> Result<Call<'a>, Failure>
+    ensures call { IfOk result (λ call. IsAnswered kind (Some (asked_of call))) }
+    ensures stripes { IfOk result (λ call. IsReady (asked_of call)) }
+    ensures err { IfErr result (λ failure. (failure ≡ failures.Fault faults.NoMemory)
+        ⊎ ((failure ≡ failures.Usage) × IsAnswered kind None)) }
+{
+    match kind {
+        ErrorKind::OutOfMemory => Err(Failure::Fault(Fault::NoMemory)),
+        ErrorKind::DisplayHelp => Ok(Call::Help),
+        ErrorKind::DisplayVersion => Ok(Call::Version),
+        _ => Err(Failure::Usage),
+    }
+}
+
 /// What the words ask for, of which the first is the program's name, by the rules of `clap`.
 ///
 /// # Errors
@@ -223,14 +239,7 @@ pub fn call_in<'a>(alloc: Global, words: &'a [String]) -> Result<Call<'a>, Failu
     let command = command(alloc)?;
     let matches = match command.try_get_matches_from(words) {
         Ok(matches) => matches,
-        Err(error) => {
-            return match error.kind() {
-                ErrorKind::OutOfMemory => Err(Failure::Fault(Fault::NoMemory)),
-                ErrorKind::DisplayHelp => Ok(Call::Help),
-                ErrorKind::DisplayVersion => Ok(Call::Version),
-                _ => Err(Failure::Usage),
-            };
-        }
+        Err(error) => return call_for(error.kind()),
     };
     let Some((name, found)) = matches.subcommand() else {
         return Err(Failure::Usage);
