@@ -20,7 +20,7 @@ simple : is_simple command_line ≡ true
 unfolding clap_on_literals
 simple = refl
 
-abbrev look : Option (Text × List Row) → Option Asked
+abbrev pub look : Option (Text × List Row) → Option Asked
 look = option_and_then (λ (command : Text × List Row). asked_in command.0 command.1)
 
 by_kind : (kinds : Kinds) (found : Option (Text × List Row)) (kind : ErrorKind) (what : Option Asked) → IsAmong kind kinds → what ≡ answer_to kind → AsksBy kinds found what

@@ -5,7 +5,7 @@ use Rattle.std.specs.List.{list_all}
 use Rattle.std.specs.Char.{digit_value}
 use Rattle.std.specs.Result.{result_ok}
 use Rattle.std.specs.Str.Parse.{AllDigits, IsNumeral, ParsesUnsigned, digits_value, without_leading_plus}
-use Rattle.std.proofs.lemmas.Bool.{and_parts, and_from, false_from_ne_true, leb-true, ltb-true, lt-ltb}
+use Rattle.std.proofs.lemmas.Bool.{and_parts, and_from, false_from_ne_true, le-leb, leb-true, ltb-true, lt-ltb}
 use Rattle.judge_line.specs.Words.{is_numeral, max_stripes, stripes_of}
 
 abbrev pub in_range : ℕ → Option ℕ
@@ -32,6 +32,9 @@ below : (n : ℕ) → (nat_le 1 n && nat_le n max_stripes) ≡ true → n < 2 ^ 
 below n fits =
     let most : n ≤ 4096 = leb-true n 4096 (and_parts (nat_le 1 n) _ fits).1 in
     omega arith
+
+pub fits : (n : ℕ) → 1 ≤ n → n ≤ max_stripes → Some n ≡ in_range n
+fits n low high = sym (ap (λ (b : Bool). if b then Some n else None) (and_from _ _ (le-leb 1 n low) (le-leb n max_stripes high)))
 
 -- A parse of the word as a number, if it is in range.
 pub parsed : {E : Type 0} (word : List ℕ) (r : Result ℕ E) → ParsesUnsigned 64 10 word r → option_and_then in_range (result_ok r) ≡ stripes_of word

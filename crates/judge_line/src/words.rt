@@ -1,6 +1,6 @@
 //! The command line, by the rules of `clap`: which call the words ask for, or that they ask for
 //! none. Each command is made and added by itself, which keeps the proof of `command` cheap.
-ghost use Rattle.std.specs.Prelude.{◌≡◌, ◌⊎◌, Some, None, IfOk, IfErr, IfSome, codes, map, option_map};
+ghost use Rattle.std.specs.Prelude.{◌≡◌, ◌⊎◌, false, Some, None, IfOk, IfErr, IfSome, codes, map, option_map};
 ghost use Rattle.std.specs.String.{string_bytes};
 ghost use Rattle.clap.specs.Words.{first_of, found_of, rows_of, rule_of};
 ghost use Rattle.judge_engine.specs.declared.fault.Fault.TheVariants as faults;
@@ -9,7 +9,7 @@ ghost use Rattle.judge_line.specs.declared.failure.Failure.TheVariants as failur
 ghost use Rattle.judge_line.specs.Words.{Asks, Has, IsAnswered, IsReady, asked_in, asked_of, basis_for};
 ghost use Rattle.judge_line.specs.Words.{command_line, flagged, is_set, outcomes_for, over_both};
 ghost use Rattle.judge_line.specs.Words.{over_history, file_word, serializable_word, stripes_of};
-ghost use Rattle.judge_line.specs.Words.{watching};
+ghost use Rattle.judge_line.specs.Words.{stripes_word, watching};
 
 use crate::failure::Failure;
 use clap::error::ErrorKind;
@@ -61,16 +61,28 @@ const MAX_STRIPES: u64 = 4096;
 
 /// The flag that asks for a judgement by the order of commits.
 fn serializable_flag<'a>(alloc: Global) -> Arg<'a>
-    ensures { rule_of result ≡ serializable_word }
+    ensures rule { rule_of result ≡ serializable_word }
+    ensures local { result.global ≡ false }
 {
     Arg::new(alloc, "serializable")
         .long("serializable")
         .action(ArgAction::SetTrue)
 }
 
+/// The number of locks, which may be left out.
+fn stripes_option<'a>(alloc: Global) -> Arg<'a>
+    ensures rule { rule_of result ≡ stripes_word }
+    ensures local { result.global ≡ false }
+{
+    Arg::new(alloc, "stripes")
+        .long("stripes")
+        .action(ArgAction::Set)
+}
+
 /// The name of a file, which may not be left out.
 fn file_name<'a>(alloc: Global, name: &'a str) -> Arg<'a>
-    ensures { rule_of result ≡ file_word name.entry.now }
+    ensures rule { rule_of result ≡ file_word name.entry.now }
+    ensures local { result.global ≡ false }
 {
     Arg::new(alloc, name).required(true).action(ArgAction::Set)
 }
@@ -101,10 +113,7 @@ fn outcomes_command<'a>(alloc: Global) -> Result<Command<'a>, AllocError>
 fn watch_command<'a>(alloc: Global) -> Result<Command<'a>, AllocError>
     ensures { IfOk result (λ command. Has command watching) }
 {
-    let stripes = Arg::new(alloc, "stripes")
-        .long("stripes")
-        .action(ArgAction::Set);
-    flagged_command(alloc, "watch")?.arg(stripes)
+    flagged_command(alloc, "watch")?.arg(stripes_option(alloc))
 }
 
 /// The command line of the program. Each command is added as soon as it is made, so that little has
@@ -145,7 +154,7 @@ fn stripes_in(word: &str) -> Option<u64>
 
 /// The rules to judge by, by the flag and the word for the number of locks.
 fn basis_in(by_commits: bool, word: Option<&str>) -> Option<Basis>
-    ensures basis { result ≡ basis_for by_commits (option_map (λ word. word.now) word) }
+    ensures basis { result ≡ basis_for by_commits (option_map (λ text. text.now) word.entry) }
     ensures stripes { IfSome result HasStripes }
 {
     let holder = Holder::Begun;
