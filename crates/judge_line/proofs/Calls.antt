@@ -1,5 +1,5 @@
 -- What a command asks for, by what was found for its arguments.
-use Rattle.std.proofs.Common.{◌≡◌, ℕ, Bool, Option, Some, None, codes, sym, ap, ap₂, ◌∙◌}
+use Rattle.std.proofs.Common.{◌≡◌, ℕ, Bool, Option, Some, None, codes, refl, sym, ap, ap₂, ◌∙◌}
 use Rattle.std.specs.Prelude.{option_and_then, option_map}
 use Rattle.clap.specs.declared.parser.matches.Found.{Found}
 use Rattle.clap.specs.Words.{Text, first_of, first_value, rows_of}
@@ -35,3 +35,6 @@ pub outcomes_are : (name : Text) (found : Found) (scripts history : Option Text)
 outcomes_are name found scripts history named left right =
     ap₂ both_for (left ∙ first_value-rows found (codes "SCRIPTS")) (right ∙ first_value-rows found (codes "HISTORY"))
     ∙ ap (λ given. asked_in given (rows_of found)) (sym named)
+
+pub none_found : (name : Text) (found : Found) → name ≡ codes "outcomes" → None ≡ first_value found (codes "SCRIPTS") → None ≡ asked_in name (rows_of found)
+none_found name found named none = outcomes_are name found None (first_value found (codes "HISTORY")) named none refl
