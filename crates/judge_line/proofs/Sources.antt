@@ -28,10 +28,10 @@ of_all known bytes P same (read, is, holds) = (read, read_same known bytes (λ a
 
 -- What follows for verdicts follows for what is written of them.
 pub writes_line : (P Q : Verdict → Type 0) (well : Bool) (old new : Option (List ℕ)) → ((v : Verdict) → P v → Q v) → WritesLine P well old new → WritesLine Q well old new
-writes_line P Q well old new follows (v, right, rest) = (v, follows v right, rest)
+writes_line P Q well old new follows (v, right, says, grows) = (v, follows v right, says, grows)
 
 pub writes_lines : (P Q : Verdict → Type 0) (well : Bool) (old new : Option (List ℕ)) → ((v : Verdict) → P v → Q v) → WritesLines P well old new → WritesLines Q well old new
-writes_lines P Q well old new follows (v, lines, right, rest) = (v, lines, follows v right, rest)
+writes_lines P Q well old new follows (v, lines, right, says, grows) = (v, lines, follows v right, says, grows)
 
 pub leaves : (P Q : Verdict → Type 0) (F G : Fault → Type 0) (old new : Option (List ℕ)) (fault : Fault) → ((v : Verdict) → P v → Q v) → ((f : Fault) → F f → G f) → Leaves P F old new fault → Leaves Q G old new fault
 leaves P Q F G old new Write follows fails (v, right) = (v, follows v right)

@@ -18,7 +18,7 @@ pub returns-in_err-history-in-outcomes-clause-call : goal.returns-in_err-history
 returns-in_err-history-in-outcomes-clause-call c = ap (option_map asked_of) c.from_residual-in_err-history-in-outcomes.ensures ∙ outcomes_are c.args.name.now (found_of c.args.found.now) (Some c.in_ok-scripts-in-outcomes.scripts.now) None c.in-outcomes.is c.in_ok-scripts-in-outcomes.ensures c.in_err-history-in-outcomes.ensures
 
 pub returns-in_ok-history-in-outcomes-clause-call : goal.returns-in_ok-history-in-outcomes-clause-call
-returns-in_ok-history-in-outcomes-clause-call c = c.outcomes_of-in_ok-history-in-outcomes.ensures.call ∙ outcomes_are c.args.name.now (found_of c.args.found.now) (Some c.in_ok-scripts-in-outcomes.scripts.now) (Some c.in_ok-history-in-outcomes.history.now) c.in-outcomes.is c.in_ok-scripts-in-outcomes.ensures c.in_ok-history-in-outcomes.ensures
+returns-in_ok-history-in-outcomes-clause-call c = c.outcomes_of.ensures.call ∙ outcomes_are c.args.name.now (found_of c.args.found.now) (Some c.in_ok-scripts-in-outcomes.scripts.now) (Some c.in_ok-history-in-outcomes.history.now) c.in-outcomes.is c.in_ok-scripts-in-outcomes.ensures c.in_ok-history-in-outcomes.ensures
 
 pub returns-in_err-basis-in-watch-clause-call : goal.returns-in_err-basis-in-watch-clause-call
 returns-in_err-basis-in-watch-clause-call c = ap (option_map asked_of) c.from_residual-in_err-basis-in-watch.ensures ∙ ap (option_map Watch) c.in_err-basis-in-watch.ensures.basis ∙ watch_is c.args.name.now (found_of c.args.found.now) c.is_by_commits-by_commits.result _ c.in-watch.is c.is_by_commits-by_commits.ensures c.get_str-in-watch.ensures
