@@ -1,5 +1,5 @@
 -- What a command asks for, by what was found for its arguments.
-use Rattle.std.proofs.Common.{◌≡◌, ℕ, Bool, Option, Some, None, codes, refl, sym, ap, ap₂, ◌∙◌}
+use Rattle.std.proofs.Common.{◌≡◌, Bool, Option, None, codes, refl, sym, ap, ap₂, ◌∙◌}
 use Rattle.std.specs.Prelude.{option_and_then, option_map}
 use Rattle.clap.specs.declared.parser.matches.Found.{Found}
 use Rattle.clap.specs.Words.{Text, first_of, first_value, rows_of}

@@ -1,5 +1,5 @@
 -- What is said of a source's bytes is said of the bytes that the file of its name is known to have.
-use Rattle.std.proofs.Common.{◌≡◌, ℕ, Bool, List, Option, Some, None, take, refl, sym, ap, subst, ◌∙◌}
+use Rattle.std.proofs.Common.{◌≡◌, ℕ, Bool, List, Option, Some, None, take, subst}
 use Rattle.std.specs.Prelude.{IfSome}
 use Rattle.history_check.specs.declared.verdict.Verdict.{Verdict}
 use Rattle.judge_engine.specs.declared.basis.Basis.{Basis}
@@ -7,10 +7,10 @@ use Rattle.judge_engine.specs.declared.fault.Fault.{Fault}
 use Rattle.judge_engine.specs.declared.fault.Fault.TheVariants.{Input, Line, NoMemory, Read, Write}
 use Rattle.judge_engine.specs.declared.outcomes.OutcomesFault.{OutcomesFault}
 use Rattle.judge_engine.specs.declared.outcomes.OutcomesFault.TheVariants as both
-use Rattle.judge_engine.specs.Files.{Checks, FailsToCheck, FailsToExplain, OfFile, max_read}
+use Rattle.judge_engine.specs.Files.{FailsToCheck, FailsToExplain, OfFile, max_read}
 use Rattle.judge_engine.specs.Outcomes.{IsReport, LeavesOutcomes, WritesOutcomes, Tells}
 use Rattle.judge_engine.specs.Outputs.{Leaves, WritesLine, WritesLines}
-use Rattle.judge_engine.specs.Watching.{FailsToWatch, OfAll, Watches}
+use Rattle.judge_engine.specs.Watching.{FailsToWatch, OfAll}
 
 -- The source has the bytes that are known.
 abbrev pub Holds : Option (List ℕ) → Option (List ℕ) → Type 0

@@ -1,6 +1,6 @@
-use Rattle.std.proofs.Common.{map, string_bytes, sym, ap, subst, Some}
+use Rattle.std.proofs.Common.{map, string_bytes}
 use Rattle.std.specs.IoError.{error_kind}
-use Rattle.judge_line.specs.Words.{Asks, asked_of}
+use Rattle.judge_line.specs.Words.{asked_of}
 use Rattle.judge_line.proofs.Running.{no_words, no_call, runs_call}
 use Rattle.judge_line.proofs.program.run_words.Goals as goal
 

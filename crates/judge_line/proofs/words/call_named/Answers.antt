@@ -1,4 +1,4 @@
-use Rattle.std.proofs.Common.{None, Some, ap, ◌∙◌, refl}
+use Rattle.std.proofs.Common.{None, Some, ap, ◌∙◌}
 use Rattle.std.specs.Prelude.{option_map}
 use Rattle.clap.specs.Words.{found_of}
 use Rattle.judge_line.specs.Words.{Watch, asked_of}

@@ -1,7 +1,6 @@
 use Rattle.std.proofs.Common.{codes}
 use Rattle.std.proofs.lemmas.Result.{IfOk-weaker}
-use Rattle.clap.specs.Words.{new_app, with_rule}
-use Rattle.judge_line.specs.Words.{Has, flagged, file_word, serializable_word, stripes_word}
+use Rattle.judge_line.specs.Words.{flagged, stripes_word}
 use Rattle.judge_line.proofs.Building.{with_word}
 use Rattle.judge_line.proofs.words.watch_command.Goals as goal
 
