@@ -32,4 +32,5 @@ replay 15
 mix 7
 check 5
 hostile
+watch 10000000 5
 END

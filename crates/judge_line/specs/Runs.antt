@@ -1,34 +1,105 @@
--- How the program ends.
-use Rattle.std.specs.Prelude.{◌≡◌, ℕ, Bool, true, false, List, [], ◌∷◌, ◌++◌, Option, Result, Ok, Err}
+-- What the program does with the words of a call, and how it ends.
+use Rattle.std.specs.Prelude.{◌≡◌, ◌⊎◌, ℕ, Bool, true, false, List, [], ◌∷◌, ◌++◌, Option, IfSome}
+use Rattle.std.specs.Prelude.{Some, None, Result, Ok, Err, MatchResult, codes}
+use Rattle.std.specs.Result.{IsErrAnd}
+use Rattle.std.specs.declared.io.ErrorKind.{ErrorKind}
+use Rattle.std.specs.declared.io.ErrorKind.TheVariants.{OutOfMemory}
 use Rattle.std.specs.Io.KnownBytes.{Appends, Keeps}
-use Rattle.judge_engine.specs.Bases.{HasStripes}
+use Rattle.clap.specs.Words.{Text}
+use Rattle.judge_engine.specs.declared.fault.Fault.{Fault}
+use Rattle.judge_engine.specs.declared.fault.Fault.TheVariants as faults
+use Rattle.judge_engine.specs.Files.{Checks, FailsToCheck, FailsToExplain}
+use Rattle.judge_engine.specs.Outcomes.{LeavesOutcomes, WritesOutcomes}
+use Rattle.judge_engine.specs.Outputs.{Leaves, WritesLine, WritesLines}
+use Rattle.judge_engine.specs.Watching.{FailsToWatch, Watches}
+use Rattle.judge_line.specs.declared.failure.TheConstants.{USAGE}
 use Rattle.judge_line.specs.declared.failure.Failure.{Failure}
-use Rattle.judge_line.specs.declared.words.Call.{Call}
-use Rattle.judge_line.specs.declared.words.Call.TheVariants.{Check, Help, Outcomes, Version, Watch, Why}
-use Rattle.judge_line.specs.Failures as failures
+use Rattle.judge_line.specs.declared.failure.Failure.TheVariants as failures
+use Rattle.judge_line.specs.declared.program.TheConstants.{VERSION}
+use Rattle.judge_line.specs.Failures.{message_of, status_of}
+use Rattle.judge_line.specs.Words.{Asked, Asks, Check, Why, Watch, Outcomes, Help, Version}
 
 -- What a run comes to: whether all is well, or a failure.
 abbrev pub Outcome : Type 0
 Outcome = Result Bool Failure
 
--- There are locks where entries are judged by locks.
-abbrev pub IsReady : Call → Type 0
-IsReady (Watch basis) = HasStripes basis
-IsReady (Check by_commits file) = Unit {0}
-IsReady (Why by_commits file) = Unit {0}
-IsReady (Outcomes scripts history) = Unit {0}
-IsReady Help = Unit {0}
-IsReady Version = Unit {0}
+-- The bytes of the file of each name, if they are known, and of standard input by the name `-`.
+abbrev pub Files : Type 0
+Files = Text → Option (List ℕ)
+
+-- What was found holds, or the failure is a fault of the engine of which that holds.
+abbrev pub ByFault : (Fault → Type 0) → Failure → Type 0
+ByFault P (failures.Fault fault) = P fault
+ByFault P failure = ⊥
+
+abbrev pub Ends : (Bool → Type 0) → (Fault → Type 0) → Outcome → Type 0
+Ends IsDone HasFailed outcome = MatchResult outcome IsDone (ByFault HasFailed)
+
+-- A text and a line feed are written, and all is well.
+abbrev pub Shows : Text → Option (List ℕ) → Option (List ℕ) → Bool → Type 0
+Shows text old new well = (well ≡ true) × Appends old new (text ++ 10 ∷ [])
+
+-- Why nothing is said of the scripts of one file in the history of another: for a fault of one of the
+-- two, or for want of memory.
+abbrev pub LeavesBoth : Option (List ℕ) → Option (List ℕ) → Option (List ℕ) → Option (List ℕ)
+    → Failure → Type 0
+LeavesBoth scripts history old new (failures.Outcomes fault) =
+    LeavesOutcomes scripts history old new fault
+LeavesBoth scripts history old new (failures.Fault fault) =
+    (fault ≡ faults.NoMemory) × Keeps old new
+LeavesBoth scripts history old new failures.Usage = ⊥
+
+-- What standard output gets if what was asked for is done with these files, and what comes of it.
+abbrev pub Does : Asked → Files → Option (List ℕ) → Option (List ℕ) → Outcome → Type 0
+Does (Check by_commits file) files old new = Ends
+    (λ well. WritesLine (Checks by_commits (files file)) well old new)
+    (Leaves (Checks by_commits (files file)) (FailsToCheck (files file)) old new)
+Does (Why by_commits file) files old new = Ends
+    (λ well. WritesLines (Checks by_commits (files file)) well old new)
+    (FailsToExplain (files file))
+Does (Watch basis) files old new = Ends
+    (λ well. WritesLine (Watches basis (files (codes "-"))) well old new)
+    (Leaves (Watches basis (files (codes "-"))) (FailsToWatch basis (files (codes "-"))) old new)
+Does (Outcomes scripts history) files old new = λ outcome. MatchResult outcome
+    (WritesOutcomes (files scripts) (files history) old new)
+    (LeavesBoth (files scripts) (files history) old new)
+Does Help files old new = Ends (Shows USAGE.now old new) (λ fault. fault ≡ faults.Write)
+Does Version files old new = Ends (Shows VERSION.now old new) (λ fault. fault ≡ faults.Write)
+
+-- Nothing was done: memory was refused, or the words, if they are known, ask for nothing that there
+-- is. Nothing was written.
+abbrev pub DoesNothing : Option (List Text) → Option (List ℕ) → Option (List ℕ) → Failure → Type 0
+DoesNothing spoken old new failures.Usage =
+    Keeps old new × IfSome spoken (λ words. Asks words None)
+DoesNothing spoken old new (failures.Fault fault) = Keeps old new × (fault ≡ faults.NoMemory)
+DoesNothing spoken old new (failures.Outcomes fault) = ⊥
+
+-- It was done what the words ask for, if they are known.
+pub record DoesAsked (spoken : Option (List Text)) (files : Files) (old new : Option (List ℕ))
+    (outcome : Outcome) : Type 0 where
+  pub what : Asked
+  pub asks : IfSome spoken (λ words. Asks words (Some what))
+  pub does : Does what files old new outcome
+
+-- What a run comes to.
+abbrev pub Runs : Option (List Text) → Files → Option (List ℕ) → Option (List ℕ) → Outcome → Type 0
+Runs spoken files old new outcome =
+    DoesAsked spoken files old new outcome ⊎ IsErrAnd outcome (DoesNothing spoken old new)
+
+-- Want of memory if an error of the system is that, else the other failure.
+abbrev pub memory_or : ErrorKind → Failure → Failure
+memory_or OutOfMemory other = failures.Fault faults.NoMemory
+memory_or kind other = other
 
 -- The exit status.
 abbrev pub status_after : Outcome → ℕ
 status_after (Ok true) = 0
 status_after (Ok false) = 1
-status_after (Err failure) = failures.status_of failure
+status_after (Err failure) = status_of failure
 
 -- What standard error gets: the line of a failure, unless it did not take all of it, and else
 -- nothing.
 abbrev pub Tells : Option (List ℕ) → Option (List ℕ) → Bool → Outcome → Type 0
 Tells old new is_told (Ok well) = Keeps old new × (is_told ≡ true)
 Tells old new is_told (Err failure) =
-    is_told ≡ true → Appends old new (failures.message_of failure ++ 10 ∷ [])
+    is_told ≡ true → Appends old new (message_of failure ++ 10 ∷ [])

@@ -1,12 +1,19 @@
-//! The program, over any system and any two writers.
-ghost use Rattle.std.specs.Prelude.{◌≡◌, Bool, Result};
+//! The whole call: words, files, the engine, the line of a failure, the exit status. It is generic
+//! over the system and both outputs, so that contracts and tests reach all of it.
+ghost use Rattle.std.specs.Prelude.{◌≡◌, ◌⊎◌, Bool, Result, Some, IfOk, IfErr, IfSome};
+ghost use Rattle.std.specs.IoError.{error_kind};
+ghost use Rattle.judge_engine.specs.declared.fault.Fault.TheVariants as faults;
+ghost use Rattle.judge_engine.specs.Bases.{HasStripes};
 ghost use Rattle.judge_line.specs.declared.failure.Failure.{Failure};
-ghost use Rattle.judge_line.specs.Runs.{IsReady, Tells, status_after};
+ghost use Rattle.judge_line.specs.declared.failure.Failure.TheVariants as failures;
+ghost use Rattle.judge_line.specs.Runs.{Does, Ends, Runs, Shows, Tells, memory_or, status_after};
+ghost use Rattle.judge_line.specs.Words as asked;
+ghost use Rattle.judge_line.specs.Words.{IsReady, asked_of};
 
 use crate::failure::{Failure, USAGE};
 use crate::system::System;
 use crate::words::{Call, STANDARD, call_in};
-use judge_engine::{Fault, OutcomesFault, check, tell_outcomes, watch, why};
+use judge_engine::{Basis, Fault, OutcomesFault, check, tell_outcomes, watch, why};
 use std::alloc::Global;
 use std::io;
 use std::io::{Read, Write};
@@ -25,7 +32,10 @@ pub struct Ending {
 }
 
 /// Writes a line. The answer is that all is well.
-fn show<W: Write>(output: &mut W, text: &str) -> Result<bool, Failure> {
+fn show<W: Write>(output: &mut W, text: &str) -> Result<bool, Failure>
+    ensures { Ends (Shows text.now (W.contents output.old) (W.contents output.new))
+        (λ fault. fault ≡ faults.Write) result }
+{
     match output.writeln(text) {
         Ok(()) => Ok(true),
         Err(_) => Err(Failure::Fault(Fault::Write)),
@@ -33,7 +43,9 @@ fn show<W: Write>(output: &mut W, text: &str) -> Result<bool, Failure> {
 }
 
 /// Want of memory if the error is that, else the other failure.
-fn memory_or(error: &io::Error, other: Failure) -> Failure {
+fn memory_or(error: &io::Error, other: Failure) -> Failure
+    ensures { result ≡ memory_or (error_kind error.now) other }
+{
     match error.kind() {
         io::ErrorKind::OutOfMemory => Failure::Fault(Fault::NoMemory),
         _ => other,
@@ -41,11 +53,79 @@ fn memory_or(error: &io::Error, other: Failure) -> Failure {
 }
 
 /// Opens the source of this name; if that fails but for want of memory, with this failure.
-fn open<S: System>(system: &S, name: &str, failure: Failure) -> Result<S::Source, Failure> {
+fn open<S: System>(system: &S, name: &str, failure: Failure) -> Result<S::Source, Failure>
+    ensures ok { IfOk result (λ source. IfSome (S.bytes system.now name.now)
+        (λ known. S.Source.remaining source ≡ Some known)) }
+    ensures err { IfErr result (λ found.
+        (found ≡ failures.Fault faults.NoMemory) ⊎ (found ≡ failure)) }
+{
     match system.open(name) {
         Ok(source) => Ok(source),
         Err(error) => Err(memory_or(&error, failure)),
     }
+}
+
+/// Judges the history file of this name.
+fn check_file<S: System, W: Write>(
+    alloc: Global,
+    system: &S,
+    by_commits: bool,
+    name: &str,
+    output: &mut W,
+) -> Result<bool, Failure>
+    ensures { Does (asked.Check by_commits name.now) (S.bytes system.now)
+        (W.contents output.old) (W.contents output.new) result }
+{
+    let source = open(system, name, Failure::Fault(Fault::Read))?;
+    Ok(check(alloc, by_commits, source, output)?)
+}
+
+/// Judges the history file of this name, and says what leads to its bad entry.
+fn explain_file<S: System, W: Write>(
+    alloc: Global,
+    system: &S,
+    by_commits: bool,
+    name: &str,
+    output: &mut W,
+) -> Result<bool, Failure>
+    ensures { Does (asked.Why by_commits name.now) (S.bytes system.now)
+        (W.contents output.old) (W.contents output.new) result }
+{
+    let source = open(system, name, Failure::Fault(Fault::Read))?;
+    Ok(why(alloc, by_commits, source, output)?)
+}
+
+/// Judges the entries that standard input has.
+fn watch_standard<S: System, W: Write>(
+    alloc: Global,
+    system: &S,
+    basis: Basis,
+    output: &mut W,
+) -> Result<bool, Failure>
+    requires { HasStripes basis }
+    ensures { Does (asked.Watch basis) (S.bytes system.now)
+        (W.contents output.old) (W.contents output.new) result }
+{
+    let mut source = open(system, STANDARD, Failure::Fault(Fault::Read))?;
+    Ok(watch(alloc, basis, &mut source, output)?)
+}
+
+/// Says what became of the scripts of one file in the history of another.
+fn outcomes_in<S: System, W: Write>(
+    alloc: Global,
+    system: &S,
+    scripts: &str,
+    history: &str,
+    output: &mut W,
+) -> Result<bool, Failure>
+    ensures { Does (asked.Outcomes scripts.now history.now) (S.bytes system.now)
+        (W.contents output.old) (W.contents output.new) result }
+{
+    let no_scripts = Failure::Outcomes(OutcomesFault::ScriptsRead);
+    let no_history = Failure::Outcomes(OutcomesFault::HistoryRead);
+    let scripts = open(system, scripts, no_scripts)?;
+    let history = open(system, history, no_history)?;
+    Ok(tell_outcomes(alloc, scripts, history, output)?)
 }
 
 /// Does what a call asks for. The answer is whether all is well: of an illegal history it is not,
@@ -56,36 +136,19 @@ fn answer<S: System, W: Write>(
     call: Call<'_>,
     output: &mut W,
 ) -> Result<bool, Failure>
-    requires { IsReady call }
+    requires { IsReady (asked_of call) }
+    ensures { Does (asked_of call.entry) (S.bytes system.now)
+        (W.contents output.old) (W.contents output.new) result }
 {
     match call {
         Call::Help => show(output, USAGE),
         Call::Version => show(output, VERSION),
-        Call::Check { by_commits, file } => {
-            let source = open(system, file, Failure::Fault(Fault::Read))?;
-            Ok(check(alloc, by_commits, source, output)?)
-        }
-        Call::Watch { basis } => {
-            let mut source = open(system, STANDARD, Failure::Fault(Fault::Read))?;
-            Ok(watch(alloc, basis, &mut source, output)?)
-        }
+        Call::Check { by_commits, file } => check_file(alloc, system, by_commits, file, output),
         Call::Outcomes { scripts, history } => {
-            let scripts = open(
-                system,
-                scripts,
-                Failure::Outcomes(OutcomesFault::ScriptsRead),
-            )?;
-            let history = open(
-                system,
-                history,
-                Failure::Outcomes(OutcomesFault::HistoryRead),
-            )?;
-            Ok(tell_outcomes(alloc, scripts, history, output)?)
+            outcomes_in(alloc, system, scripts, history, output)
         }
-        Call::Why { by_commits, file } => {
-            let source = open(system, file, Failure::Fault(Fault::Read))?;
-            Ok(why(alloc, by_commits, source, output)?)
-        }
+        Call::Watch { basis } => watch_standard(alloc, system, basis, output),
+        Call::Why { by_commits, file } => explain_file(alloc, system, by_commits, file, output),
     }
 }
 
@@ -94,7 +157,10 @@ fn run_words<S: System, W: Write>(
     alloc: Global,
     system: &S,
     output: &mut W,
-) -> Result<bool, Failure> {
+) -> Result<bool, Failure>
+    ensures { Runs (S.spoken system.now) (S.bytes system.now)
+        (W.contents output.old) (W.contents output.new) result }
+{
     let words = match system.words(alloc) {
         Ok(words) => words,
         Err(error) => return Err(memory_or(&error, Failure::Usage)),
@@ -115,8 +181,8 @@ fn status_of(outcome: &Result<bool, Failure>) -> u8
 }
 
 /// Does all that the program does: reads the words of the call, does what they ask for, which
-/// writes to `output`, and writes the line of a failure to `errors`. A line that `errors` does not
-/// take changes nothing else.
+/// writes to `output`, and writes the line of a failure, or the usage, to `errors`. A line that
+/// `errors` does not take changes nothing else.
 ///
 /// # Cost
 ///
@@ -128,6 +194,8 @@ pub fn run<S: System, W: Write, E: Write>(
     errors: &mut E,
 ) -> Ending
     ensures { (outcome : Result Bool Failure)
+        × Runs (S.spoken system.now) (S.bytes system.now)
+        (W.contents output.old) (W.contents output.new) outcome
         × (result.status ≡ status_after outcome)
         × Tells (E.contents errors.old) (E.contents errors.new) result.is_told outcome }
 {

@@ -1,7 +1,15 @@
-//! Which call the words of a command line are.
-ghost use Rattle.std.specs.Prelude.{◌<◌, IfOk, IfSome};
+//! The command line, by the rules of `clap`: which call the words ask for, or that they ask for
+//! none. Each command is made and added by itself, which keeps the proof of `command` cheap.
+ghost use Rattle.std.specs.Prelude.{◌≡◌, ◌⊎◌, false, Some, None, IfOk, IfErr, IfSome, codes, map, option_map};
+ghost use Rattle.std.specs.String.{string_bytes};
+ghost use Rattle.clap.specs.Words.{first_of, found_of, rows_of, rule_of};
+ghost use Rattle.judge_engine.specs.declared.fault.Fault.TheVariants as faults;
 ghost use Rattle.judge_engine.specs.Bases.{HasStripes};
-ghost use Rattle.judge_line.specs.Runs.{IsReady};
+ghost use Rattle.judge_line.specs.declared.failure.Failure.TheVariants as failures;
+ghost use Rattle.judge_line.specs.Words.{Asks, Has, IsAnswered, IsReady, asked_in, asked_of, basis_for};
+ghost use Rattle.judge_line.specs.Words.{command_line, flagged, is_set, outcomes_for, over_both};
+ghost use Rattle.judge_line.specs.Words.{over_history, file_word, serializable_word, stripes_of};
+ghost use Rattle.judge_line.specs.Words.{stripes_word, watching};
 
 use crate::failure::Failure;
 use clap::error::ErrorKind;
@@ -52,44 +60,67 @@ pub(crate) const STANDARD: &str = "-";
 const MAX_STRIPES: u64 = 4096;
 
 /// The flag that asks for a judgement by the order of commits.
-fn commits_flag<'a>(alloc: Global) -> Arg<'a> {
+fn serializable_flag<'a>(alloc: Global) -> Arg<'a>
+    ensures rule { rule_of result ≡ serializable_word }
+    ensures local { result.global ≡ false }
+{
     Arg::new(alloc, "serializable")
         .long("serializable")
         .action(ArgAction::SetTrue)
 }
 
+/// The number of locks, which may be left out.
+fn stripes_option<'a>(alloc: Global) -> Arg<'a>
+    ensures rule { rule_of result ≡ stripes_word }
+    ensures local { result.global ≡ false }
+{
+    Arg::new(alloc, "stripes")
+        .long("stripes")
+        .action(ArgAction::Set)
+}
+
+/// The name of a file, which may not be left out.
+fn file_name<'a>(alloc: Global, name: &'a str) -> Arg<'a>
+    ensures rule { rule_of result ≡ file_word name.entry.now }
+    ensures local { result.global ≡ false }
+{
+    Arg::new(alloc, name).required(true).action(ArgAction::Set)
+}
+
+/// A command of this name that may judge by the order of commits.
+fn flagged_command<'a>(alloc: Global, name: &'a str) -> Result<Command<'a>, AllocError>
+    ensures { IfOk result (λ command. Has command (flagged name.entry.now)) }
+{
+    Command::new(alloc, name).arg(serializable_flag(alloc))
+}
+
 /// A command of this name over a history file: `check` or `why`.
-fn command_on_history<'a>(alloc: Global, name: &'a str) -> Result<Command<'a>, AllocError> {
-    let file = Arg::new(alloc, "FILE")
-        .required(true)
-        .action(ArgAction::Set);
-    let command = Command::new(alloc, name).arg(commits_flag(alloc))?;
-    command.arg(file)
+fn command_on_history<'a>(alloc: Global, name: &'a str) -> Result<Command<'a>, AllocError>
+    ensures { IfOk result (λ command. Has command (over_history name.entry.now)) }
+{
+    flagged_command(alloc, name)?.arg(file_name(alloc, "FILE"))
 }
 
 /// The command `outcomes`.
-fn outcomes_command<'a>(alloc: Global) -> Result<Command<'a>, AllocError> {
-    let scripts = Arg::new(alloc, "SCRIPTS")
-        .required(true)
-        .action(ArgAction::Set);
-    let history = Arg::new(alloc, "HISTORY")
-        .required(true)
-        .action(ArgAction::Set);
-    let command = Command::new(alloc, "outcomes").arg(scripts)?;
-    command.arg(history)
+fn outcomes_command<'a>(alloc: Global) -> Result<Command<'a>, AllocError>
+    ensures { IfOk result (λ command. Has command over_both) }
+{
+    let command = Command::new(alloc, "outcomes").arg(file_name(alloc, "SCRIPTS"))?;
+    command.arg(file_name(alloc, "HISTORY"))
 }
 
 /// The command `watch`.
-fn watch_command<'a>(alloc: Global) -> Result<Command<'a>, AllocError> {
-    let stripes = Arg::new(alloc, "stripes")
-        .long("stripes")
-        .action(ArgAction::Set);
-    let command = Command::new(alloc, "watch").arg(commits_flag(alloc))?;
-    command.arg(stripes)
+fn watch_command<'a>(alloc: Global) -> Result<Command<'a>, AllocError>
+    ensures { IfOk result (λ command. Has command watching) }
+{
+    flagged_command(alloc, "watch")?.arg(stripes_option(alloc))
 }
 
-/// The command line of the program.
-fn command<'a>(alloc: Global) -> Result<Command<'a>, AllocError> {
+/// The command line of the program. Each command is added as soon as it is made, so that little has
+/// to be given back if memory is refused.
+fn command<'a>(alloc: Global) -> Result<Command<'a>, AllocError>
+    ensures { IfOk result (λ command. Has command command_line) }
+{
     Command::new(alloc, "judge")
         .version("1.0.0")
         .subcommand_required(true)
@@ -99,9 +130,11 @@ fn command<'a>(alloc: Global) -> Result<Command<'a>, AllocError> {
         .subcommand(command_on_history(alloc, "why")?)
 }
 
-/// Whether what was found of a flag says that it is set.
-fn is_set(found: Option<&str>) -> bool {
-    match found {
+/// Whether the order of commits was asked for.
+fn is_by_commits(found: &ArgMatches<'_>) -> bool
+    ensures { result ≡ is_set (first_of (codes "serializable") (rows_of (found_of found.now))) }
+{
+    match found.get_str("serializable") {
         Some(word) => word == "true",
         None => false,
     }
@@ -109,38 +142,40 @@ fn is_set(found: Option<&str>) -> bool {
 
 /// How many locks there are, by the word that says so: 1 to 4,096.
 fn stripes_in(word: &str) -> Option<u64>
-    ensures { IfSome result (λ stripes. 0 < stripes) }
+    ensures { result ≡ stripes_of word.now }
 {
-    match word.parse::<u64>() {
-        Ok(stripes) if 1 <= stripes && stripes <= MAX_STRIPES => Some(stripes),
-        _ => None,
+    let stripes = word.parse::<u64>().ok()?;
+    if 1 <= stripes && stripes <= MAX_STRIPES {
+        Some(stripes)
+    } else {
+        None
     }
 }
 
-/// By which rules entries are judged, by the flag and the word for the number of locks.
-fn basis_in(by_commits: bool, stripes: Option<&str>) -> Option<Basis>
-    ensures { IfSome result HasStripes }
+/// The rules to judge by, by the flag and the word for the number of locks.
+fn basis_in(by_commits: bool, word: Option<&str>) -> Option<Basis>
+    ensures basis { result ≡ basis_for by_commits (option_map (λ text. text.now) word.entry) }
+    ensures stripes { IfSome result HasStripes }
 {
-    match (by_commits, stripes) {
+    let holder = Holder::Begun;
+    match (by_commits, word) {
         (true, None) => Some(Basis::Commits),
         (true, Some(_)) => None,
         (false, None) => Some(Basis::Locks {
             stripes: MAX_STRIPES,
-            holder: Holder::Begun,
+            holder,
         }),
         (false, Some(word)) => {
             let stripes = stripes_in(word)?;
-            Some(Basis::Locks {
-                stripes,
-                holder: Holder::Begun,
-            })
+            Some(Basis::Locks { stripes, holder })
         }
     }
 }
 
 /// The call for the outcomes of these files, unless standard input would have to be both.
 fn outcomes_of<'a>(scripts: &'a str, history: &'a str) -> Option<Call<'a>>
-    ensures { IfSome result IsReady }
+    ensures call { option_map asked_of result ≡ outcomes_for scripts.entry.now history.entry.now }
+    ensures stripes { IfSome result (λ call. IsReady (asked_of call)) }
 {
     if scripts == STANDARD && history == STANDARD {
         None
@@ -151,9 +186,10 @@ fn outcomes_of<'a>(scripts: &'a str, history: &'a str) -> Option<Call<'a>>
 
 /// The call of the command of this name, by what was found of its arguments.
 fn call_named<'a>(name: &str, found: &ArgMatches<'a>) -> Option<Call<'a>>
-    ensures { IfSome result IsReady }
+    ensures call { option_map asked_of result ≡ asked_in name.now (rows_of (found_of found.now)) }
+    ensures stripes { IfSome result (λ call. IsReady (asked_of call)) }
 {
-    let by_commits = is_set(found.get_str("serializable"));
+    let by_commits = is_by_commits(found);
     match name {
         "check" => {
             let file = found.get_str("FILE")?;
@@ -176,30 +212,43 @@ fn call_named<'a>(name: &str, found: &ArgMatches<'a>) -> Option<Call<'a>>
     }
 }
 
+/// The call that words are which `clap` answers with an error of this kind: help and the version
+/// are such.
+fn call_for<'a>(kind: ErrorKind) -> Result<Call<'a>, Failure>
+    ensures call { IfOk result (λ call. IsAnswered kind (Some (asked_of call))) }
+    ensures stripes { IfOk result (λ call. IsReady (asked_of call)) }
+    ensures err { IfErr result (λ failure. (failure ≡ failures.Fault faults.NoMemory)
+        ⊎ ((failure ≡ failures.Usage) × IsAnswered kind None)) }
+{
+    match kind {
+        ErrorKind::OutOfMemory => Err(Failure::Fault(Fault::NoMemory)),
+        ErrorKind::DisplayHelp => Ok(Call::Help),
+        ErrorKind::DisplayVersion => Ok(Call::Version),
+        _ => Err(Failure::Usage),
+    }
+}
+
 /// What the words ask for, of which the first is the program's name, by the rules of `clap`.
 ///
 /// # Errors
 ///
-/// - `Usage` for words that are no call of the program.
+/// - `Usage` exactly for words that are no call of the program.
 /// - `NoMemory` if memory is refused.
 ///
 /// # Cost
 ///
 /// Time and memory in proportion to the words.
 pub fn call_in<'a>(alloc: Global, words: &'a [String]) -> Result<Call<'a>, Failure>
-    ensures { IfOk result IsReady }
+    ensures call { IfOk result (λ call.
+        Asks (map string_bytes words.entry.now) (Some (asked_of call))) }
+    ensures stripes { IfOk result (λ call. IsReady (asked_of call)) }
+    ensures err { IfErr result (λ failure. (failure ≡ failures.Fault faults.NoMemory)
+        ⊎ ((failure ≡ failures.Usage) × Asks (map string_bytes words.entry.now) None)) }
 {
     let command = command(alloc)?;
     let matches = match command.try_get_matches_from(words) {
         Ok(matches) => matches,
-        Err(error) => {
-            return match error.kind() {
-                ErrorKind::OutOfMemory => Err(Failure::Fault(Fault::NoMemory)),
-                ErrorKind::DisplayHelp => Ok(Call::Help),
-                ErrorKind::DisplayVersion => Ok(Call::Version),
-                _ => Err(Failure::Usage),
-            };
-        }
+        Err(error) => return call_for(error.kind()),
     };
     let Some((name, found)) = matches.subcommand() else {
         return Err(Failure::Usage);

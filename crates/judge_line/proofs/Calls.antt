@@ -1,0 +1,40 @@
+-- What a command asks for, by what was found for its arguments.
+use Rattle.std.proofs.Common.{◌≡◌, Bool, Option, None, codes, refl, sym, ap, ap₂, ◌∙◌}
+use Rattle.std.specs.Prelude.{option_and_then, option_map}
+use Rattle.clap.specs.declared.parser.matches.Found.{Found}
+use Rattle.clap.specs.Words.{Text, first_of, first_value, rows_of}
+use Rattle.clap.proofs.WalkLemmas.{first_value-rows}
+use Rattle.judge_line.specs.Words.{Asked, Check, Why, Watch, asked_in, basis_for, is_set, outcomes_for}
+
+abbrev pub flag_in : Found → Bool
+flag_in found = is_set (first_of (codes "serializable") (rows_of found))
+
+pub check_is : (name : Text) (found : Found) (flag : Bool) (file : Option Text) → name ≡ codes "check" → flag ≡ flag_in found → file ≡ first_value found (codes "FILE")
+    → option_map (Check flag) file ≡ asked_in name (rows_of found)
+check_is name found flag file named set is =
+    ap₂ (λ (b : Bool) (f : Option Text). option_map (Check b) f) set (is ∙ first_value-rows found (codes "FILE"))
+    ∙ ap (λ given. asked_in given (rows_of found)) (sym named)
+
+pub why_is : (name : Text) (found : Found) (flag : Bool) (file : Option Text) → name ≡ codes "why" → flag ≡ flag_in found → file ≡ first_value found (codes "FILE")
+    → option_map (Why flag) file ≡ asked_in name (rows_of found)
+why_is name found flag file named set is =
+    ap₂ (λ (b : Bool) (f : Option Text). option_map (Why b) f) set (is ∙ first_value-rows found (codes "FILE"))
+    ∙ ap (λ given. asked_in given (rows_of found)) (sym named)
+
+pub watch_is : (name : Text) (found : Found) (flag : Bool) (word : Option Text) → name ≡ codes "watch" → flag ≡ flag_in found → word ≡ first_value found (codes "stripes")
+    → option_map Watch (basis_for flag word) ≡ asked_in name (rows_of found)
+watch_is name found flag word named set is =
+    ap₂ (λ (b : Bool) (w : Option Text). option_map Watch (basis_for b w)) set (is ∙ first_value-rows found (codes "stripes"))
+    ∙ ap (λ given. asked_in given (rows_of found)) (sym named)
+
+abbrev pub both_for : Option Text → Option Text → Option Asked
+both_for scripts history = option_and_then (λ s. option_and_then (outcomes_for s) history) scripts
+
+pub outcomes_are : (name : Text) (found : Found) (scripts history : Option Text) → name ≡ codes "outcomes" → scripts ≡ first_value found (codes "SCRIPTS") → history ≡ first_value found (codes "HISTORY")
+    → both_for scripts history ≡ asked_in name (rows_of found)
+outcomes_are name found scripts history named left right =
+    ap₂ both_for (left ∙ first_value-rows found (codes "SCRIPTS")) (right ∙ first_value-rows found (codes "HISTORY"))
+    ∙ ap (λ given. asked_in given (rows_of found)) (sym named)
+
+pub none_found : (name : Text) (found : Found) → name ≡ codes "outcomes" → None ≡ first_value found (codes "SCRIPTS") → None ≡ asked_in name (rows_of found)
+none_found name found named none = outcomes_are name found None (first_value found (codes "HISTORY")) named none refl

@@ -1,0 +1,8 @@
+pub mod Asking
+pub mod Building
+pub mod Calls
+pub mod Doing
+pub mod Running
+pub mod Sources
+pub mod Stripes
+pub mod Worked

@@ -1,0 +1,51 @@
+-- How many locks a word asks for.
+use Rattle.std.proofs.Common.{◌≡◌, ℕ, ◌<◌, ◌≤◌, ◌^◌, ◌&&◌, Bool, true, List, [], ◌∷◌, length, Option, Some, None, Result, Ok, Err, arith, refl, sym, ap, ◌∙◌}
+use Rattle.std.specs.Prelude.{if◌then◌else◌, nat_le, nat_lt, option_and_then}
+use Rattle.std.specs.List.{list_all}
+use Rattle.std.specs.Char.{digit_value}
+use Rattle.std.specs.Result.{result_ok}
+use Rattle.std.specs.Str.Parse.{AllDigits, IsNumeral, ParsesUnsigned, digits_value, without_leading_plus}
+use Rattle.std.proofs.lemmas.Bool.{and_parts, and_from, false_from_ne_true, le-leb, leb-true, ltb-true, lt-ltb}
+use Rattle.judge_line.specs.Words.{is_numeral, max_stripes, stripes_of}
+
+abbrev pub in_range : ℕ → Option ℕ
+in_range n = if nat_le 1 n && nat_le n max_stripes then Some n else None
+
+digits_to : (ds : List ℕ) → AllDigits 10 ds → list_all (λ c. nat_lt (digit_value c) 10) ds ≡ true
+digits_to [] all = refl
+digits_to (c ∷ cs) all = and_from _ _ (lt-ltb (digit_value c) 10 all.0) (digits_to cs all.1)
+
+digits_from : (ds : List ℕ) → list_all (λ c. nat_lt (digit_value c) 10) ds ≡ true → AllDigits 10 ds
+digits_from [] all = tt
+digits_from (c ∷ cs) all =
+    let parts = and_parts _ _ all in (ltb-true (digit_value c) 10 parts.0, digits_from cs parts.1)
+
+numeral_to : (ds : List ℕ) → IsNumeral 10 ds → is_numeral ds ≡ true
+numeral_to ds is = and_from _ _ (lt-ltb 0 (length ds) is.0) (digits_to ds is.1)
+
+numeral_from : (ds : List ℕ) → is_numeral ds ≡ true → IsNumeral 10 ds
+numeral_from ds is =
+    let parts = and_parts (nat_lt 0 (length ds)) _ is in
+    (ltb-true 0 (length ds) parts.0, digits_from ds parts.1)
+
+below : (n : ℕ) → (nat_le 1 n && nat_le n max_stripes) ≡ true → n < 2 ^ 64
+below n fits =
+    let most : n ≤ 4096 = leb-true n 4096 (and_parts (nat_le 1 n) _ fits).1 in
+    omega arith
+
+pub fits : (n : ℕ) → 1 ≤ n → n ≤ max_stripes → Some n ≡ in_range n
+fits n low high = sym (ap (λ (b : Bool). if b then Some n else None) (and_from _ _ (le-leb 1 n low) (le-leb n max_stripes high)))
+
+-- A parse of the word as a number, if it is in range.
+pub parsed : {E : Type 0} (word : List ℕ) (r : Result ℕ E) → ParsesUnsigned 64 10 word r → option_and_then in_range (result_ok r) ≡ stripes_of word
+parsed word (Ok n) parses =
+    let ds = without_leading_plus word in
+    let stripes = digits_value 10 ds in
+    ap in_range parses.1 ∙ sym (ap (λ (b : Bool). if b && (nat_le 1 stripes && nat_le stripes max_stripes) then Some stripes else None) (numeral_to ds parses.0.0))
+parsed word (Err e) fails =
+    let ds = without_leading_plus word in
+    let stripes = digits_value 10 ds in
+    let no : (is_numeral ds && (nat_le 1 stripes && nat_le stripes max_stripes)) ≡ true → ⊥ = λ is.
+    let parts = and_parts (is_numeral ds) _ is in
+    fails (numeral_from ds parts.0, below stripes parts.1)
+    in sym (ap (λ (b : Bool). if b then Some stripes else None) (false_from_ne_true _ no))

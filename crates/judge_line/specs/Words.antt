@@ -1,0 +1,165 @@
+-- What the words of a command line ask for, by the rules of `clap`.
+use Rattle.std.specs.Prelude.{◌≡◌, ℕ, ◌&&◌, Bool, true, false, List, [], codes, length}
+use Rattle.std.specs.Prelude.{Option, Some, None, if◌then◌else◌, nat_le, nat_lt, option_map}
+use Rattle.std.specs.Prelude.{option_and_then}
+use Rattle.std.specs.List.{list_all}
+use Rattle.std.specs.Str.{bytes_eq}
+use Rattle.std.specs.Str.Parse.{digits_value, without_leading_plus}
+use Rattle.std.specs.Char.{digit_value}
+use Rattle.clap.specs.declared.builder.action.ArgAction.TheVariants.{Set, SetTrue}
+use Rattle.clap.specs.declared.builder.command.Command.{Command}
+use Rattle.clap.specs.declared.builder.command.Command.TheViews.{out-Command}
+use Rattle.clap.specs.declared.error.kind.ErrorKind.{ErrorKind}
+use Rattle.clap.specs.declared.error.kind.ErrorKind.TheVariants.{DisplayHelp, DisplayVersion, OutOfMemory}
+use Rattle.clap.specs.Words.{App, IsAmong, Kinds, Rule, Row, Text, app_of, fault_of, first_of}
+use Rattle.clap.specs.Words.{new_app, new_rule, subcommand_of, with_rule, with_subcommand}
+use Rattle.clap.specs.Simple.{on_top}
+use Rattle.txn_trace.specs.declared.holder.Holder.TheVariants.{Begun}
+use Rattle.judge_engine.specs.declared.basis.Basis.{Basis}
+use Rattle.judge_engine.specs.declared.basis.Basis.TheVariants.{Locks, Commits}
+use Rattle.judge_engine.specs.Bases.{HasStripes}
+use Rattle.judge_line.specs.declared.words.Call.{Call}
+use Rattle.judge_line.specs.declared.words.Call.TheVariants as calls
+
+-- What words ask for: to judge the history file of a name, by the order of commits or not, or to say
+-- why it is bad; to judge the entries of standard input by such rules; to tell the outcomes of a
+-- script file in a history file; or to show the usage or the version.
+pub data Asked : Type 0 where
+  Check : Bool → Text → Asked
+  Why : Bool → Text → Asked
+  Watch : Basis → Asked
+  Outcomes : Text → Text → Asked
+  Help : Asked
+  Version : Asked
+
+abbrev pub asked_of : Call → Asked
+asked_of (calls.Check by_commits file) = Check by_commits file.now
+asked_of (calls.Why by_commits file) = Why by_commits file.now
+asked_of (calls.Watch basis) = Watch basis
+asked_of (calls.Outcomes scripts history) = Outcomes scripts.now history.now
+asked_of calls.Help = Help
+asked_of calls.Version = Version
+
+-- Entries are judged by one lock or more, unless by the order of commits.
+abbrev pub IsReady : Asked → Type 0
+IsReady (Watch basis) = HasStripes basis
+IsReady asked = Unit {0}
+
+-- The command line: `check [--serializable] FILE`, `outcomes SCRIPTS HISTORY`,
+-- `watch [--serializable] [--stripes N]` and `why [--serializable] FILE`, each as one of `clap`'s
+-- applications, whose own rules say how words are read.
+abbrev pub file_word : Text → Rule
+file_word name = record (new_rule name) { required = true; action = Some Set }
+
+abbrev pub serializable_word : Rule
+serializable_word = record (new_rule (codes "serializable")) {
+  long = Some (codes "serializable");
+  action = Some SetTrue;
+}
+
+abbrev pub stripes_word : Rule
+stripes_word = record (new_rule (codes "stripes")) {
+  long = Some (codes "stripes");
+  action = Some Set;
+}
+
+abbrev pub flagged : Text → App
+flagged name = with_rule (new_app name) serializable_word
+
+abbrev pub over_history : Text → App
+over_history name = with_rule (flagged name) (file_word (codes "FILE"))
+
+abbrev pub over_both : App
+over_both =
+    let scripts = with_rule (new_app (codes "outcomes")) (file_word (codes "SCRIPTS")) in
+    with_rule scripts (file_word (codes "HISTORY"))
+
+abbrev pub watching : App
+watching = with_rule (flagged (codes "watch")) stripes_word
+
+abbrev pub without_commands : App
+without_commands =
+    on_top (λ s. record s { has_version = true; subcommand_required = true })
+    (new_app (codes "judge"))
+
+abbrev pub command_line : App
+command_line =
+    let check = with_subcommand without_commands (over_history (codes "check")).top in
+    let outcomes = with_subcommand check over_both.top in
+    let watch = with_subcommand outcomes watching.top in
+    with_subcommand watch (over_history (codes "why")).top
+
+-- A command that is built by `clap` is this one.
+abbrev pub Has : Command → App → Type 0
+Has command app = (app_of command ≡ app) × ((out-Command command).has_globals ≡ false)
+
+-- A flag was found, and set.
+abbrev pub is_set : Option Text → Bool
+is_set None = false
+is_set (Some word) = bytes_eq word (codes "true")
+
+-- The most locks that keys may be shared out to, and how many they are if no number is given.
+abbrev pub max_stripes : ℕ
+max_stripes = 4096
+
+-- The number from 1 to 4,096 that a word writes, which is one or more decimal digits, and a plus
+-- before them if need be.
+abbrev pub is_numeral : Text → Bool
+is_numeral word = nat_lt 0 (length word) && list_all (λ c. nat_lt (digit_value c) 10) word
+
+abbrev pub stripes_of : Text → Option ℕ
+stripes_of word =
+    let digits = without_leading_plus word in
+    let stripes = digits_value 10 digits in
+    if is_numeral digits && (nat_le 1 stripes && nat_le stripes max_stripes)
+    then Some stripes else None
+
+-- The rules to judge by, by the flag and the word for the number of locks, if there is one: both
+-- together are no call.
+abbrev pub basis_for : Bool → Option Text → Option Basis
+basis_for true None = Some Commits
+basis_for true (Some word) = None
+basis_for false None = Some (Locks max_stripes Begun)
+basis_for false (Some word) = option_map (λ stripes. Locks stripes Begun) (stripes_of word)
+
+-- Standard input cannot be both files.
+abbrev pub outcomes_for : Text → Text → Option Asked
+outcomes_for scripts history =
+    if bytes_eq scripts (codes "-") && bytes_eq history (codes "-")
+    then None else Some (Outcomes scripts history)
+
+-- What a command of this name asks for, by what was found for its arguments.
+abbrev pub asked_in : Text → List Row → Option Asked
+asked_in name rows =
+    let by_commits = is_set (first_of (codes "serializable") rows) in
+    if bytes_eq name (codes "check")
+    then option_map (Check by_commits) (first_of (codes "FILE") rows)
+    else if bytes_eq name (codes "outcomes")
+    then option_and_then (λ scripts. option_and_then (outcomes_for scripts)
+    (first_of (codes "HISTORY") rows)) (first_of (codes "SCRIPTS") rows)
+    else if bytes_eq name (codes "watch")
+    then option_map Watch (basis_for by_commits (first_of (codes "stripes") rows))
+    else if bytes_eq name (codes "why")
+    then option_map (Why by_commits) (first_of (codes "FILE") rows)
+    else None
+
+-- What the words ask for if `clap` answers with an error of this kind: help and the version are
+-- such.
+abbrev pub answer_to : ErrorKind → Option Asked
+answer_to DisplayHelp = Some Help
+answer_to DisplayVersion = Some Version
+answer_to kind = None
+
+-- An error of this kind, which is no want of memory, is answered so.
+abbrev pub IsAnswered : ErrorKind → Option Asked → Type 0
+IsAnswered kind what = (kind ≡ OutOfMemory → ⊥) × (what ≡ answer_to kind)
+
+-- What the words ask for, by the kinds of error that they may give, and by the command that was
+-- found if they give none.
+abbrev pub AsksBy : Kinds → Option (Text × List Row) → Option Asked → Type 0
+AsksBy [] found what = what ≡ option_and_then (λ command. asked_in command.0 command.1) found
+AsksBy kinds found what = (kind : ErrorKind) × IsAmong kind kinds × (what ≡ answer_to kind)
+
+-- The words, of which the first is the program's name, ask for this; or for nothing that there is.
+abbrev pub Asks : List Text → Option Asked → Type 0
+Asks words what = AsksBy (fault_of command_line words) (subcommand_of command_line words) what
