@@ -6,3 +6,4 @@ pub mod Running
 pub mod Searching
 pub mod Counting
 pub mod Numbering
+pub mod Played

@@ -35,7 +35,7 @@ matches_fold : (es part : List Entry) (ps : List (List Entry)) → Matches part 
 matches_fold [] part ps m = m
 matches_fold (e ∷ es) part ps m = matches_fold es (grown part e) (part_after ps e) (matches_step part ps e m)
 
-last_is : (c : ℕ) (g p : List Entry) (ps : List (List Entry)) → parts_of (own c g) ≡ p ∷ ps → last_of c g ≡ without_undone p
+pub last_is : (c : ℕ) (g p : List Entry) (ps : List (List Entry)) → parts_of (own c g) ≡ p ∷ ps → last_of c g ≡ without_undone p
 last_is c g p ps is = subst (Matches (last_of c g)) is (matches_fold (own c g) [] [] tt)
 
 pub commit_plays : (c place entry : ℕ) (script : List Action) (h : List Entry) → IsShaped h → Commits c script place entry h → (t : ℕ) × (before : List Entry) × (of t h ≡ before ++ entries.Committed c place ∷ []) × Plays t script h × (is_committed t h ≡ true)

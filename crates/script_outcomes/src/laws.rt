@@ -1,13 +1,14 @@
 //! Laws of outcomes.
 
-ghost use Rattle.std.specs.Prelude.{◌≡◌, ℕ, true, List, [], ◌∷◌, ◌++◌};
+ghost use Rattle.std.specs.Prelude.{◌≡◌, ℕ, ◌<◌, true, List, [], ◌∷◌, ◌++◌, length};
 ghost use Rattle.txn_trace.specs.History.{is_committed, of};
-ghost use Rattle.txn_trace.specs.Plays.{Plays};
+ghost use Rattle.txn_trace.specs.Plays.{PlayScripts, Plays};
 ghost use Rattle.txn_trace.specs.Shape.{IsShaped};
 ghost use Rattle.txn_trace.specs.declared.action.Action.{Action};
 ghost use Rattle.txn_trace.specs.declared.entry.Entry.{Entry};
 ghost use Rattle.txn_trace.specs.declared.entry.Entry.TheVariants as entries;
-ghost use Rattle.script_outcomes.specs.Outcomes.{Commits};
+ghost use Rattle.script_outcomes.specs.declared.outcome.Outcome.{Outcome};
+ghost use Rattle.script_outcomes.specs.Outcomes.{AreCounted, AreOutcomes, Commits};
 
 /// In a history of right shape, as each legal one is, a script that is called committed is played
 /// by a committed transaction (`Plays` of `txn_trace`): the one whose last entry is the Committed
@@ -23,4 +24,20 @@ pub fn committed_plays()
         → Commits c script place entry h
         → (t : ℕ) × (before : List Entry) × (of t h ≡ before ++ entries.Committed c place ∷ [])
         × Plays t script h × (is_committed t h ≡ true) }
+{}
+
+/// If each caller's committed transactions play scripts of its own, in order (`PlayScripts` of
+/// `txn_trace`), as they do in what `mix` prints, every commit is that of a script that is called committed, with its place and the
+/// index of its entry.
+///
+/// The contract is the law.
+///
+/// # Cost
+///
+/// None: it does nothing when it runs.
+pub fn commits_are_counted()
+    ensures { (callers : ℕ) (scripts : List (List Action)) (h : List Entry)
+        (outcomes : List Outcome) → IsShaped h → PlayScripts callers scripts h
+        → AreOutcomes callers scripts h outcomes
+        → (c : ℕ) → c < callers → AreCounted callers c (length h) h outcomes }
 {}

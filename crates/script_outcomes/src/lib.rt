@@ -11,7 +11,8 @@
 //! transaction plays the script; one that is called aborted has an Aborted entry of its own worker
 //! whose transaction did just the script's actions up to its own abort; commits stand in the order
 //! of the scripts, and so do aborts, so that each transaction is counted for one script at most. If
-//! the caller's commits play scripts of its own in order, in whatever way, each of them is counted.
+//! the caller's commits play scripts of its own in order, in whatever way, each of them is counted:
+//! so in what `mix` prints no commit is missed (`laws::commits_are_counted`).
 //! In a history of right shape what is called committed is a committed transaction that plays the
 //! script, by its number (`laws::committed_plays`).
 //! Only tested: that each script of a run that aborts itself is called aborted.

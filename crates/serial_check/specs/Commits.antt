@@ -59,6 +59,14 @@ pub record IsMisread (h : List Entry) (t : ℕ) (miss : Misread) : Type 0 where
   pub due_is : get (serial h) miss.key ≡ miss.due
   pub differs : miss.read ≢ miss.due
 
+-- The replies of a transaction contradict one another: it runs alone on no map.
+abbrev pub IsTorn : List Entry → ℕ → Type 0
+IsTorn h t = (m : Map) → alone m (of t h) ≡ None
+
+-- Some map gives a transaction all of its replies.
+abbrev pub RunsSomewhere : List Entry → ℕ → Type 0
+RunsSomewhere h t = (m : Map) × IsSome (alone m (of t h))
+
 -- A transaction has the replies of running alone on the committed map, or on no map at all.
 abbrev pub FitsOrTorn : List Entry → ℕ → Type 0
-FitsOrTorn h t = IsSome (alone (serial h) (of t h)) ⊎ ((m : Map) → alone m (of t h) ≡ None)
+FitsOrTorn h t = IsSome (alone (serial h) (of t h)) ⊎ IsTorn h t

@@ -1,6 +1,6 @@
 //! A checker that is fed the entries of a history one after another, and judges replies at each
 //! commit. After an entry breaks a rule, the verdict no longer changes.
-ghost use Rattle.std.specs.Prelude.{◌≡◌, ℕ, ◌<◌, ◌++◌, [], ◌∷◌, List, IfOk, OnOk, OnErr, IfSome, IsNone, Some, true};
+ghost use Rattle.std.specs.Prelude.{◌≡◌, ℕ, ◌<◌, ◌++◌, [], ◌∷◌, List, IfOk, OnOk, OnErr, IfSome, IsNone, Some, true, false};
 ghost use Rattle.txn_trace.specs.History.{caller_of};
 ghost use Rattle.serial_check.specs.Verdicts.{IsVerdictOn};
 
@@ -27,7 +27,7 @@ impl Checker {
     ghost use Rattle.txn_trace.specs.Map.{get};
     ghost use Rattle.txn_trace.specs.Serial.{serial};
     ghost use Rattle.history_check.specs.Callers.{HaveEntered};
-    ghost use Rattle.serial_check.specs.Commits.{IsMisread, FitsOrTorn};
+    ghost use Rattle.serial_check.specs.Commits.{IsMisread, IsTorn, FitsOrTorn, RunsSomewhere};
     ghost use Rattle.serial_check.specs.Fed.{IsFed};
     ghost use Rattle.serial_check.specs.Serializable.{IsSerializable, txn_in};
 
@@ -143,5 +143,22 @@ impl Checker {
             IsSerializable h → txn_in h caller ≡ Some t → is_open t h ≡ true → FitsOrTorn h t }
     {
         self.state.commits.misread(caller)
+    }
+
+    /// Whether the replies of the open transaction of a caller, which is below 64, contradict one
+    /// another, as long as no entry is bad. If so, no map gives it all of them, and it may only
+    /// abort.
+    ///
+    /// # Cost
+    ///
+    /// Constant time; takes no memory.
+    pub fn is_torn(&self, caller: u64) -> bool
+        requires { caller < 64 }
+        ensures torn { result ≡ true → (h : List Entry) (t : ℕ) → IsFed h self.now →
+            IsSerializable h → txn_in h caller ≡ Some t → is_open t h ≡ true → IsTorn h t }
+        ensures whole { result ≡ false → (h : List Entry) (t : ℕ) → IsFed h self.now →
+            IsSerializable h → txn_in h caller ≡ Some t → is_open t h ≡ true → RunsSomewhere h t }
+    {
+        self.state.commits.is_torn(caller)
     }
 }

@@ -1,6 +1,6 @@
 //! The judge of commits: the committed map and the footprints of open transactions. A commit is
 //! right if the committed map has the values that its footprint needs.
-ghost use Rattle.std.specs.Prelude.{◌≡◌, ℕ, ◌<◌, true, [], List, Some, IfOk, OnErr, IfSome, IsNone, vec_len};
+ghost use Rattle.std.specs.Prelude.{◌≡◌, ℕ, ◌<◌, true, false, [], List, Some, IfOk, OnErr, IfSome, IsNone, vec_len};
 ghost use Rattle.txn_trace.specs.History.{caller_of, is_open};
 ghost use Rattle.txn_trace.specs.declared.entry.Entry.{Entry};
 
@@ -36,7 +36,7 @@ pub(crate) struct Commits {
 
 impl Commits {
     ghost use Rattle.serial_check.specs.Serializable.{txn_in};
-    ghost use Rattle.serial_check.specs.Commits.{Keeps, Judges, Stays, IsMisread, FitsOrTorn};
+    ghost use Rattle.serial_check.specs.Commits.{Keeps, Judges, Stays, IsMisread, IsTorn, FitsOrTorn, RunsSomewhere};
 
     /// The empty map, with no transactions.
     pub(crate) fn new(alloc: Global) -> Result<Commits, AllocError>
@@ -109,5 +109,17 @@ impl Commits {
         let (key, read) = footprint.misfit(&self.values)?;
         let due = self.values.get(&key).copied();
         Some(Misread { key, read, due })
+    }
+
+    /// Whether the replies of the caller's transaction contradict one another. Constant time.
+    pub(crate) fn is_torn(&self, caller: u64) -> bool
+        requires { caller < 64 }
+        ensures torn { result ≡ true → (h : List Entry) (t : ℕ) → Keeps h self.now →
+            txn_in h caller ≡ Some t → is_open t h ≡ true → IsTorn h t }
+        ensures whole { result ≡ false → (h : List Entry) (t : ℕ) → Keeps h self.now →
+            txn_in h caller ≡ Some t → is_open t h ≡ true → RunsSomewhere h t }
+    {
+        let footprint = &self.footprints[caller as usize];
+        footprint.is_torn
     }
 }
