@@ -128,8 +128,8 @@ fn are_of(version: u64, has_put_if: bool) -> Result<(), Refused> {
     Ok(())
 }
 
-pub fn read_steps(bytes: &[u8]) -> Result<Steps, Refused> {
-    let file: StepFile = serde_json::from_slice(bytes)?;
+pub fn read_steps(text: &str) -> Result<Steps, Refused> {
+    let file: StepFile = serde_json::from_str(text)?;
     are_of(file.version, file.steps.has_put_if)?;
     let limits = Limits::new(file.version, file.callers, file.stripes, file.buckets);
     let steps = file.steps.list;
@@ -141,8 +141,8 @@ pub fn read_steps(bytes: &[u8]) -> Result<Steps, Refused> {
     })
 }
 
-pub fn read_scripts(bytes: &[u8]) -> Result<Scripts, Refused> {
-    let file: ScriptFile = serde_json::from_slice(bytes)?;
+pub fn read_scripts(text: &str) -> Result<Scripts, Refused> {
+    let file: ScriptFile = serde_json::from_str(text)?;
     are_of(file.version, file.scripts.iter().any(|script| script.has_put_if))?;
     let limits = Limits::new(file.version, file.workers, file.stripes, file.buckets);
     in_range(file.scripts.len() <= 10_000 && file.tries <= 1000)?;
@@ -155,8 +155,8 @@ pub fn read_scripts(bytes: &[u8]) -> Result<Scripts, Refused> {
     })
 }
 
-pub fn read_history(bytes: &[u8]) -> Result<History, Refused> {
-    let file: HistoryFile = serde_json::from_slice(bytes)?;
+pub fn read_history(text: &str) -> Result<History, Refused> {
+    let file: HistoryFile = serde_json::from_str(text)?;
     are_of(file.version, file.entries.has_put_if)?;
     in_range((1..=3).contains(&file.version) && (1..=4096).contains(&file.stripes))?;
     in_range(file.entries.last_caller < 64 && file.entries.list.len() <= 1_000_000)?;

@@ -36,9 +36,9 @@ const ANSWER: usize = 8;
 const ENTRY: usize = 24;
 
 /// What `replay` prints.
-fn replay(bytes: Vec<u8>) -> Result<Vec<u8>, Box<dyn Error>> {
-    let file = read_steps(&bytes)?;
-    drop(bytes);
+fn replay(text: String) -> Result<Vec<u8>, Box<dyn Error>> {
+    let file = read_steps(&text)?;
+    drop(text);
     let mut core = Core::new(file.limits, file.steps.len());
     let mut text = Text::with_room(ANSWER * file.steps.len());
     for step in &file.steps {
@@ -62,7 +62,7 @@ fn history_of(core: Core, scripts: Scripts, version: u64) -> Vec<u8> {
 
 /// Writes on standard error how long the scripts of a file take in threads, map and threads included.
 fn time_run(file: &str, run: fn(&Scripts) -> Core) -> Result<(Vec<u8>, bool), Box<dyn Error>> {
-    let scripts = read_scripts(&fs::read(file)?)?;
+    let scripts = read_scripts(&fs::read_to_string(file)?)?;
     let start = Instant::now();
     let history = run(&scripts).into_history();
     let nanos = start.elapsed().as_nanos();
@@ -74,9 +74,9 @@ fn output() -> Result<(Vec<u8>, bool), Box<dyn Error>> {
     let words: Vec<String> = env::args().skip(1).collect();
     let words: Vec<&str> = words.iter().map(String::as_str).collect();
     let text = match words.as_slice() {
-        ["replay", file] => replay(fs::read(file)?)?,
+        ["replay", file] => replay(fs::read_to_string(file)?)?,
         ["history", file, most] => {
-            let file = read_steps(&fs::read(file)?)?;
+            let file = read_steps(&fs::read_to_string(file)?)?;
             let mut core = Core::new(file.limits, file.steps.len());
             for step in &file.steps {
                 core.step(step.step());
@@ -88,23 +88,23 @@ fn output() -> Result<(Vec<u8>, bool), Box<dyn Error>> {
             text.into_bytes()
         }
         ["check", file] => {
-            let bytes = fs::read(file)?;
-            let history = read_history(&bytes)?;
-            drop(bytes);
+            let text = fs::read_to_string(file)?;
+            let history = read_history(&text)?;
+            drop(text);
             let (line, is_legal) = check::verdict(&history);
             return Ok((line.into_bytes(), is_legal));
         }
         ["mix", "--seed", seed, file] => {
-            let scripts = read_scripts(&fs::read(file)?)?;
+            let scripts = read_scripts(&fs::read_to_string(file)?)?;
             let version = scripts.version;
             history_of(mix::mix(seed.parse()?, &scripts), scripts, version)
         }
         ["run", file] => {
-            let scripts = read_scripts(&fs::read(file)?)?;
+            let scripts = read_scripts(&fs::read_to_string(file)?)?;
             history_of(run::run(&scripts), scripts, 3)
         }
         ["run_kept", file] => {
-            let scripts = read_scripts(&fs::read(file)?)?;
+            let scripts = read_scripts(&fs::read_to_string(file)?)?;
             history_of(run::run_kept(&scripts), scripts, 3)
         }
         ["time_run", file] => return time_run(file, run::run),

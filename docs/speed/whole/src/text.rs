@@ -18,14 +18,15 @@ struct Line {
 }
 
 impl Line {
-    fn words(mut self, words: &[u8]) -> Line {
+    #[inline(always)]
+    fn words(&mut self, words: &[u8]) -> &mut Line {
         self.bytes[self.len..self.len + words.len()].copy_from_slice(words);
         self.len += words.len();
         self
     }
 
     #[inline]
-    fn number(mut self, number: u64) -> Line {
+    fn number(&mut self, number: u64) -> &mut Line {
         if number < 10 {
             self.bytes[self.len] = b'0' + number as u8;
             self.len += 1;
@@ -48,7 +49,7 @@ impl Line {
     }
 
     /// The elements of an entry's operation.
-    fn op(self, entry: &Entry) -> Line {
+    fn op(&mut self, entry: &Entry) -> &mut Line {
         let Entry {
             number,
             value,
@@ -71,108 +72,121 @@ impl Line {
     }
 }
 
-/// A text that is made from one end to the other.
-pub struct Text(Vec<u8>);
+/// A text that is made from one end to the other, a line or an entry at a time.
+pub struct Text {
+    text: Vec<u8>,
+    line: Line,
+}
 
 impl Text {
     /// An empty text with room for so many bytes.
     pub fn with_room(bytes: usize) -> Text {
-        Text(Vec::with_capacity(bytes))
+        Text {
+            text: Vec::with_capacity(bytes),
+            line: Line {
+                bytes: [0; LONGEST],
+                len: 0,
+            },
+        }
     }
 
     pub fn into_bytes(self) -> Vec<u8> {
-        self.0
+        self.text
     }
 
-    fn push(&mut self, line: &Line) {
-        self.0.extend_from_slice(&line.bytes[..line.len]);
-    }
-
-    fn line() -> Line {
-        Line {
-            bytes: [0; LONGEST],
-            len: 0,
-        }
+    fn end_line(&mut self) {
+        self.text.extend_from_slice(&self.line.bytes[..self.line.len]);
+        self.line.len = 0;
     }
 
     /// The line of an answer.
     pub fn answer(&mut self, answer: Answer) {
-        let line = Text::line();
-        let numbered = |words: &[u8], number: u64| Text::line().words(words).number(number).words(b"\n");
-        self.push(&match answer {
-            Answer::Began(txn) => numbered(b"began ", txn),
-            Answer::Asked => line.words(b"asked\n"),
-            Answer::Busy(holder) => numbered(b"busy ", holder),
-            Answer::Placed => line.words(b"placed\n"),
-            Answer::Again => line.words(b"again\n"),
-            Answer::Done(None) => line.words(b"done none\n"),
-            Answer::Done(Some(value)) => numbered(b"done ", value),
-            Answer::Undone => line.words(b"undone\n"),
-            Answer::Returned(level) => numbered(b"returned ", level),
-            Answer::Aborted => line.words(b"aborted\n"),
-            Answer::Saved(level) => numbered(b"saved ", level),
-            Answer::Leaving => line.words(b"leaving\n"),
-            Answer::Committed(place) => numbered(b"committed ", place),
-            Answer::Swept => line.words(b"swept\n"),
-            Answer::Clean => line.words(b"clean\n"),
-            Answer::Ready => line.words(b"ready\n"),
-            Answer::Present => line.words(b"present\n"),
-            Answer::Linked => line.words(b"linked\n"),
-            Answer::Stored => line.words(b"stored\n"),
-            Answer::Moved(size) => numbered(b"moved ", size),
-            Answer::AtLimit => line.words(b"at limit\n"),
-            Answer::Light => line.words(b"light\n"),
-            Answer::Doubled(size) => numbered(b"doubled ", size),
-            Answer::Refused(refusal) => numbered(b"refused ", refusal as u64),
-        });
+        let line = &mut self.line;
+        match answer {
+            Answer::Began(txn) => line.words(b"began ").number(txn),
+            Answer::Asked => line.words(b"asked"),
+            Answer::Busy(holder) => line.words(b"busy ").number(holder),
+            Answer::Placed => line.words(b"placed"),
+            Answer::Again => line.words(b"again"),
+            Answer::Done(None) => line.words(b"done none"),
+            Answer::Done(Some(value)) => line.words(b"done ").number(value),
+            Answer::Undone => line.words(b"undone"),
+            Answer::Returned(level) => line.words(b"returned ").number(level),
+            Answer::Aborted => line.words(b"aborted"),
+            Answer::Saved(level) => line.words(b"saved ").number(level),
+            Answer::Leaving => line.words(b"leaving"),
+            Answer::Committed(place) => line.words(b"committed ").number(place),
+            Answer::Swept => line.words(b"swept"),
+            Answer::Clean => line.words(b"clean"),
+            Answer::Ready => line.words(b"ready"),
+            Answer::Present => line.words(b"present"),
+            Answer::Linked => line.words(b"linked"),
+            Answer::Stored => line.words(b"stored"),
+            Answer::Moved(size) => line.words(b"moved ").number(size),
+            Answer::AtLimit => line.words(b"at limit"),
+            Answer::Light => line.words(b"light"),
+            Answer::Doubled(size) => line.words(b"doubled ").number(size),
+            Answer::Refused(refusal) => line.words(b"refused ").number(refusal as u64),
+        }
+        .words(b"\n");
+        self.end_line();
     }
 
     pub fn size(&mut self, size: u32, count: u64) {
-        let line = Text::line().words(b"size ").number(u64::from(size));
-        self.push(&line.words(b" count ").number(count).words(b"\n"));
+        let line = self.line.words(b"size ").number(u64::from(size));
+        line.words(b" count ").number(count).words(b"\n");
+        self.end_line();
     }
 
     pub fn pair(&mut self, key: u64, value: u64) {
-        let line = Text::line().number(key).words(b" ");
-        self.push(&line.number(value).words(b"\n"));
+        let line = self.line.number(key).words(b" ");
+        line.number(value).words(b"\n");
+        self.end_line();
     }
 
     fn entry(&mut self, entry: &Entry) {
-        let caller = u64::from(entry.caller);
-        let line = Text::line();
-        let numbered = |words: &[u8]| Text::line().words(words).number(caller).words(b",").number(entry.number).words(b"],");
-        self.push(&match entry.event {
-            Event::Began => numbered(br#"["began","#),
-            Event::Asked => {
-                let line = line.words(br#"["asked","#).number(caller).words(b",");
-                line.op(entry).words(b"],")
+        let (line, number) = (&mut self.line, entry.number);
+        let word: &[u8] = match entry.event {
+            Event::Began => br#"["began","#,
+            Event::Asked => br#"["asked","#,
+            Event::Did | Event::DidNone => br#"["did","#,
+            Event::Saved => br#"["saved","#,
+            Event::Leave | Event::LeaveToEnd => br#"["leave","#,
+            Event::Undone => br#"["undone","#,
+            Event::Returned => br#"["returned","#,
+            Event::Committed => br#"["committed","#,
+            Event::Busy => br#"["busy","#,
+            Event::Aborted => br#"["aborted","#,
+        };
+        line.words(word).number(u64::from(entry.caller));
+        match entry.event {
+            Event::Began | Event::Did | Event::Leave | Event::Returned | Event::Committed => {
+                line.words(b",").number(number)
             }
-            Event::Did => numbered(br#"["did","#),
-            Event::DidNone => line.words(br#"["did","#).number(caller).words(b",null],"),
-            Event::Saved => line.words(br#"["saved","#).number(caller).words(b"],"),
-            Event::Leave => numbered(br#"["leave","#),
-            Event::LeaveToEnd => line.words(br#"["leave","#).number(caller).words(b",null],"),
-            Event::Undone => line.words(br#"["undone","#).number(caller).words(b"],"),
-            Event::Returned => numbered(br#"["returned","#),
-            Event::Committed => numbered(br#"["committed","#),
+            Event::DidNone | Event::LeaveToEnd => line.words(b",null"),
+            Event::Saved | Event::Undone | Event::Aborted => line,
+            Event::Asked => line.words(b",").op(entry),
             Event::Busy => {
-                let line = line.words(br#"["busy","#).number(caller).words(b",").op(entry);
-                line.words(b",").number(u64::from(entry.holder)).words(b"],")
+                let line = line.words(b",").op(entry).words(b",");
+                line.number(u64::from(entry.holder))
             }
-            Event::Aborted => line.words(br#"["aborted","#).number(caller).words(b"],"),
-        });
+        }
+        .words(b"],");
+        self.end_line();
     }
 
     /// The history as one line of JSON, of this version.
     pub fn history(&mut self, entries: &[Entry], stripes: u32, version: u64) {
-        self.0.extend_from_slice(br#"{"entries":["#);
+        self.text.extend_from_slice(br#"{"entries":["#);
         for entry in entries {
             self.entry(entry);
         }
         if !entries.is_empty() {
-            self.0.pop();
+            self.text.pop();
         }
-        let line = Text::line().words(br#"],"stripes":"#).number(u64::from(stripes));
-        self.push(&line.words(br#","version":"#).number(version).words(b"}\n"));
+        let line = self.line.words(br#"],"stripes":"#);
+        let line = line.number(u64::from(stripes)).words(br#","version":"#);
+        line.number(version).words(b"}\n");
+        self.end_line();
     }
 }
