@@ -12,3 +12,6 @@ returns-in_ok-insert-in-PutIf-clause-ok c m has =
     let same = subst (λ o. option_eq nat_eq o expected ≡ true) (c.get.ensures m has) is in
     let put : Has (insert m key c.in-PutIf.value) c.insert-then-eq.new.self = c.in_ok-insert-in-PutIf.ensures.ok m has in
     rw c.in-PutIf.is (subst (λ n. Has n c.insert-then-eq.new.self) (sym (ap (λ b. cond b (insert m key c.in-PutIf.value) m) same)) put)
+
+pub returns-in-Take-clause-ok : goal.returns-in-Take-clause-ok
+returns-in-Take-clause-ok c m has = rw c.in-Take.is (c.remove.ensures m has)
