@@ -1,4 +1,4 @@
-use Rattle.std.proofs.Common.{◌≡◌, ◌∙◌, Some, cond, true, nat_eq, ap, sym, subst}
+use Rattle.std.proofs.Common.{◌≡◌, ◌∙◌, cond, true, nat_eq, ap, sym, subst}
 use Rattle.std.specs.Option.{option_eq}
 use Rattle.txn_trace.specs.Map.{insert}
 use Rattle.history_check.specs.Values.{Has}
