@@ -15,7 +15,7 @@ use Rattle.txn_trace.specs.Map.{Map, empty, get}
 use Rattle.txn_trace.specs.Now.{set_at}
 use Rattle.txn_trace.proofs.Table.{get-set_at}
 use Rattle.history_check.specs.declared.values.Values.{Values}
-use Rattle.history_check.specs.Values.{HasOf, Has}
+use Rattle.history_check.specs.Remainders.{HasOf, Have}
 use Rattle.history_check.proofs.Seating.{each-set, if_some, at_some}
 
 pub is_at-nat : (k q : ℕ) → is_at (nat_cmp k) q ≡ (q == k)
@@ -39,11 +39,11 @@ map_at values k tree is =
     slice_get_read values.maps.items (vec_len values.maps) (k % 1021) tree values.maps.ok.0 (omega arith) is
 
 -- What a key has, in the sorted map of its remainder.
-pub has-get : (m : Map) (values : Values) (k : ℕ) (tree : BTreeMap ℕ ℕ) → Has m values → tree ≡ get_or values.maps.items (k % 1021) tree → value_at nat_cmp tree k ≡ get m k
+pub has-get : (m : Map) (values : Values) (k : ℕ) (tree : BTreeMap ℕ ℕ) → Have m values → tree ≡ get_or values.maps.items (k % 1021) tree → value_at nat_cmp tree k ≡ get m k
 has-get m values k tree has is = at_some (HasOf m (k % 1021)) (slice_get values.maps.items (k % 1021)) tree (map_at values k tree is) (has (k % 1021)) k refl
 
 -- One key has another value, or is gone, in the sorted map of its remainder.
-pub has-set_at : (m : Map) (old : Values) (k : ℕ) (v : Option ℕ) (tree tree' : BTreeMap ℕ ℕ) → Has m old → tree ≡ get_or old.maps.items (k % 1021) tree
+pub has-set_at : (m : Map) (old : Values) (k : ℕ) (v : Option ℕ) (tree tree' : BTreeMap ℕ ℕ) → Have m old → tree ≡ get_or old.maps.items (k % 1021) tree
     → ((q : ℕ) → value_at nat_cmp tree' q ≡ cond (is_at (nat_cmp k) q) v (value_at nat_cmp tree q)) → (r : ℕ) → IfSome (slice_get (set old.maps.items (k % 1021) tree') r) (HasOf (set_at m k v) r)
 has-set_at m old k v tree tree' has is updates r =
     let here = at_some (HasOf m (k % 1021)) (slice_get old.maps.items (k % 1021)) tree (map_at old k tree is) (has (k % 1021)) in

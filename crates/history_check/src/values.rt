@@ -21,11 +21,11 @@ pub(crate) struct Values {
 }
 
 impl Values {
-    ghost use Rattle.history_check.specs.Values.{Has};
+    ghost use Rattle.history_check.specs.Remainders.{Have};
 
     /// No key has a value.
     pub(crate) fn new(alloc: Global) -> Result<Values, AllocError>
-        ensures { IfOk result (Has empty) }
+        ensures { IfOk result (Have empty) }
     {
         let mut maps = Vec::with_capacity(alloc, MAPS as usize)?;
         for _ in 0..MAPS {
@@ -37,16 +37,16 @@ impl Values {
     /// The value of a key. Costs the logarithm of the number of keys.
     #[inline(always)]
     pub(crate) fn get(&self, key: u64) -> Option<u64>
-        ensures { (m : Map) → Has m self.now → result ≡ get m key }
+        ensures { (m : Map) → Have m self.now → result ≡ get m key }
     {
         self.maps[(key % MAPS) as usize].get(&key).copied()
     }
 
     /// Gives a key a value. Costs the logarithm of the number of keys.
     fn insert(&mut self, key: u64, value: u64) -> Result<(), AllocError>
-        ensures ok { OnOk result ((m : Map) → Has m self.old →
-            Has (set_at m key (Some value)) self.new) }
-        ensures err { OnErr result ((m : Map) → Has m self.old → Has m self.new) }
+        ensures ok { OnOk result ((m : Map) → Have m self.old →
+            Have (set_at m key (Some value)) self.new) }
+        ensures err { OnErr result ((m : Map) → Have m self.old → Have m self.new) }
     {
         self.maps[(key % MAPS) as usize].insert(key, value)?;
         Ok(())
@@ -54,7 +54,7 @@ impl Values {
 
     /// Takes a key's value away. Costs the logarithm of the number of keys.
     fn remove(&mut self, key: u64)
-        ensures { (m : Map) → Has m self.old → Has (set_at m key None) self.new }
+        ensures { (m : Map) → Have m self.old → Have (set_at m key None) self.new }
     {
         self.maps[(key % MAPS) as usize].remove(&key);
     }
@@ -62,8 +62,8 @@ impl Values {
     /// Does an operation. Costs the logarithm of the number of keys.
     #[inline(always)]
     pub(crate) fn operate(&mut self, op: Op) -> Result<(), AllocError>
-        ensures ok { OnOk result ((m : Map) → Has m self.old → Has (after m op) self.new) }
-        ensures err { OnErr result ((m : Map) → Has m self.old → Has m self.new) }
+        ensures ok { OnOk result ((m : Map) → Have m self.old → Have (after m op) self.new) }
+        ensures err { OnErr result ((m : Map) → Have m self.old → Have m self.new) }
     {
         match op {
             Op::Put(key, value) => self.insert(key, value)?,
@@ -81,9 +81,9 @@ impl Values {
     /// Puts back what a key had. Costs the logarithm of the number of keys.
     #[inline(always)]
     pub(crate) fn restore(&mut self, key: u64, before: Option<u64>) -> Result<(), AllocError>
-        ensures ok { OnOk result ((m : Map) → Has m self.old →
-            Has (set_at m key before) self.new) }
-        ensures err { OnErr result ((m : Map) → Has m self.old → Has m self.new) }
+        ensures ok { OnOk result ((m : Map) → Have m self.old →
+            Have (set_at m key before) self.new) }
+        ensures err { OnErr result ((m : Map) → Have m self.old → Have m self.new) }
     {
         match before {
             Some(value) => self.insert(key, value),
