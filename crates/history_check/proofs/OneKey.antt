@@ -1,5 +1,5 @@
 -- What a change of one key makes of the map.
-use Rattle.std.proofs.Common.{get_or, vec_len, ◌≡◌, ◌≢◌, ℕ, zero, suc, ◌<◌, ◌==◌, ◌%◌, cond, Option, List, [], ◌∷◌, ap, sym, refl, ◌∙◌, arith}
+use Rattle.std.proofs.Common.{get_or, vec_len, ◌≡◌, ◌≢◌, ℕ, zero, suc, ◌<◌, ◌==◌, ◌%◌, cond, Option, Some, List, [], ◌∷◌, ap, sym, refl, ◌∙◌, arith}
 use Rattle.std.specs.Prelude.{slice_get}
 use Rattle.std.specs.Option.{IfSome}
 use Rattle.std.specs.List.{All}
