@@ -33,10 +33,19 @@ take_program() {
   cp "${PROGRAM:-crates/boostmap/out/boostmap}" "$work/proved"
 }
 
-# Builds a program in plain Rust, as rustc lays memory out, and as the proved program has it.
+# Builds a program in plain Rust, which is then `plain` in $work.
 build_twin() {
-  rustc -O -o "$work/plain" "docs/speed/$1.rs"
-  rustc -O --cfg alike -o "$work/alike" "docs/speed/$1.rs"
+  rustc -C opt-level=3 -C codegen-units=1 -C lto -C panic=abort -o "$work/plain" "docs/speed/$1.rs"
+}
+
+# Takes an older twin of the whole commands, where BEFORE names one; it is then `before` in $work. $programs are those that are
+# compared.
+take_before() {
+  programs=(proved plain)
+  if [ -n "${BEFORE:-}" ]; then
+    cp "$BEFORE" "$work/before"
+    programs+=(before)
+  fi
 }
 
 # Builds the twin of the whole commands, which is then `plain` in $work. It takes serde_json from the folder that CRATES names.
@@ -60,8 +69,9 @@ write_step_files() {
   done
 }
 
-# Writes a step file, a history and a script file of about so many pieces, as replay.json, check.json and mix.json in $work; 0 is
-# the full size. They are of the version that VERSION names, 1 or 2; without it of version 1. It takes `core_steps` and `plain`.
+# Writes a step file, a history and two script files of about so many pieces, as replay.json, check.json, mix.json and, for one
+# worker, run.json in $work; 0 is the full size. They are of the version that VERSION names, 1 or 2; without it of version 1. It
+# takes `core_steps` and `plain`.
 write_whole_files() {
   local most=${1/#0/1000000} calls=${1/#0/500000} version=${VERSION:-1}
   local words=(version="$version" stripes=256 keys=60000)
@@ -69,6 +79,7 @@ write_whole_files() {
   "$work/core_steps" steps=1000000 "${words[@]}" >"$work/long.json" 2>/dev/null
   "$work/plain" history "$work/long.json" "$most" >"$work/check.json"
   docs/speed/scripts.sh every "$calls" 8 "$version" >"$work/mix.json"
+  docs/speed/scripts.sh every "$calls" 1 "$version" >"$work/run.json"
 }
 
 # Writes a script file for so many workers and keys: 10,000 scripts, each of four operations and a help; a tenth aborts.

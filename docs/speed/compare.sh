@@ -1,7 +1,6 @@
 #!/usr/bin/env bash
 # Runs the nodes and cursors of the benchmark and of its twin in plain Rust in turn, and prints the median time of each phase
-# in milliseconds, the proved program's in nanoseconds an operation, and its ratio to the twin, and to the twin with entries
-# that lie in memory as the proved program's do.
+# in milliseconds, the proved program's in nanoseconds an operation, and its ratio to the twin.
 # Usage: docs/speed/compare.sh [KEYS [ROUNDS]]
 source "$(dirname "${BASH_SOURCE[0]}")/common.sh"
 keys=${1:-1000000}
@@ -10,7 +9,7 @@ build_proved bench nodes 1000
 build_twin twin
 
 for _ in $(seq "$rounds"); do
-  for program in proved plain alike; do
+  for program in proved plain; do
     words=("$keys")
     [ $program = proved ] && words=(nodes "$keys")
     "$work/$program" "${words[@]}" 2>&1 |

@@ -1,9 +1,8 @@
 #!/usr/bin/env bash
 # Runs the core of the benchmark and its twin in plain Rust in turn, on the same step files, and prints the median time of
-# the steps in milliseconds, the proved program's in nanoseconds a step, and its ratio to the twin, and to the twin with
-# entries that lie in memory as the proved program's do: of the first run of the steps, for which memory has to be taken from
-# the system, and then of a second one, for which the C library has kept it. ../SPEED.md says what the files of core_files.txt
-# are.
+# the steps in milliseconds, the proved program's in nanoseconds a step, and its ratio to the twin: of the first run of the
+# steps, for which memory has to be taken from the system, and then of a second one, for which the C library has kept it.
+# ../SPEED.md says what the files of core_files.txt are.
 # Usage: docs/speed/core.sh [ROUNDS]
 source "$(dirname "${BASH_SOURCE[0]}")/common.sh"
 rounds=${1:-9}
@@ -24,7 +23,7 @@ run_core() {
 
 for _ in $(seq "$rounds"); do
   for place in "${!names[@]}"; do
-    for program in proved plain alike; do
+    for program in proved plain; do
       run_core $program "$work/${names[$place]}.json" |
         awk -v row="$place ${names[$place]} $program" -v work="$work" '
           { print row, $5, $7, $11 >> (work "/" $2 ".times") }'

@@ -13,7 +13,7 @@
 //! - sweeps: a sweep comes by chance once in so many steps
 //! - turn: after a step another caller may take the next one, by chance once in so many steps; 0: only after a transaction
 //! - seed: where chance begins
-#![allow(dead_code, unexpected_cfgs)]
+#![allow(dead_code)]
 
 mod list;
 mod machine;
@@ -200,7 +200,7 @@ impl Writer {
         let (text, _) = around_steps(&wishes.limits);
         Writer {
             chance: Chance(key_at(wishes.seed) | 1),
-            core: Core::new(wishes.limits),
+            core: Core::new(wishes.limits, 0),
             callers: (0..wishes.limits.callers).map(|_| Caller::new()).collect(),
             at: 0,
             buckets: VecDeque::from([1]),

@@ -2,7 +2,7 @@
 //! see ../SPEED.md.
 //!
 //! Usage: core_twin FILE, which times the steps; core_twin FILE report, which writes what `boostmap replay FILE` writes.
-#![allow(dead_code, unexpected_cfgs)]
+#![allow(dead_code)]
 
 mod list;
 mod machine;
@@ -34,14 +34,12 @@ fn lines_of(answers: &[Answer]) -> String {
 fn print_report(core: &Core, lines: &str) {
     print!("{lines}");
     println!("size {} count {}", core.size(), core.count());
-    for (key, value) in core.pairs() {
-        println!("{key} {value}");
-    }
+    core.each_pair(|key, value| println!("{key} {value}"));
 }
 
 /// Runs the steps on a new core, which is made before the clock starts, and gives it with the lines of the answers.
 fn time_run(phase: &str, limits: Limits, steps: &[Step]) -> (Core, String) {
-    let mut core = Core::new(limits);
+    let mut core = Core::new(limits, steps.len());
     let start = Instant::now();
     let answers = core.run(steps);
     let time = start.elapsed();

@@ -1,55 +1,50 @@
 //! The core in plain Rust, as the proved one is built: the table over the list of nodes, the locks of the stripes, and for
 //! each caller its stage, its cursor and its undo log.
 use crate::list::{
-    Cursor, Kind, NodeList, Unfilled, link_at, look, mark_at, marks_begin, seek, swap_at,
+    Cursor, Kind, NONE, NodeList, Unfilled, link_at, look, mark_at, marks_begin, seek, swap_at,
     sweep_from,
 };
 use crate::split::{SortKey, bucket_at, bucket_of, parent};
 use crate::step::{Answer, Limits, Op, Refusal, Reply, Step};
-use std::mem;
 
 // ---- the table ----
 
-/// An operation with what it needs.
-enum Plan {
-    Put(u64, u64, Unfilled),
-    Take(u64, Unfilled),
-    PutIf(u64, Option<u64>, u64, Unfilled),
-    Get(u64),
+/// An operation with the place that it may need.
+#[derive(Clone, Copy)]
+struct Plan {
+    op: Op,
+    spare: Unfilled,
 }
 
 /// What takes a change back.
+#[derive(Clone, Copy)]
 enum Job {
     Unput(u64),
     Restore(u64, u64),
     Relink(u64, u64, Unfilled),
 }
 
+const _: () = assert!(size_of::<Job>() == 24);
+
 #[derive(Clone, Copy)]
 enum Helper {
     Idle,
     Seeking(u32, Cursor),
-    Holding(u32, usize),
+    Holding(u32, u32),
 }
 
 pub struct Table {
     list: NodeList,
     size: u32,
-    dummies: Vec<Option<usize>>,
+    dummies: Vec<u32>,
     helpers: Vec<Helper>,
 }
 
 impl Plan {
-    fn key(&self) -> u64 {
-        let (Plan::Put(key, ..) | Plan::Take(key, _) | Plan::PutIf(key, ..) | Plan::Get(key)) =
-            self;
-        *key
-    }
-
     fn owed(&self) -> usize {
-        match self {
-            Plan::Put(..) | Plan::Take(..) | Plan::PutIf(..) => 2,
-            Plan::Get(_) => 1,
+        match self.op {
+            Op::Put(..) | Op::Take(..) | Op::PutIf(..) => 2,
+            Op::Get(_) => 1,
         }
     }
 }
@@ -62,10 +57,11 @@ impl Job {
 }
 
 impl Table {
-    pub fn new(max: u32, helpers: u32) -> Table {
-        let list = NodeList::new(0);
-        let mut dummies = vec![None; max as usize];
-        dummies[0] = Some(list.head);
+    /// A table of at most so many buckets, with room for so many nodes.
+    pub fn new(max: u32, helpers: u32, room: usize) -> Table {
+        let list = NodeList::new(0, room);
+        let mut dummies = vec![NONE; max as usize];
+        dummies[0] = list.head;
         Table {
             list,
             size: 2,
@@ -77,8 +73,8 @@ impl Table {
     /// Does an operation with no other step between, and gives back what its undoing would take.
     pub fn apply(&mut self, op: Op) -> Result<Reply, Refusal> {
         let plan = self.prepare(op)?;
-        let cursor = self.place(plan.key());
-        let Ok((reply, job)) = self.act(plan, cursor) else {
+        let cursor = self.place(op.key());
+        let Some((reply, job)) = self.act(&plan, &cursor) else {
             unreachable!()
         };
         if let Some(job) = job {
@@ -88,26 +84,22 @@ impl Table {
     }
 
     fn prepare(&mut self, op: Op) -> Result<Plan, Refusal> {
-        Ok(match op {
-            Op::Put(key, value) => Plan::Put(key, value, self.spare()?),
-            Op::Take(key) => Plan::Take(key, self.spare()?),
-            Op::PutIf(key, expected, value) => Plan::PutIf(key, expected, value, self.spare()?),
-            Op::Get(key) => Plan::Get(key),
-        })
+        let spare = match op {
+            Op::Get(_) => Unfilled(NONE),
+            _ => self.spare()?,
+        };
+        Ok(Plan { op, spare })
     }
 
     fn spare(&mut self) -> Result<Unfilled, Refusal> {
         self.list.spare().ok_or(Refusal::StampsUsedUp)
     }
 
-    fn dummy(&self, bucket: u32) -> Option<usize> {
-        self.dummies.get(bucket as usize).copied().flatten()
-    }
-
-    fn nearest(&self, bucket: u32) -> usize {
+    fn nearest(&self, bucket: u32) -> u32 {
         let mut at = bucket;
         loop {
-            if let Some(dummy) = self.dummy(at) {
+            let dummy = self.dummies[at as usize];
+            if dummy != NONE {
                 return dummy;
             }
             at = parent(at);
@@ -119,21 +111,14 @@ impl Table {
         seek(&mut self.list, from, SortKey::regular(key))
     }
 
-    fn link_key(&mut self, pred: usize, key: u64, value: u64, spare: Unfilled) {
+    fn link_key(&mut self, pred: u32, key: u64, value: u64, spare: Unfilled) {
         let spare = spare.fill(SortKey::regular(key), Kind::Regular, value);
         link_at(&mut self.list, pred, spare);
     }
 
     /// Puts a value where the key's node is, or belongs behind `pred`, and gives what takes that
     /// back.
-    fn put(
-        &mut self,
-        pred: usize,
-        there: Option<usize>,
-        key: u64,
-        value: u64,
-        spare: Unfilled,
-    ) -> Job {
+    fn put(&mut self, pred: u32, there: Option<u32>, key: u64, value: u64, spare: Unfilled) -> Job {
         match there {
             None => {
                 self.link_key(pred, key, value, spare);
@@ -147,39 +132,37 @@ impl Table {
     }
 
     /// Does an operation where the cursor stands, if it fits.
-    fn act(&mut self, plan: Plan, cursor: Cursor) -> Result<(Reply, Option<Job>), Plan> {
-        let Ok(there) = look(&self.list, &cursor) else {
-            return Err(plan);
-        };
+    fn act(&mut self, plan: &Plan, cursor: &Cursor) -> Option<(Reply, Option<Job>)> {
+        let there = look(&self.list, cursor).ok()?;
         let before = there.map(|place| self.list.node(place).value);
-        let pred = cursor.pred();
-        let job = match (plan, there) {
-            (Plan::Put(key, value, spare), _) => Some(self.put(pred, there, key, value, spare)),
-            (Plan::PutIf(key, expected, value, spare), _) if before == expected => {
+        let (pred, spare) = (cursor.pred(), plan.spare);
+        let job = match (plan.op, there) {
+            (Op::Put(key, value), _) => Some(self.put(pred, there, key, value, spare)),
+            (Op::PutIf(key, expected, value), _) if before == expected => {
                 Some(self.put(pred, there, key, value, spare))
             }
-            (Plan::Take(key, spare), Some(place)) => {
+            (Op::Take(key), Some(place)) => {
                 Some(Job::Relink(key, mark_at(&mut self.list, place), spare))
             }
-            (Plan::PutIf(.., spare) | Plan::Take(_, spare), _) => {
+            (Op::PutIf(..) | Op::Take(_), _) => {
                 self.list.give_back(spare);
                 None
             }
-            (Plan::Get(_), _) => None,
+            (Op::Get(_), _) => None,
         };
-        Ok((before, job))
+        Some((before, job))
     }
 
-    fn withdraw(&mut self, plan: Plan) {
-        if let Plan::Put(.., spare) | Plan::Take(_, spare) | Plan::PutIf(.., spare) = plan {
-            self.list.give_back(spare);
+    fn withdraw(&mut self, plan: &Plan) {
+        if !matches!(plan.op, Op::Get(_)) {
+            self.list.give_back(plan.spare);
         }
     }
 
-    /// Takes a change back where the cursor stands, if it fits.
-    fn undo(&mut self, job: Job, cursor: Cursor) -> Result<(), Job> {
-        let Ok(there) = look(&self.list, &cursor) else {
-            return Err(job);
+    /// Takes a change back where the cursor stands, and answers whether it fits.
+    fn undo(&mut self, job: Job, cursor: &Cursor) -> bool {
+        let Ok(there) = look(&self.list, cursor) else {
+            return false;
         };
         match (job, there) {
             (Job::Unput(_), Some(place)) => {
@@ -191,7 +174,7 @@ impl Table {
             (Job::Relink(key, old, spare), _) => self.link_key(cursor.pred(), key, old, spare),
             (Job::Unput(_) | Job::Restore(..), None) => unreachable!(),
         }
-        Ok(())
+        true
     }
 
     fn discard(&mut self, job: Job) {
@@ -207,18 +190,25 @@ impl Table {
     }
 
     pub fn init_seek(&mut self, helper: u64, bucket: u64) -> Result<Answer, Refusal> {
-        self.helper(helper)?;
-        if bucket >= u64::from(self.size) {
+        let size = u64::from(self.size);
+        let seat = self
+            .helpers
+            .get_mut(helper as usize)
+            .ok_or(Refusal::NoSuchHelper)?;
+        if bucket >= size {
             return Err(Refusal::NoSuchBucket);
         }
         let bucket = bucket as u32;
-        if self.dummy(bucket).is_some() {
-            *self.helper(helper)? = Helper::Idle;
+        if self.dummies[bucket as usize] != NONE {
+            *seat = Helper::Idle;
             return Ok(Answer::Ready);
         }
-        let from = self.dummy(parent(bucket)).ok_or(Refusal::ParentMissing)?;
+        let from = self.dummies[parent(bucket) as usize];
+        if from == NONE {
+            return Err(Refusal::ParentMissing);
+        }
         let cursor = seek(&mut self.list, from, SortKey::dummy(bucket));
-        *self.helper(helper)? = Helper::Seeking(bucket, cursor);
+        *seat = Helper::Seeking(bucket, cursor);
         Ok(Answer::Placed)
     }
 
@@ -244,7 +234,7 @@ impl Table {
         let Helper::Holding(bucket, place) = *self.helper(helper)? else {
             return Err(Refusal::HelperOutOfOrder);
         };
-        self.dummies[bucket as usize] = Some(place);
+        self.dummies[bucket as usize] = place;
         *self.helper(helper)? = Helper::Idle;
         Ok(Answer::Stored)
     }
@@ -266,58 +256,65 @@ impl Table {
         }
     }
 
-    fn pairs(&self) -> Vec<(u64, u64)> {
-        let mut pairs = Vec::new();
-        let mut place = self.list.head;
-        while let Some(next) = self.list.node(place).next() {
-            let node = self.list.node(next);
-            if node.kind == Kind::Regular && !node.marked {
-                pairs.push((node.at.key, node.value));
+    /// Hands out each pair, in the order of the list.
+    fn each_pair(&self, mut take: impl FnMut(u64, u64)) {
+        let mut place = self.list.node(self.list.head).next();
+        while place != NONE {
+            let node = self.list.node(place);
+            if node.kind() == Kind::Regular && !node.is_marked() {
+                take(node.key(), node.value);
             }
-            place = next;
+            place = node.next();
         }
-        pairs
     }
 }
 
 // ---- the locks of the stripes ----
 
+/// No caller, no stripe.
+const FREE: u8 = u8::MAX;
+const NO_STRIPE: u16 = u16::MAX;
+
 struct KeyLocks {
     // The caller that holds the stripe.
-    holders: Vec<Option<usize>>,
+    holders: Vec<u8>,
     // Of a stripe that is held: the one that its holder took before it.
-    older: Vec<Option<usize>>,
+    older: Vec<u16>,
     // The stripe that the caller took last.
-    newest: Vec<Option<usize>>,
+    newest: [u16; 64],
 }
 
 impl KeyLocks {
-    fn new(stripes: u32, callers: u32) -> KeyLocks {
+    fn new(stripes: u32) -> KeyLocks {
         KeyLocks {
-            holders: vec![None; stripes as usize],
-            older: vec![None; stripes as usize],
-            newest: vec![None; callers as usize],
+            holders: vec![FREE; stripes as usize],
+            older: vec![NO_STRIPE; stripes as usize],
+            newest: [NO_STRIPE; 64],
         }
     }
 
     /// Locks the stripe, or names the other caller that holds it.
-    fn lock(&mut self, caller: usize, stripe: usize) -> Result<(), usize> {
-        match self.holders[stripe] {
-            Some(holder) if holder == caller => Ok(()),
-            Some(holder) => Err(holder),
-            None => {
-                self.holders[stripe] = Some(caller);
-                self.older[stripe] = self.newest[caller].replace(stripe);
-                Ok(())
-            }
+    fn lock(&mut self, caller: u8, stripe: usize) -> Result<(), u8> {
+        let holder = self.holders[stripe];
+        if holder == caller {
+            return Ok(());
         }
+        if holder != FREE {
+            return Err(holder);
+        }
+        self.holders[stripe] = caller;
+        self.older[stripe] = self.newest[caller as usize];
+        self.newest[caller as usize] = stripe as u16;
+        Ok(())
     }
 
-    fn release_all(&mut self, caller: usize) {
-        while let Some(stripe) = self.newest[caller] {
-            self.holders[stripe] = None;
-            self.newest[caller] = self.older[stripe];
+    fn release_all(&mut self, caller: u8) {
+        let mut stripe = self.newest[caller as usize];
+        while stripe != NO_STRIPE {
+            self.holders[stripe as usize] = FREE;
+            stripe = self.older[stripe as usize];
         }
+        self.newest[caller as usize] = NO_STRIPE;
     }
 }
 
@@ -349,22 +346,14 @@ impl Session {
         }
     }
 
-    /// How many jobs stay where the caller takes changes back, if it does.
-    fn staying(&self) -> Option<usize> {
-        match self.stage {
-            Stage::LeavingTo(0) | Stage::LeavingToEnd => Some(0),
-            Stage::LeavingTo(level) => Some(self.kept[level - 1]),
-            _ => None,
-        }
-    }
-
     /// The newest job that is to be taken back, if there is one.
-    fn due(&self) -> Option<&Job> {
-        if self.jobs.len() > self.staying()? {
-            self.jobs.last()
-        } else {
-            None
-        }
+    fn due(&self) -> Option<Job> {
+        let staying = match self.stage {
+            Stage::LeavingTo(0) | Stage::LeavingToEnd => 0,
+            Stage::LeavingTo(level) => self.kept[level - 1],
+            _ => return None,
+        };
+        self.jobs[staying..].last().copied()
     }
 
     /// How many entries it may still add without a new reservation.
@@ -390,43 +379,111 @@ impl Session {
     }
 }
 
-// ---- the core ----
+// ---- the history ----
 
-/// One line of the history.
-#[cfg_attr(alike, repr(C))]
 #[derive(Clone, Copy, PartialEq)]
-pub enum Entry {
-    Began(u64, u64),
-    Asked(u64, Op),
-    Did(u64, Reply),
-    Saved(u64),
-    Leave(u64, Option<u64>),
-    Undone(u64),
-    Returned(u64, u64),
-    Committed(u64, u64),
-    Busy(u64, Op, u64),
-    Aborted(u64),
+pub enum Event {
+    Began,
+    Asked,
+    Did,
+    DidNone,
+    Saved,
+    Leave,
+    LeaveToEnd,
+    Undone,
+    Returned,
+    Committed,
+    Busy,
+    Aborted,
 }
 
+#[derive(Clone, Copy, PartialEq)]
+pub enum OpKind {
+    Put,
+    Take,
+    Get,
+    PutIf,
+    PutIfNone,
+}
+
+/// One line of the history: what happened, and to an operation with its key, its value and what it expects. The number is the key
+/// of an operation, or the one other number that the entry has.
+#[derive(Clone, Copy, PartialEq)]
+pub struct Entry {
+    pub event: Event,
+    pub kind: OpKind,
+    pub caller: u8,
+    pub holder: u8,
+    pub number: u64,
+    pub value: u64,
+    pub expected: u64,
+}
+
+const _: () = assert!(size_of::<Entry>() == 32);
+
 impl Entry {
-    pub fn caller(&self) -> u64 {
-        match *self {
-            Entry::Began(caller, _)
-            | Entry::Asked(caller, _)
-            | Entry::Did(caller, _)
-            | Entry::Saved(caller)
-            | Entry::Leave(caller, _)
-            | Entry::Undone(caller)
-            | Entry::Returned(caller, _)
-            | Entry::Committed(caller, _)
-            | Entry::Busy(caller, _, _)
-            | Entry::Aborted(caller) => caller,
+    pub fn of(event: Event, caller: u8, number: u64) -> Entry {
+        Entry {
+            event,
+            kind: OpKind::Get,
+            caller,
+            holder: 0,
+            number,
+            value: 0,
+            expected: 0,
+        }
+    }
+
+    pub fn with_op(event: Event, caller: u8, op: Op, holder: u8) -> Entry {
+        let (kind, number, value, expected) = OpKind::parts(op);
+        Entry {
+            event,
+            kind,
+            caller,
+            holder,
+            number,
+            value,
+            expected,
+        }
+    }
+
+    pub fn did(caller: u8, reply: Reply) -> Entry {
+        match reply {
+            Some(value) => Entry::of(Event::Did, caller, value),
+            None => Entry::of(Event::DidNone, caller, 0),
+        }
+    }
+
+    pub fn op(&self) -> Op {
+        self.kind.op(self.number, self.value, self.expected)
+    }
+}
+
+impl OpKind {
+    /// The kind of an operation, its key, its value and what it expects.
+    pub fn parts(op: Op) -> (OpKind, u64, u64, u64) {
+        match op {
+            Op::Put(key, value) => (OpKind::Put, key, value, 0),
+            Op::Take(key) => (OpKind::Take, key, 0, 0),
+            Op::Get(key) => (OpKind::Get, key, 0, 0),
+            Op::PutIf(key, Some(expected), value) => (OpKind::PutIf, key, value, expected),
+            Op::PutIf(key, None, value) => (OpKind::PutIfNone, key, value, 0),
+        }
+    }
+
+    /// The operation of these parts.
+    pub fn op(self, key: u64, value: u64, expected: u64) -> Op {
+        match self {
+            OpKind::Put => Op::Put(key, value),
+            OpKind::Take => Op::Take(key),
+            OpKind::Get => Op::Get(key),
+            OpKind::PutIf => Op::PutIf(key, Some(expected), value),
+            OpKind::PutIfNone => Op::PutIf(key, None, value),
         }
     }
 }
 
-// As rustc lays it out, and as the proved program has it.
-const _: () = assert!(size_of::<Entry>() == if cfg!(alike) { 64 } else { 48 });
+// ---- the core ----
 
 pub struct Core {
     limits: Limits,
@@ -453,7 +510,8 @@ fn reserve(history: &mut Vec<Entry>, entries: usize) -> Result<(), Refusal> {
 }
 
 impl Core {
-    pub fn new(limits: Limits) -> Core {
+    /// A core with room for so many entries and nodes. Room that is not used costs nothing but addresses.
+    pub fn new(limits: Limits, room: usize) -> Core {
         let Limits {
             callers,
             stripes,
@@ -462,16 +520,17 @@ impl Core {
         } = limits;
         Core {
             limits,
-            history: Vec::new(),
+            history: Vec::with_capacity(room),
             began: 0,
             committed: 0,
             owed: 0,
-            table: Table::new(buckets, callers),
+            table: Table::new(buckets, callers, room),
             sessions: (0..callers).map(|_| Session::new()).collect(),
-            locks: KeyLocks::new(stripes, callers),
+            locks: KeyLocks::new(stripes),
         }
     }
 
+    #[inline]
     pub fn step(&mut self, step: Step) -> Answer {
         let answer = match step {
             Step::Begin(caller) => self.begin(caller),
@@ -513,8 +572,9 @@ impl Core {
         self.table.list.count
     }
 
-    pub fn pairs(&self) -> Vec<(u64, u64)> {
-        self.table.pairs()
+    /// Hands out each pair of the map, in the order of the list.
+    pub fn each_pair(&self, take: impl FnMut(u64, u64)) {
+        self.table.each_pair(take);
     }
 
     fn begin(&mut self, caller: u64) -> Result<Answer, Refusal> {
@@ -528,7 +588,8 @@ impl Core {
         session.stage = Stage::Open;
         self.owed += 2;
         self.began += 1;
-        self.history.push(Entry::Began(caller, self.began));
+        let entry = Entry::of(Event::Began, caller as u8, self.began);
+        self.history.push(entry);
         Ok(Answer::Began(self.began))
     }
 
@@ -542,19 +603,21 @@ impl Core {
         session.jobs.try_reserve(1).map_err(|_| Refusal::NoMemory)?;
         let plan = self.table.prepare(op)?;
         let stripe = op.key() % u64::from(self.limits.stripes);
-        match self.locks.lock(caller as usize, stripe as usize) {
+        match self.locks.lock(caller as u8, stripe as usize) {
             Ok(()) => {
                 self.owed += plan.owed();
                 session.stage = Stage::Asked(plan);
-                self.history.push(Entry::Asked(caller, op));
+                self.history
+                    .push(Entry::with_op(Event::Asked, caller as u8, op, 0));
                 Ok(Answer::Asked)
             }
             Err(holder) => {
-                self.table.withdraw(plan);
+                self.table.withdraw(&plan);
                 self.owed -= 1;
                 session.stage = Stage::LeavingToEnd;
-                self.history.push(Entry::Busy(caller, op, holder as u64));
-                Ok(Answer::Busy(holder as u64))
+                self.history
+                    .push(Entry::with_op(Event::Busy, caller as u8, op, holder));
+                Ok(Answer::Busy(u64::from(holder)))
             }
         }
     }
@@ -563,7 +626,7 @@ impl Core {
         let session = seat(&mut self.sessions, caller)?;
         let key = match &session.stage {
             Stage::Closed => return Err(Refusal::NotOpen),
-            Stage::Asked(plan) => plan.key(),
+            Stage::Asked(plan) => plan.op.key(),
             _ => session.due().ok_or(Refusal::NothingToSeek)?.key(),
         };
         session.cursor = Some(self.table.place(key));
@@ -572,75 +635,52 @@ impl Core {
 
     fn act(&mut self, caller: u64) -> Result<Answer, Refusal> {
         let session = seat(&mut self.sessions, caller)?;
-        match session.stage {
+        match &session.stage {
             Stage::Closed => Err(Refusal::NotOpen),
             Stage::Open => Err(Refusal::NothingToSeek),
-            Stage::Asked(_) => self.reply(caller),
-            Stage::LeavingTo(_) | Stage::LeavingToEnd => {
-                if session.due().is_some() {
-                    self.undo(caller)
-                } else {
-                    self.arrive(caller)
-                }
-            }
-        }
-    }
-
-    fn reply(&mut self, caller: u64) -> Result<Answer, Refusal> {
-        let session = seat(&mut self.sessions, caller)?;
-        let cursor = session.cursor.take().ok_or(Refusal::Unplaced)?;
-        let Stage::Asked(plan) = mem::replace(&mut session.stage, Stage::Open) else {
-            unreachable!()
-        };
-        let owed = plan.owed();
-        match self.table.act(plan, cursor) {
-            Ok((reply, job)) => {
-                self.owed = self.owed - owed + usize::from(job.is_some());
+            Stage::Asked(plan) => {
+                let cursor = session.cursor.take().ok_or(Refusal::Unplaced)?;
+                let Some((reply, job)) = self.table.act(plan, &cursor) else {
+                    return Ok(Answer::Again);
+                };
+                self.owed = self.owed - plan.owed() + usize::from(job.is_some());
                 session.jobs.extend(job);
-                self.history.push(Entry::Did(caller, reply));
+                session.stage = Stage::Open;
+                self.history.push(Entry::did(caller as u8, reply));
                 Ok(Answer::Done(reply))
             }
-            Err(plan) => {
-                session.stage = Stage::Asked(plan);
-                Ok(Answer::Again)
-            }
-        }
-    }
-
-    fn undo(&mut self, caller: u64) -> Result<Answer, Refusal> {
-        let session = seat(&mut self.sessions, caller)?;
-        let cursor = session.cursor.take().ok_or(Refusal::Unplaced)?;
-        let Some(job) = session.jobs.pop() else {
-            unreachable!()
-        };
-        match self.table.undo(job, cursor) {
-            Ok(()) => {
-                self.owed -= 1;
-                self.history.push(Entry::Undone(caller));
-                Ok(Answer::Undone)
-            }
-            Err(job) => {
-                session.jobs.push(job);
-                Ok(Answer::Again)
-            }
+            Stage::LeavingTo(_) | Stage::LeavingToEnd => match session.due() {
+                Some(job) => {
+                    let cursor = session.cursor.take().ok_or(Refusal::Unplaced)?;
+                    if !self.table.undo(job, &cursor) {
+                        return Ok(Answer::Again);
+                    }
+                    session.jobs.pop();
+                    self.owed -= 1;
+                    self.history.push(Entry::of(Event::Undone, caller as u8, 0));
+                    Ok(Answer::Undone)
+                }
+                None => Ok(self.arrive(caller as u8)),
+            },
         }
     }
 
     /// Ends the taking back, where no change above the level is left.
-    fn arrive(&mut self, caller: u64) -> Result<Answer, Refusal> {
-        let session = seat(&mut self.sessions, caller)?;
+    fn arrive(&mut self, caller: u8) -> Answer {
+        let session = &mut self.sessions[caller as usize];
         self.owed -= 1;
         if let Stage::LeavingTo(level) = session.stage {
             session.kept.truncate(level);
             session.stage = Stage::Open;
-            self.history.push(Entry::Returned(caller, level as u64));
-            return Ok(Answer::Returned(level as u64));
+            self.history
+                .push(Entry::of(Event::Returned, caller, level as u64));
+            return Answer::Returned(level as u64);
         }
         session.kept.clear();
         session.stage = Stage::Closed;
-        self.locks.release_all(caller as usize);
-        self.history.push(Entry::Aborted(caller));
-        Ok(Answer::Aborted)
+        self.locks.release_all(caller);
+        self.history.push(Entry::of(Event::Aborted, caller, 0));
+        Answer::Aborted
     }
 
     fn save(&mut self, caller: u64) -> Result<Answer, Refusal> {
@@ -648,7 +688,7 @@ impl Core {
         session.at_rest()?;
         reserve(&mut self.history, self.owed + 1)?;
         session.kept.push(session.jobs.len());
-        self.history.push(Entry::Saved(caller));
+        self.history.push(Entry::of(Event::Saved, caller as u8, 0));
         Ok(Answer::Saved(session.kept.len() as u64))
     }
 
@@ -661,7 +701,8 @@ impl Core {
         reserve(&mut self.history, self.owed + 2)?;
         session.stage = Stage::LeavingTo(level as usize);
         self.owed += 1;
-        self.history.push(Entry::Leave(caller, Some(level)));
+        self.history
+            .push(Entry::of(Event::Leave, caller as u8, level));
         Ok(Answer::Leaving)
     }
 
@@ -674,9 +715,10 @@ impl Core {
         }
         session.kept.clear();
         session.stage = Stage::Closed;
-        self.locks.release_all(caller as usize);
+        self.locks.release_all(caller as u8);
         self.committed += 1;
-        self.history.push(Entry::Committed(caller, self.committed));
+        let entry = Entry::of(Event::Committed, caller as u8, self.committed);
+        self.history.push(entry);
         Ok(Answer::Committed(self.committed))
     }
 
@@ -689,11 +731,13 @@ impl Core {
         }
         let before = session.owed();
         session.cursor = None;
-        if let Stage::Asked(plan) = mem::replace(&mut session.stage, Stage::LeavingToEnd) {
+        if let Stage::Asked(plan) = &session.stage {
             self.table.withdraw(plan);
         }
+        session.stage = Stage::LeavingToEnd;
         self.owed = self.owed - before + session.owed();
-        self.history.push(Entry::Leave(caller, None));
+        self.history
+            .push(Entry::of(Event::LeaveToEnd, caller as u8, 0));
         Ok(Answer::Leaving)
     }
 
@@ -702,7 +746,7 @@ impl Core {
     fn sweep(&mut self) -> Answer {
         let table = &mut self.table;
         let from = match marks_begin(&table.list) {
-            Some(split) => table.nearest(bucket_at(split, table.size)),
+            Some(word) => table.nearest(bucket_at(word, table.size)),
             None => return Answer::Clean,
         };
         sweep_from(&mut table.list, from);

@@ -2,7 +2,7 @@
 //! same operations; see ../SPEED.md.
 //!
 //! Usage: maps_twin KEYS
-#![allow(dead_code, unexpected_cfgs)]
+#![allow(dead_code)]
 
 mod list;
 mod machine;
@@ -111,7 +111,7 @@ fn time_map<M: AnyMap>(name: &str, mut map: M, keys: u64) -> Result<(), Box<dyn 
 }
 
 fn time_table(name: &str, buckets: u32, keys: u64) -> Result<(), Box<dyn Error>> {
-    let mut table = Table::new(buckets, 1);
+    let mut table = Table::new(buckets, 1, 0);
     store_bucket(&mut table, 1).map_err(|_| "refused")?;
     time_map(name, table, keys)
 }

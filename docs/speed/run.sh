@@ -1,5 +1,5 @@
 #!/usr/bin/env bash
-# Runs `boostmap run` and its twins in plain Rust (whole/: one mutex, one hold a turn, with history) on the same script files, and
+# Runs `boostmap run` and its twins in plain Rust (whole/: one mutex, one hold a call, with history) on the same script files, and
 # prints how many transactions a second each ends, reading and writing the files included, and how long the program takes to each
 # twin. The second twin, `kept`, also does what `run` promises beside the history: each worker takes a stripe by its atomic word,
 # keeps the entries that it saw, and how its scripts ended, and its entries are compared with the history. Then the library alone,

@@ -1,50 +1,32 @@
-//! Split keys, sort keys, buckets, and keys in a fixed mixed order.
+//! Sort keys, buckets, and keys in a fixed mixed order.
 
 const LOW_BITS: u64 = 0x7fff_ffff_ffff_ffff;
-const TOP_BIT: u64 = 1 << 63;
 
-fn swapped(word: u64, width: u32, low: u64) -> u64 {
-    (word >> width & low) | ((word & low) << width)
-}
-
-pub fn reverse(word: u64) -> u64 {
-    let pairs = swapped(word, 1, 0x5555_5555_5555_5555);
-    let nibbles = swapped(pairs, 2, 0x3333_3333_3333_3333);
-    let bytes = swapped(nibbles, 4, 0x0f0f_0f0f_0f0f_0f0f);
-    let double_bytes = swapped(bytes, 8, 0x00ff_00ff_00ff_00ff);
-    let halves = swapped(double_bytes, 16, 0x0000_ffff_0000_ffff);
-    swapped(halves, 32, 0x0000_0000_ffff_ffff)
-}
-
-/// Where a node stands in the order of the list: by its split key, and among nodes of one split key
-/// by its key. A dummy has key 0 here.
-#[derive(Clone, Copy, PartialEq, Eq)]
+/// Where a node stands in the order of the list: by its word, which is its key or its bucket with the bits reversed, and of the
+/// same word a dummy before a regular node. So keys that differ in their highest bit alone stand side by side.
+#[derive(Clone, Copy, PartialEq, Eq, PartialOrd, Ord)]
 pub struct SortKey {
-    pub split: u64,
-    pub key: u64,
+    pub word: u64,
+    pub is_regular: bool,
 }
 
 impl SortKey {
     pub fn regular(key: u64) -> SortKey {
         SortKey {
-            split: reverse(key | TOP_BIT),
-            key,
+            word: key.reverse_bits(),
+            is_regular: true,
         }
     }
 
     pub fn dummy(bucket: u32) -> SortKey {
         SortKey {
-            split: reverse(u64::from(bucket)),
-            key: 0,
+            word: u64::from(bucket).reverse_bits(),
+            is_regular: false,
         }
     }
 
     pub fn is_before(self, other: SortKey) -> bool {
-        if self.split == other.split {
-            self.key < other.key
-        } else {
-            self.split < other.split
-        }
+        self < other
     }
 }
 
@@ -56,9 +38,9 @@ pub fn bucket_of(key: u64, size: u32) -> u32 {
     (key & u64::from(size - 1)) as u32
 }
 
-/// The bucket to which a place of the split order belongs.
-pub fn bucket_at(split: u64, size: u32) -> u32 {
-    bucket_of(reverse(split), size)
+/// The bucket to which a place of the order belongs.
+pub fn bucket_at(word: u64, size: u32) -> u32 {
+    bucket_of(word.reverse_bits(), size)
 }
 
 pub fn key_at(position: u64) -> u64 {

@@ -14,7 +14,6 @@ pub struct Limits {
     pub half_keys: bool,
 }
 
-#[cfg_attr(alike, repr(C))]
 #[derive(Clone, Copy, PartialEq)]
 pub enum Op {
     Put(u64, u64),
@@ -26,11 +25,9 @@ pub enum Op {
 
 pub type Reply = Option<u64>;
 
-// As rustc lays them out, and as the proved program has them.
-const _: () = assert!(size_of::<Op>() == if cfg!(alike) { 40 } else { 32 });
-const _: () = assert!(size_of::<Step>() == if cfg!(alike) { 56 } else { 40 });
+const _: () = assert!(size_of::<Op>() == 32);
+const _: () = assert!(size_of::<Step>() == 40);
 
-#[cfg_attr(alike, repr(C))]
 #[derive(Clone, Copy)]
 pub enum Step {
     Begin(u64),
@@ -132,7 +129,7 @@ impl Op {
     }
 
     /// Writes the operation's elements in JSON.
-    pub fn write<W: fmt::Write>(self, text: &mut W) -> fmt::Result {
+    fn write<W: fmt::Write>(self, text: &mut W) -> fmt::Result {
         match self {
             Op::Put(key, value) => write!(text, r#""put",{key},{value}"#),
             Op::Take(key) => write!(text, r#""take",{key}"#),

@@ -1,7 +1,7 @@
 //! The program of crates/bench in plain Rust: the same representation (a slab with a free list, the same stamps, marks,
 //! change number and cursors) and the same phases of nodes and cursors. It is what crates/bench is compared with; see
-//! ../SPEED.md. `--cfg alike` is told of in list.rs.
-#![allow(dead_code, unexpected_cfgs)]
+//! ../SPEED.md.
+#![allow(dead_code)]
 
 mod list;
 mod split;
@@ -20,24 +20,24 @@ const FEW_KEYS: u64 = 10_000;
 
 struct NodeTable {
     list: NodeList,
-    dummies: Vec<usize>,
+    dummies: Vec<u32>,
 }
 
-fn is_start(list: &NodeList, from: usize, at: SortKey) -> bool {
+fn is_start(list: &NodeList, from: u32, at: SortKey) -> bool {
     match list.linked_node(from) {
-        Some(node) => node.kind == Kind::Dummy && node.at.is_before(at),
+        Some(node) => node.kind() == Kind::Dummy && node.at().is_before(at),
         None => false,
     }
 }
 
 fn is_key_there(list: &NodeList, cursor: &Cursor) -> bool {
     match look(list, cursor) {
-        Ok(Some(place)) => list.node(place).kind == Kind::Regular,
+        Ok(Some(place)) => list.node(place).kind() == Kind::Regular,
         _ => false,
     }
 }
 
-fn put(list: &mut NodeList, from: usize, at: SortKey, kind: Kind, value: u64) -> Option<usize> {
+fn put(list: &mut NodeList, from: u32, at: SortKey, kind: Kind, value: u64) -> Option<u32> {
     let spare = list.spare()?;
     if !is_start(list, from, at) {
         return None;
@@ -52,7 +52,7 @@ fn put(list: &mut NodeList, from: usize, at: SortKey, kind: Kind, value: u64) ->
     }
 }
 
-fn value_of(list: &mut NodeList, from: usize, at: SortKey) -> Option<u64> {
+fn value_of(list: &mut NodeList, from: u32, at: SortKey) -> Option<u64> {
     if !is_start(list, from, at) {
         return None;
     }
@@ -63,7 +63,7 @@ fn value_of(list: &mut NodeList, from: usize, at: SortKey) -> Option<u64> {
     }
 }
 
-fn write(list: &mut NodeList, from: usize, at: SortKey, value: u64) -> Option<u64> {
+fn write(list: &mut NodeList, from: u32, at: SortKey, value: u64) -> Option<u64> {
     if !is_start(list, from, at) {
         return None;
     }
@@ -74,7 +74,7 @@ fn write(list: &mut NodeList, from: usize, at: SortKey, value: u64) -> Option<u6
     swap(list, cursor, value).ok()
 }
 
-fn take(list: &mut NodeList, from: usize, at: SortKey) -> Option<u64> {
+fn take(list: &mut NodeList, from: u32, at: SortKey) -> Option<u64> {
     if !is_start(list, from, at) {
         return None;
     }
@@ -87,7 +87,7 @@ fn take(list: &mut NodeList, from: usize, at: SortKey) -> Option<u64> {
 
 impl NodeTable {
     fn new() -> NodeTable {
-        let mut list = NodeList::new(0);
+        let mut list = NodeList::new(0, 0);
         let mut dummies = vec![list.head];
         for bucket in 1..SIZE {
             let from = dummies[parent(bucket) as usize];
@@ -98,7 +98,7 @@ impl NodeTable {
         NodeTable { list, dummies }
     }
 
-    fn dummy_of(&self, key: u64) -> usize {
+    fn dummy_of(&self, key: u64) -> u32 {
         match self.dummies.get(bucket_of(key, SIZE) as usize) {
             Some(place) => *place,
             None => self.list.head,

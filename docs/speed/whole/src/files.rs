@@ -1,10 +1,11 @@
-//! The three kinds of file, read into types of their own.
-use crate::machine::Entry;
+//! The three kinds of file, read into types of their own, 32 bytes a piece. What is out of range in a piece is noted as it is read.
+use crate::machine::{Entry, Event, OpKind};
 use crate::step::{Limits, Op, Step};
 use serde::Deserialize;
 use serde::de::{Deserializer, Error, SeqAccess, Visitor};
 use std::error;
-use std::fmt::{self, Write as _};
+use std::fmt;
+use std::marker::PhantomData;
 
 #[derive(Deserialize)]
 struct StepFile {
@@ -12,14 +13,14 @@ struct StepFile {
     callers: u32,
     stripes: u32,
     buckets: u32,
-    steps: Vec<Step>,
+    steps: Pieces<PackedStep>,
 }
 
 #[derive(Deserialize)]
-pub struct HistoryFile {
-    pub version: u64,
-    pub stripes: u32,
-    pub entries: Vec<Entry>,
+struct HistoryFile {
+    version: u64,
+    stripes: u32,
+    entries: Pieces<Entry>,
 }
 
 #[derive(Deserialize)]
@@ -29,7 +30,19 @@ struct ScriptFile {
     stripes: u32,
     buckets: u32,
     tries: u64,
-    scripts: Vec<Vec<Action>>,
+    scripts: Vec<Pieces<Action>>,
+}
+
+pub struct Steps {
+    pub version: u64,
+    pub limits: Limits,
+    pub steps: Vec<PackedStep>,
+}
+
+pub struct History {
+    pub version: u64,
+    pub stripes: u32,
+    pub entries: Vec<Entry>,
 }
 
 pub struct Scripts {
@@ -49,70 +62,109 @@ pub enum Action {
     Abort,
 }
 
+const _: () = assert!(size_of::<Action>() == 32);
+
+#[derive(Clone, Copy)]
+enum StepKind {
+    Begin,
+    Ask,
+    Seek,
+    Act,
+    Save,
+    Back,
+    Commit,
+    Abort,
+    Sweep,
+    InitSeek,
+    InitLink,
+    InitStore,
+    Double,
+}
+
+/// A step, in 32 bytes: its number is the key of an operation, a level, a bucket or a size.
+#[derive(Clone, Copy)]
+pub struct PackedStep {
+    kind: StepKind,
+    op: OpKind,
+    caller: u8,
+    number: u64,
+    value: u64,
+    expected: u64,
+}
+
+const _: () = assert!(size_of::<PackedStep>() == 32);
+
 type Refused = Box<dyn error::Error>;
 
+/// No caller: no file has so many.
+const NO_CALLER: u8 = u8::MAX;
+
+/// The pieces of a file or of a script, whether one is a `put_if`, and the largest number of a caller.
+struct Pieces<T> {
+    list: Vec<T>,
+    has_put_if: bool,
+    last_caller: u8,
+}
+
+/// What a piece is read by, and what is noted of it.
+trait Piece: Sized {
+    fn read<'de, A: SeqAccess<'de>>(elements: Elements<A>, name: &str) -> Result<Self, A::Error>;
+
+    fn is_put_if(&self) -> bool;
+
+    fn last_caller(&self) -> u8;
+}
+
+/// Refuses a number that is out of range.
+fn in_range(are: bool) -> Result<(), Refused> {
+    if are { Ok(()) } else { Err("a number out of range".into()) }
+}
+
 /// Refuses operations that a file of this version has not.
-fn are_of(version: u64, mut ops: impl Iterator<Item = Op>) -> Result<(), Refused> {
-    if ops.all(|op| op.is_of(version)) {
-        Ok(())
-    } else {
-        Err("an operation of a later version".into())
+fn are_of(version: u64, has_put_if: bool) -> Result<(), Refused> {
+    if version == 1 && has_put_if {
+        return Err("an operation of a later version".into());
     }
+    Ok(())
 }
 
-/// The version, the limits and the steps of a step file.
-pub fn read_steps(bytes: &[u8]) -> Result<(u64, Limits, Vec<Step>), Refused> {
-    let file: StepFile = serde_json::from_slice(bytes)?;
-    let ops = file.steps.iter().filter_map(|step| match *step {
-        Step::Ask(_, op) => Some(op),
-        _ => None,
-    });
-    are_of(file.version, ops)?;
+pub fn read_steps(text: &str) -> Result<Steps, Refused> {
+    let file: StepFile = serde_json::from_str(text)?;
+    are_of(file.version, file.steps.has_put_if)?;
     let limits = Limits::new(file.version, file.callers, file.stripes, file.buckets);
-    Ok((
-        file.version,
-        limits.ok_or("a number out of range")?,
-        file.steps,
-    ))
+    let steps = file.steps.list;
+    in_range(steps.len() <= 1_000_000)?;
+    Ok(Steps {
+        version: file.version,
+        limits: limits.ok_or("a number out of range")?,
+        steps,
+    })
 }
 
-pub fn read_scripts(bytes: &[u8]) -> Result<Scripts, Refused> {
-    let file: ScriptFile = serde_json::from_slice(bytes)?;
-    let ops = file
-        .scripts
-        .iter()
-        .flatten()
-        .filter_map(|action| match *action {
-            Action::Op(op) => Some(op),
-            _ => None,
-        });
-    are_of(file.version, ops)?;
+pub fn read_scripts(text: &str) -> Result<Scripts, Refused> {
+    let file: ScriptFile = serde_json::from_str(text)?;
+    are_of(file.version, file.scripts.iter().any(|script| script.has_put_if))?;
     let limits = Limits::new(file.version, file.workers, file.stripes, file.buckets);
+    in_range(file.scripts.len() <= 10_000 && file.tries <= 1000)?;
+    in_range(file.scripts.iter().all(|script| script.list.len() <= 10_000))?;
     Ok(Scripts {
         version: file.version,
         limits: limits.ok_or("a number out of range")?,
         tries: file.tries,
-        scripts: file.scripts,
+        scripts: file.scripts.into_iter().map(|script| script.list).collect(),
     })
 }
 
-pub fn read_history(bytes: &[u8]) -> Result<HistoryFile, Refused> {
-    let file: HistoryFile = serde_json::from_slice(bytes)?;
-    let ops = file.entries.iter().filter_map(|entry| match *entry {
-        Entry::Asked(_, op) | Entry::Busy(_, op, _) => Some(op),
-        _ => None,
-    });
-    are_of(file.version, ops)?;
-    let are_callers = file.entries.iter().all(|entry| match *entry {
-        Entry::Busy(caller, _, holder) => caller < 64 && holder < 64,
-        _ => entry.caller() < 64,
-    });
-    let is_version = (1..=3).contains(&file.version);
-    if are_callers && is_version && (1..=4096).contains(&file.stripes) {
-        Ok(file)
-    } else {
-        Err("a number out of range".into())
-    }
+pub fn read_history(text: &str) -> Result<History, Refused> {
+    let file: HistoryFile = serde_json::from_str(text)?;
+    are_of(file.version, file.entries.has_put_if)?;
+    in_range((1..=3).contains(&file.version) && (1..=4096).contains(&file.stripes))?;
+    in_range(file.entries.last_caller < 64 && file.entries.list.len() <= 1_000_000)?;
+    Ok(History {
+        version: file.version,
+        stripes: file.stripes,
+        entries: file.entries.list,
+    })
 }
 
 /// The elements of one array.
@@ -122,6 +174,11 @@ impl<'de, A: SeqAccess<'de>> Elements<A> {
     fn next<T: Deserialize<'de>>(&mut self) -> Result<T, A::Error> {
         let element = self.0.next_element()?;
         element.ok_or_else(|| Error::custom("an element is missing"))
+    }
+
+    fn caller(&mut self) -> Result<u8, A::Error> {
+        let number: u64 = self.next()?;
+        Ok(number.min(u64::from(NO_CALLER)) as u8)
     }
 
     /// The operation whose name comes next.
@@ -149,121 +206,184 @@ impl<'de, A: SeqAccess<'de>> Elements<A> {
     }
 }
 
-/// Reads a type from an array by a function of its elements.
-macro_rules! from_array {
-    ($type:ty, $read:expr) => {
-        impl<'de> Deserialize<'de> for $type {
-            fn deserialize<D: Deserializer<'de>>(deserializer: D) -> Result<Self, D::Error> {
-                struct Pieces;
-                impl<'de> Visitor<'de> for Pieces {
-                    type Value = $type;
-                    fn expecting(&self, f: &mut fmt::Formatter) -> fmt::Result {
-                        f.write_str("an array")
-                    }
-                    fn visit_seq<A: SeqAccess<'de>>(self, seq: A) -> Result<$type, A::Error> {
-                        let mut elements = Elements(seq);
-                        let name = elements.next::<&str>()?;
-                        let piece = $read(&mut elements, name)?;
-                        elements.end(piece)
-                    }
+/// One piece, as a value of its own for serde.
+struct One<T>(T);
+
+struct OneVisitor<T>(PhantomData<T>);
+
+impl<'de, T: Piece> Visitor<'de> for OneVisitor<T> {
+    type Value = One<T>;
+
+    fn expecting(&self, f: &mut fmt::Formatter) -> fmt::Result {
+        f.write_str("an array")
+    }
+
+    fn visit_seq<A: SeqAccess<'de>>(self, seq: A) -> Result<One<T>, A::Error> {
+        let mut elements = Elements(seq);
+        let name = elements.next::<&str>()?;
+        Ok(One(T::read(elements, name)?))
+    }
+}
+
+impl<'de, T: Piece> Deserialize<'de> for One<T> {
+    fn deserialize<D: Deserializer<'de>>(deserializer: D) -> Result<Self, D::Error> {
+        deserializer.deserialize_seq(OneVisitor(PhantomData))
+    }
+}
+
+struct PiecesVisitor<T>(PhantomData<T>);
+
+impl<'de, T: Piece> Visitor<'de> for PiecesVisitor<T> {
+    type Value = Pieces<T>;
+
+    fn expecting(&self, f: &mut fmt::Formatter) -> fmt::Result {
+        f.write_str("an array of arrays")
+    }
+
+    fn visit_seq<A: SeqAccess<'de>>(self, mut seq: A) -> Result<Pieces<T>, A::Error> {
+        let mut pieces = Pieces {
+            list: Vec::new(),
+            has_put_if: false,
+            last_caller: 0,
+        };
+        while let Some(One(piece)) = seq.next_element::<One<T>>()? {
+            pieces.has_put_if |= piece.is_put_if();
+            pieces.last_caller = pieces.last_caller.max(piece.last_caller());
+            pieces.list.push(piece);
+        }
+        Ok(pieces)
+    }
+}
+
+impl<'de, T: Piece> Deserialize<'de> for Pieces<T> {
+    fn deserialize<D: Deserializer<'de>>(deserializer: D) -> Result<Self, D::Error> {
+        deserializer.deserialize_seq(PiecesVisitor(PhantomData))
+    }
+}
+
+impl PackedStep {
+    fn of(kind: StepKind, caller: u8, number: u64) -> PackedStep {
+        PackedStep {
+            kind,
+            op: OpKind::Get,
+            caller,
+            number,
+            value: 0,
+            expected: 0,
+        }
+    }
+
+    /// The step that it is.
+    #[inline(always)]
+    pub fn step(&self) -> Step {
+        let (caller, number) = (u64::from(self.caller), self.number);
+        match self.kind {
+            StepKind::Begin => Step::Begin(caller),
+            StepKind::Ask => Step::Ask(caller, self.op.op(number, self.value, self.expected)),
+            StepKind::Seek => Step::Seek(caller),
+            StepKind::Act => Step::Act(caller),
+            StepKind::Save => Step::Save(caller),
+            StepKind::Back => Step::Back(caller, number),
+            StepKind::Commit => Step::Commit(caller),
+            StepKind::Abort => Step::Abort(caller),
+            StepKind::Sweep => Step::Sweep,
+            StepKind::InitSeek => Step::InitSeek(caller, number),
+            StepKind::InitLink => Step::InitLink(caller),
+            StepKind::InitStore => Step::InitStore(caller),
+            StepKind::Double => Step::Double(number),
+        }
+    }
+}
+
+impl Piece for PackedStep {
+    fn read<'de, A: SeqAccess<'de>>(mut e: Elements<A>, name: &str) -> Result<Self, A::Error> {
+        let step = match name {
+            "begin" => PackedStep::of(StepKind::Begin, e.caller()?, 0),
+            "ask" => {
+                let caller = e.caller()?;
+                let (op, number, value, expected) = OpKind::parts(e.op()?);
+                PackedStep {
+                    kind: StepKind::Ask,
+                    op,
+                    caller,
+                    number,
+                    value,
+                    expected,
                 }
-                deserializer.deserialize_seq(Pieces)
             }
-        }
-    };
-}
-
-fn step<'de, A: SeqAccess<'de>>(elements: &mut Elements<A>, name: &str) -> Result<Step, A::Error> {
-    Ok(match name {
-        "begin" => Step::Begin(elements.next()?),
-        "ask" => Step::Ask(elements.next()?, elements.op()?),
-        "seek" => Step::Seek(elements.next()?),
-        "act" => Step::Act(elements.next()?),
-        "save" => Step::Save(elements.next()?),
-        "back" => Step::Back(elements.next()?, elements.next()?),
-        "commit" => Step::Commit(elements.next()?),
-        "abort" => Step::Abort(elements.next()?),
-        "sweep" => Step::Sweep,
-        "init_seek" => Step::InitSeek(elements.next()?, elements.next()?),
-        "init_link" => Step::InitLink(elements.next()?),
-        "init_store" => Step::InitStore(elements.next()?),
-        "double" => Step::Double(elements.next()?),
-        _ => return Err(Error::custom("no such word")),
-    })
-}
-
-fn entry<'de, A: SeqAccess<'de>>(
-    elements: &mut Elements<A>,
-    name: &str,
-) -> Result<Entry, A::Error> {
-    let caller = elements.next()?;
-    Ok(match name {
-        "began" => Entry::Began(caller, elements.next()?),
-        "asked" => Entry::Asked(caller, elements.op()?),
-        "did" => Entry::Did(caller, elements.next()?),
-        "saved" => Entry::Saved(caller),
-        "leave" => Entry::Leave(caller, elements.next()?),
-        "undone" => Entry::Undone(caller),
-        "returned" => Entry::Returned(caller, elements.next()?),
-        "committed" => Entry::Committed(caller, elements.next()?),
-        "busy" => Entry::Busy(caller, elements.op()?, elements.next()?),
-        "aborted" => Entry::Aborted(caller),
-        _ => return Err(Error::custom("no such word")),
-    })
-}
-
-fn action<'de, A: SeqAccess<'de>>(
-    elements: &mut Elements<A>,
-    name: &str,
-) -> Result<Action, A::Error> {
-    Ok(match name {
-        "save" => Action::Save,
-        "back" => Action::Back(elements.next()?),
-        "help" => Action::Help(elements.next()?),
-        "abort" => Action::Abort,
-        _ => Action::Op(elements.op_named(name)?),
-    })
-}
-
-from_array!(Step, step);
-from_array!(Entry, entry);
-from_array!(Action, action);
-
-fn write_entry(text: &mut String, entry: &Entry) -> fmt::Result {
-    match *entry {
-        Entry::Began(caller, txn) => write!(text, r#"["began",{caller},{txn}"#)?,
-        Entry::Asked(caller, op) => {
-            write!(text, r#"["asked",{caller},"#)?;
-            op.write(text)?;
-        }
-        Entry::Did(caller, Some(value)) => write!(text, r#"["did",{caller},{value}"#)?,
-        Entry::Did(caller, None) => write!(text, r#"["did",{caller},null"#)?,
-        Entry::Saved(caller) => write!(text, r#"["saved",{caller}"#)?,
-        Entry::Leave(caller, Some(level)) => write!(text, r#"["leave",{caller},{level}"#)?,
-        Entry::Leave(caller, None) => write!(text, r#"["leave",{caller},null"#)?,
-        Entry::Undone(caller) => write!(text, r#"["undone",{caller}"#)?,
-        Entry::Returned(caller, level) => write!(text, r#"["returned",{caller},{level}"#)?,
-        Entry::Committed(caller, number) => write!(text, r#"["committed",{caller},{number}"#)?,
-        Entry::Busy(caller, op, holder) => {
-            write!(text, r#"["busy",{caller},"#)?;
-            op.write(text)?;
-            write!(text, ",{holder}")?;
-        }
-        Entry::Aborted(caller) => write!(text, r#"["aborted",{caller}"#)?,
+            "seek" => PackedStep::of(StepKind::Seek, e.caller()?, 0),
+            "act" => PackedStep::of(StepKind::Act, e.caller()?, 0),
+            "save" => PackedStep::of(StepKind::Save, e.caller()?, 0),
+            "back" => PackedStep::of(StepKind::Back, e.caller()?, e.next()?),
+            "commit" => PackedStep::of(StepKind::Commit, e.caller()?, 0),
+            "abort" => PackedStep::of(StepKind::Abort, e.caller()?, 0),
+            "sweep" => PackedStep::of(StepKind::Sweep, 0, 0),
+            "init_seek" => PackedStep::of(StepKind::InitSeek, e.caller()?, e.next()?),
+            "init_link" => PackedStep::of(StepKind::InitLink, e.caller()?, 0),
+            "init_store" => PackedStep::of(StepKind::InitStore, e.caller()?, 0),
+            "double" => PackedStep::of(StepKind::Double, 0, e.next()?),
+            _ => return Err(Error::custom("no such word")),
+        };
+        e.end(step)
     }
-    text.push(']');
-    Ok(())
+
+    fn is_put_if(&self) -> bool {
+        matches!(self.op, OpKind::PutIf | OpKind::PutIfNone)
+    }
+
+    fn last_caller(&self) -> u8 {
+        0
+    }
 }
 
-/// The history as one line of JSON, of this version.
-pub fn history_text(entries: &[Entry], stripes: u32, version: u64) -> String {
-    let mut text = String::from(r#"{"entries":["#);
-    for (index, entry) in entries.iter().enumerate() {
-        if index > 0 {
-            text.push(',');
-        }
-        let _ = write_entry(&mut text, entry);
+impl Piece for Entry {
+    fn read<'de, A: SeqAccess<'de>>(mut e: Elements<A>, name: &str) -> Result<Self, A::Error> {
+        let caller = e.caller()?;
+        let entry = match name {
+            "began" => Entry::of(Event::Began, caller, e.next()?),
+            "asked" => Entry::with_op(Event::Asked, caller, e.op()?, 0),
+            "did" => Entry::did(caller, e.next()?),
+            "saved" => Entry::of(Event::Saved, caller, 0),
+            "leave" => match e.next()? {
+                Some(level) => Entry::of(Event::Leave, caller, level),
+                None => Entry::of(Event::LeaveToEnd, caller, 0),
+            },
+            "undone" => Entry::of(Event::Undone, caller, 0),
+            "returned" => Entry::of(Event::Returned, caller, e.next()?),
+            "committed" => Entry::of(Event::Committed, caller, e.next()?),
+            "busy" => Entry::with_op(Event::Busy, caller, e.op()?, e.caller()?),
+            "aborted" => Entry::of(Event::Aborted, caller, 0),
+            _ => return Err(Error::custom("no such word")),
+        };
+        e.end(entry)
     }
-    let _ = writeln!(text, r#"],"stripes":{stripes},"version":{version}}}"#);
-    text
+
+    fn is_put_if(&self) -> bool {
+        matches!(self.kind, OpKind::PutIf | OpKind::PutIfNone)
+    }
+
+    fn last_caller(&self) -> u8 {
+        self.caller.max(self.holder)
+    }
+}
+
+impl Piece for Action {
+    fn read<'de, A: SeqAccess<'de>>(mut e: Elements<A>, name: &str) -> Result<Self, A::Error> {
+        let action = match name {
+            "save" => Action::Save,
+            "back" => Action::Back(e.next()?),
+            "help" => Action::Help(e.next()?),
+            "abort" => Action::Abort,
+            _ => Action::Op(e.op_named(name)?),
+        };
+        e.end(action)
+    }
+
+    fn is_put_if(&self) -> bool {
+        matches!(self, Action::Op(Op::PutIf(..)))
+    }
+
+    fn last_caller(&self) -> u8 {
+        0
+    }
 }

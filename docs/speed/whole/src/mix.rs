@@ -108,6 +108,11 @@ impl Worker {
         }
     }
 
+    /// Whether its next step is the first of a call.
+    pub fn is_at_call(&self) -> bool {
+        matches!(self.phase, Phase::First)
+    }
+
     /// The operation that its next step asks for, if it does.
     pub fn asks(&self) -> Option<Op> {
         match (self.phase, self.call) {
@@ -245,6 +250,7 @@ fn take(core: &mut Core, worker: &mut Worker, file: &Scripts) -> (Answer, bool) 
 }
 
 /// Takes a worker's turn, of one step or two, and answers whether it is live after it.
+#[inline]
 pub fn turn(core: &mut Core, worker: &mut Worker, file: &Scripts) -> bool {
     let is_pair = matches!(
         worker.phase,
@@ -258,11 +264,11 @@ pub fn turn(core: &mut Core, worker: &mut Worker, file: &Scripts) -> bool {
 
 /// The core after all scripts.
 pub fn mix(seed: u64, file: &Scripts) -> Core {
-    let mut core = Core::new(file.limits);
+    let mut core = Core::new(file.limits, file.room());
     let mut live = file.live_workers();
     let mut generator = Generator::new(seed);
     while !live.is_empty() {
-        let place = generator.next() as usize % live.len();
+        let place = (generator.next() % live.len() as u32) as usize;
         if !turn(&mut core, &mut live[place], file) {
             live.remove(place);
         }
@@ -271,6 +277,11 @@ pub fn mix(seed: u64, file: &Scripts) -> Core {
 }
 
 impl Scripts {
+    /// About how many entries the history has if no script is begun anew.
+    pub fn room(&self) -> usize {
+        self.scripts.iter().map(|script| 2 * script.len() + 3).sum()
+    }
+
     /// The workers that have a script.
     pub fn live_workers(&self) -> Vec<Worker> {
         (0..u64::from(self.limits.callers))

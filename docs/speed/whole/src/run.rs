@@ -1,6 +1,6 @@
-//! Workers in threads, over one core under one mutex. Each turn takes the mutex anew.
+//! Workers in threads, over one core under one mutex. Each call takes the mutex once.
 use crate::files::Scripts;
-use crate::machine::{Core, Entry};
+use crate::machine::{Core, Entry, Event};
 use crate::mix::{Worker, turn};
 use crate::step::Reply;
 use std::mem::take;
@@ -15,19 +15,31 @@ fn give_way(before: u64, worker: &Worker) {
     }
 }
 
-/// Takes a worker's turns to its end.
+/// Takes a worker's turns to the end of its call, and answers whether it is live after it.
+fn call(core: &mut Core, worker: &mut Worker, file: &Scripts) -> bool {
+    loop {
+        if !turn(core, worker, file) {
+            return false;
+        }
+        if worker.is_at_call() {
+            return true;
+        }
+    }
+}
+
+/// Takes a worker's calls to its end.
 fn work(core: &Mutex<Core>, mut worker: Worker, file: &Scripts) {
     let mut is_live = true;
     while is_live {
         let again = worker.again;
-        is_live = turn(&mut core.lock().unwrap(), &mut worker, file);
+        is_live = call(&mut core.lock().unwrap(), &mut worker, file);
         give_way(again, &worker);
     }
 }
 
 /// The core after all scripts.
 pub fn run(file: &Scripts) -> Core {
-    let core = Mutex::new(Core::new(file.limits));
+    let core = Mutex::new(Core::new(file.limits, file.room()));
     thread::scope(|scope| {
         for worker in file.live_workers() {
             let core = &core;
@@ -90,19 +102,22 @@ impl<'a> Keeper<'a> {
 
     /// Notes what an entry of its own says of its script.
     fn hear(&mut self, entry: Entry) {
-        match entry {
-            Entry::Began(_, txn) => {
-                self.txn = txn;
+        match entry.event {
+            Event::Began => {
+                self.txn = entry.number;
                 self.replies.clear();
             }
-            Entry::Did(_, reply) => self.replies.push(reply),
-            Entry::Committed(_, place) => {
-                let replies = take(&mut self.replies);
-                let txn = self.txn;
-                self.outcomes.push(Some(Outcome { txn, place, replies }));
+            Event::Did => self.replies.push(Some(entry.number)),
+            Event::DidNone => self.replies.push(None),
+            Event::Committed => {
+                self.outcomes.push(Some(Outcome {
+                    txn: self.txn,
+                    place: entry.number,
+                    replies: take(&mut self.replies),
+                }));
                 self.give_back();
             }
-            Entry::Aborted(_) => {
+            Event::Aborted => {
                 self.outcomes.push(None);
                 self.give_back();
             }
@@ -110,7 +125,7 @@ impl<'a> Keeper<'a> {
         }
     }
 
-    /// Takes a worker's turns to its end.
+    /// Takes a worker's calls to its end.
     fn work(mut self, core: &Mutex<Core>, mut worker: Worker, file: &Scripts) -> Keeper<'a> {
         let mut is_live = true;
         while is_live {
@@ -121,7 +136,7 @@ impl<'a> Keeper<'a> {
             {
                 let mut core = core.lock().unwrap();
                 let before = core.history().len();
-                is_live = turn(&mut core, &mut worker, file);
+                is_live = call(&mut core, &mut worker, file);
                 self.seen.extend_from_slice(&core.history()[before..]);
             }
             for place in heard..self.seen.len() {
@@ -136,7 +151,7 @@ impl<'a> Keeper<'a> {
 /// The core after all scripts, of workers that keep what they saw; their entries in its history are
 /// compared with it.
 pub fn run_kept(file: &Scripts) -> Core {
-    let core = Mutex::new(Core::new(file.limits));
+    let core = Mutex::new(Core::new(file.limits, file.room()));
     let words: Vec<AtomicU64> = (0..file.limits.stripes).map(|_| AtomicU64::new(0)).collect();
     let keepers: Vec<Keeper> = thread::scope(|scope| {
         let threads: Vec<_> = file
@@ -151,7 +166,7 @@ pub fn run_kept(file: &Scripts) -> Core {
     });
     let core = core.into_inner().unwrap();
     for keeper in &keepers {
-        let own = core.history().iter().filter(|entry| entry.caller() == keeper.number);
+        let own = core.history().iter().filter(|entry| u64::from(entry.caller) == keeper.number);
         assert!(own.eq(keeper.seen.iter()));
     }
     core
