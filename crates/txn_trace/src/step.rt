@@ -66,7 +66,8 @@ pub enum Step {
     InitLink(u64),
     /// A helper stores its dummy, which initialises the bucket.
     ///
-    /// Refused, in this order: `NoSuchHelper`, `HelperOutOfOrder`.
+    /// Refused, in this order: `NoSuchHelper`, `HelperOutOfOrder`; then, if no bucket of the
+    /// bucket's segment of 64 is stored, `NoMemory`: the helper keeps its dummy.
     InitStore(u64),
     /// Doubles the size, if it is still the one named.
     ///
