@@ -88,6 +88,6 @@ fn refused_memory(rt: HostRuntime) -> Result<(), Fail> {
     play_again(&rt, &mut caller, &[(0, Ask::Len, Told::Number(11))])?;
     drop(caller);
     let pairs = pairs_again(&mut host)?.ok_or("a stripe is held")?;
-    assert!(rt; pairs.as_slice() == &[(1, 10)]);
+    assert!(rt; pairs.as_slice() == [(1, 10)].as_slice());
     Ok(())
 }
