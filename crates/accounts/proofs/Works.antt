@@ -47,30 +47,25 @@ read m c txn from to had has es some =
     let (second, on) = replied (start m) c (Get to) has es (subst IsSome goes some) in
     (first, second, goes ∙ on)
 
+-- What the work of a transfer makes, run alone and committed.
 pub made : (m : Map) (c txn place from to sum : ℕ) (moved : Bool) (had has : Option ℕ) (es : List Entry) → from ≢ to → HasWritten c from to sum moved had has es
     → IsSome (alone m (Began c txn ∷ es ++ Committed c place ∷ [])) → Makes from to sum moved m (map_after m (Began c txn ∷ es ++ Committed c place ∷ []))
-made m c txn place from to sum moved had has es apart written some =
-    at moved written
-  where
-    end : List Entry
-    end = Committed c place ∷ []
-
-    whole : List Entry → List Entry
-    whole l = Began c txn ∷ l ++ end
-
-    at : (moved : Bool) → HasWritten c from to sum moved had has es → Makes from to sum moved m (map_after m (whole es))
-    at false (cannot, es_are) =
-        let (had_is, has_is, goes) = read m c txn from to had has end (subst (λ l. IsSome (alone m (whole l))) es_are some) in (
-          ap (λ l. map_after m (whole l)) es_are ∙ ap (last_map m) goes,
-          subst (λ o. CannotMove sum (unwrap_or o 0) (balance m to)) had_is (subst (λ o. CannotMove sum (unwrap_or had 0) (unwrap_or o 0)) has_is cannot),
-        )
-    at true (less, enough, one, two, es_are) =
-        let more : ℕ = unwrap_or has 0 + sum in
-        let last : List Entry = Asked c (Put to more) ∷ Did c two ∷ end in
-        let writes : List Entry = Asked c (Put from less) ∷ Did c one ∷ last in
-        let some_here : IsSome (alone m (whole (reading c from to had has ++ writing c from to less more one two))) = subst (λ l. IsSome (alone m (whole l))) es_are some in
-        let (had_is, has_is, goes) = read m c txn from to had has writes some_here in
-        let (_, goes_on) = replied (start m) c (Put from less) one last (subst IsSome goes some_here) in
-        let (_, goes_to) = replied (did (start m) (Put from less)) c (Put to more) two end (subst IsSome (goes ∙ goes_on) some_here) in
-        let left : map_after m (whole es) ≡ insert (insert m from less) to more = ap (λ l. map_after m (whole l)) es_are ∙ ap (last_map m) (goes ∙ goes_on ∙ goes_to) in
-        transferred from to sum less more m (map_after m (whole es)) apart (enough ∙ ap (λ o. unwrap_or o 0) had_is) (ap (λ o. unwrap_or o 0 + sum) has_is) left
+made m c txn place from to sum false had has es apart (cannot, es_are) some =
+    let end : List Entry = Committed c place ∷ [] in
+    let whole : List Entry → List Entry = λ l. Began c txn ∷ l ++ end in
+    let (had_is, has_is, goes) = read m c txn from to had has end (subst (λ l. IsSome (alone m (whole l))) es_are some) in (
+      ap (λ l. map_after m (whole l)) es_are ∙ ap (last_map m) goes,
+      subst (λ o. CannotMove sum (unwrap_or o 0) (balance m to)) had_is (subst (λ o. CannotMove sum (unwrap_or had 0) (unwrap_or o 0)) has_is cannot),
+    )
+made m c txn place from to sum true had has es apart (less, enough, one, two, es_are) some =
+    let end : List Entry = Committed c place ∷ [] in
+    let whole : List Entry → List Entry = λ l. Began c txn ∷ l ++ end in
+    let more : ℕ = unwrap_or has 0 + sum in
+    let last : List Entry = Asked c (Put to more) ∷ Did c two ∷ end in
+    let writes : List Entry = Asked c (Put from less) ∷ Did c one ∷ last in
+    let some_here : IsSome (alone m (whole (reading c from to had has ++ writing c from to less more one two))) = subst (λ l. IsSome (alone m (whole l))) es_are some in
+    let (had_is, has_is, goes) = read m c txn from to had has writes some_here in
+    let (_, goes_on) = replied (start m) c (Put from less) one last (subst IsSome goes some_here) in
+    let (_, goes_to) = replied (did (start m) (Put from less)) c (Put to more) two end (subst IsSome (goes ∙ goes_on) some_here) in
+    let left : map_after m (whole es) ≡ insert (insert m from less) to more = ap (λ l. map_after m (whole l)) es_are ∙ ap (last_map m) (goes ∙ goes_on ∙ goes_to) in
+    transferred from to sum less more m (map_after m (whole es)) apart (enough ∙ ap (λ o. unwrap_or o 0) had_is) (ap (λ o. unwrap_or o 0 + sum) has_is) left

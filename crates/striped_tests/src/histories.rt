@@ -110,21 +110,22 @@ impl Recorder {
     }
 
     /// All transactions of the plan.
-    fn run(&mut self, clock: &AtomicU64, plan: Plan) -> Result<(), AllocError> {
+    fn run<R: Abort>(&mut self, rt: &R, clock: &AtomicU64, plan: Plan) {
         match plan {
             Plan::Drawn => {
                 for _ in 0..4u64 {
-                    self.transact(clock)?;
+                    let ran = self.transact(clock);
+                    assert!(rt; ran.is_ok());
                 }
             }
             Plan::Scripts => {
                 for key in 0..100u64 {
                     let first = self.number.wrapping_mul(100);
-                    self.script(clock, first.wrapping_add(key))?;
+                    let ran = self.script(clock, first.wrapping_add(key));
+                    assert!(rt; ran.is_ok());
                 }
             }
         }
-        Ok(())
     }
 }
 
@@ -150,15 +151,15 @@ fn recorders(
 }
 
 /// Each caller runs in a thread of its own.
-fn run_all<R: Threads + Wait + Abort + Sync>(rt: &R, all: &mut [Recorder], plan: Plan) {
-    let clock = AtomicU64::new(1);
-    let clock = &clock;
+fn run_all<R: Threads + Wait + Abort + Sync>(
+    rt: &R,
+    all: &mut [Recorder],
+    clock: &AtomicU64,
+    plan: Plan,
+) {
     thread::scope(thread::scope_env(), rt, |scope| {
         for one in all {
-            let started = scope.spawn(move || {
-                let ran = one.run(clock, plan);
-                assert!(rt; ran.is_ok(), "a log");
-            });
+            let started = scope.spawn(move || one.run(rt, clock, plan));
             assert!(rt; started.is_ok(), "a thread");
         }
     });
@@ -358,7 +359,8 @@ fn commits_of<R: Threads + Wait + Abort + Sync>(
     plan: Plan,
 ) -> Result<Option<u64>, Fail> {
     let mut all = recorders(alloc, stripes, callers, seed)?;
-    run_all(rt, all.as_mut_slice(), plan);
+    let clock = AtomicU64::new(1);
+    run_all(rt, all.as_mut_slice(), &clock, plan);
     let lines = merged(alloc, all.as_slice())?;
     Ok(commits_in(alloc, stripes as u64, lines)?)
 }
@@ -374,7 +376,8 @@ fn a_thousand_runs(rt: HostRuntime) -> Result<(), Fail> {
     Ok(())
 }
 
-/// Four callers commit a hundred transactions each: nobody is ever busy, and the places are 1 to 400.
+/// Four callers commit a hundred transactions each: none finds a stripe held, and the places are 1
+/// to 400.
 #[test]
 fn four_hundred_scripts(rt: HostRuntime) -> Result<(), Fail> {
     let commits = commits_of(&rt, rt.alloc(), 4096, 4, 0, Plan::Scripts)?;
