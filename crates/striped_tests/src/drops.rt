@@ -49,6 +49,7 @@ fn drop_after<R: Abort>(rt: &R, alloc: Global, calls: usize) -> Result<(), Fail>
     for row in CALLS.iter().take(calls) {
         play(rt, callers.as_mut_slice(), &[*row]);
     }
+    assert!(rt; 0 < callers.len());
     drop(callers.remove(0));
     play(rt, callers.as_mut_slice(), AFTER.as_slice());
     has_left(rt, &mut host, &[(1, 5), (2, 6)]);

@@ -1,9 +1,9 @@
 //! What calls leave that are refused memory. `docs/tests/refused.sh` refuses it to them.
-use crate::calls::{Ask, NEW, Row, Told, answer, open};
+use crate::calls::{Ask, NEW, Row, Told, answer};
 use std::alloc::{AllocError, Global};
 use std::process::Abort;
 use std::test::Fail;
-use striped_map::{Caller, Host, Stop};
+use striped_map::{Caller, Host, Stop, open_map};
 use txn_trace::{Op, Refusal};
 
 /// Makes a call, and once more if it is refused memory.
@@ -29,12 +29,14 @@ fn pairs_again(host: &mut Host) -> Result<Option<Vec<(u64, u64)>>, AllocError> {
     Err(AllocError)
 }
 
-/// A map of one stripe, asked for once more if memory is refused.
-fn open_again(alloc: Global) -> Result<(Host, Vec<Caller>), Fail> {
-    match open(alloc, 1, 1) {
-        Ok(made) => Ok(made),
-        Err(_) => open(alloc, 1, 1),
+/// A map of one stripe and its caller, asked for once more if memory is refused.
+fn open_again(alloc: Global) -> Result<(Host, Vec<Caller>), AllocError> {
+    for _ in 0..2u64 {
+        if let Ok(made) = open_map(alloc, 1, 1) {
+            return Ok(made);
+        }
     }
+    Err(AllocError)
 }
 
 /// Asks as the table says. Each call must answer as it says, at once or the second time.
