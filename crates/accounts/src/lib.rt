@@ -38,7 +38,8 @@ pub fn transfer(caller: &mut Caller, tries: u64, from: u64, to: u64, sum: u64) -
         |t: &mut Transaction<'_>| -> Result<bool, Stop>
             ensures same_reference { t.new.me.ghost_name ≡ t.old.me.ghost_name }
             ensures before { t.new.before ≡ t.old.before }
-            ensures ok { IfOk result (λ moved. HasWorked from to sum moved t.old.me.now t.new.me.now) }
+            ensures ok { IfOk result (λ moved.
+                HasWorked from to sum moved t.old.me.now t.new.me.now) }
         { move_sum(t, from, to, sum) },
     )?;
     Ok(moved)
