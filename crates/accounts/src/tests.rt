@@ -18,6 +18,14 @@ fn fill(caller: &mut Caller, accounts: &[(u64, u64)]) -> Result<(), Stop> {
     Ok(())
 }
 
+/// The first caller fills the accounts; whether it could.
+fn is_filled(callers: &mut [Caller], accounts: &[(u64, u64)]) -> bool {
+    match callers.first_mut() {
+        Some(caller) => fill(caller, accounts).is_ok(),
+        None => false,
+    }
+}
+
 /// A map of four stripes with these accounts, and its callers.
 fn open(
     alloc: Global,
@@ -27,10 +35,8 @@ fn open(
     let Ok((host, mut made)) = open_map(alloc, 4, callers) else {
         return Err(AllocError)?;
     };
-    for caller in made.iter_mut().take(1) {
-        if fill(caller, accounts).is_err() {
-            return Err(AllocError)?;
-        }
+    if !is_filled(made.as_mut_slice(), accounts) {
+        return Err(AllocError)?;
     }
     Ok((host, made))
 }
@@ -60,6 +66,16 @@ const TRANSFERS: [(u64, u64, u64, bool); 9] = [
 /// What the accounts have then.
 const LEFT: [(u64, u64); 5] = [(0, u64::MAX - 5), (1, 0), (2, 200), (3, 5), (4, 0)];
 
+/// Makes the transfers.
+fn play<R: Abort>(rt: &R, caller: &mut Caller, rows: &[(u64, u64, u64, bool)]) {
+    for &(from, to, sum, moved) in rows {
+        assert!(rt;
+            moves(caller, from, to, sum) == Some(moved),
+            "{from} {to} {sum}"
+        );
+    }
+}
+
 /// The accounts as the host finds them.
 fn accounts_in(host: &mut Host) -> Result<Vec<(u64, u64)>, Fail> {
     match host.pairs() {
@@ -72,35 +88,24 @@ fn accounts_in(host: &mut Host) -> Result<Vec<(u64, u64)>, Fail> {
 fn one_after_another(rt: HostRuntime) -> Result<(), Fail> {
     let accounts = [(0, 100), (1, 100), (2, u64::MAX)];
     let (mut host, mut callers) = open(rt.alloc(), 1, &accounts)?;
-    for caller in &mut callers {
-        for (from, to, sum, moved) in TRANSFERS {
-            assert!(rt;
-                moves(caller, from, to, sum) == Some(moved),
-                "{from} {to} {sum}"
-            );
-        }
-    }
+    assert!(rt; 0 < callers.len());
+    play(&rt, &mut callers[0], TRANSFERS.as_slice());
     assert!(rt; accounts_in(&mut host)?.as_slice() == LEFT.as_slice());
     Ok(())
 }
 
 /// Moves sums from account to account, which others move too.
-fn work(caller: &mut Caller, number: u64) {
+fn work(caller: &mut Caller) {
     for turn in 0..500u64 {
-        let from = number.wrapping_add(turn) % 8;
-        let to = number.wrapping_mul(turn) % 8;
-        let _ = moves(caller, from, to, turn % 60);
+        let _ = moves(caller, turn % 8, turn.wrapping_mul(3) % 8, turn % 60);
     }
 }
 
 /// Each caller works in a thread of its own.
 fn work_all<R: Threads + Wait + Abort + Sync>(rt: &R, callers: &mut [Caller]) {
-    let mut number = 0u64;
     thread::scope(thread::scope_env(), rt, |scope| {
         for caller in callers {
-            number = number.wrapping_add(1);
-            let seed = number;
-            let started = scope.spawn(move || work(caller, seed));
+            let started = scope.spawn(move || work(caller));
             assert!(rt; started.is_ok(), "a thread");
         }
     });
