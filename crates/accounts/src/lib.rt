@@ -9,9 +9,6 @@ ghost use Rattle.std.specs.Prelude.{◌≡◌, ◌≢◌, false, IfOk, OnErr};
 ghost use Rattle.striped_map.specs.Callers.{IsSince};
 ghost use Rattle.accounts.specs.Transfers.{HasTransferred, HasWorked};
 
-#[cfg(test)]
-mod tests;
-
 use striped_map::{Caller, Stop, Transaction};
 
 /// Moves a sum from one account to another, in a transaction of its own, and answers whether it
