@@ -69,7 +69,7 @@ while IFS='|' read -r _ what folders line _; do
   runs "$(echo $folders)" "$(echo "$line" | sed 's/^ `//; s/` $//')"
 done < <(sed -n '/^| To have/,/^$/p' $page | sed 1,2d | sed '/^$/d')
 
-cat crates/{bank,audit,visits}/src/*.rt | tr -s ' \n' ' ' >"$work/code"
+cat crates/{accounts,audit,bank,visits}/src/*.rt | tr -s ' \n' ' ' >"$work/code"
 while read -r clause; do
   grep -qF -- "$clause" "$work/code"
   judge "no such clause: $clause" $?

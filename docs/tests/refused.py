@@ -29,6 +29,7 @@ table_tests map_ops_tests::refused_memory_for_puts
 table_tests map_ops_tests::refused_memory_for_a_preparation
 table_tests map_ops_tests::refused_memory_for_a_link
 table_tests stripe_part_tests::refused_memory
+striped_tests refused::refused_memory
 thread_tests lock_tests::a_stripe_is_held_until_its_holder_releases
 """
 # Tests that pass whichever one allocation is refused, eight in a row, or all from one on.

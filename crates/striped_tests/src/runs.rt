@@ -1,195 +1,266 @@
-//! Worked runs of callers of a striped map.
-use std::alloc::{AllocError, Global};
-use std::process::Abort;
+//! Worked runs of callers of a striped map, whose values were worked out by hand.
+use crate::calls::{Ask, NEW, Told, Worked, play_worked};
 use std::test::Fail;
-use striped_map::{Caller, Host, Stop, open_map};
-use txn_trace::{Op, Refusal, Reply};
+use txn_trace::{Op, Refusal};
 
-/// What a caller is asked for.
-#[derive(Clone, Copy)]
-enum Ask {
-    Begin,
-    Do(Op),
-    Save,
-    Back(u64),
-    Commit,
-    Abort,
-}
+/// A key that had 10.
+const TEN: Told = Told::Replied(Some(10));
 
-/// What it answers: nothing, a reply, a level, a place, or that it did not do it.
-#[derive(Clone, Copy, PartialEq, Eq)]
-enum Told {
-    Done,
-    Replied(Reply),
-    Number(u64),
-    Stopped(Stop),
-}
-
-/// Does an operation.
-fn operate(caller: &mut Caller, op: Op) -> Result<Reply, Stop> {
-    match op {
-        Op::Put(key, value) => caller.put(key, value),
-        Op::Take(key) => caller.take(key),
-        Op::Get(key) => caller.get(key),
-        Op::PutIf(key, expected, value) => caller.put_if(key, expected, value),
-    }
-}
-
-/// Asks a caller.
-fn answer(caller: &mut Caller, what: Ask) -> Result<Told, Stop> {
-    Ok(match what {
-        Ask::Begin => {
-            caller.begin()?;
-            Told::Done
-        }
-        Ask::Do(op) => Told::Replied(operate(caller, op)?),
-        Ask::Save => Told::Number(caller.save()?),
-        Ask::Back(level) => {
-            caller.back(level)?;
-            Told::Done
-        }
-        Ask::Commit => Told::Number(caller.commit()?),
-        Ask::Abort => {
-            caller.abort()?;
-            Told::Done
-        }
-    })
-}
-
-/// A map of four stripes and its callers.
-fn open(alloc: Global, callers: usize) -> Result<(Host, Vec<Caller>), Fail> {
-    match open_map(alloc, 4, callers) {
-        Ok(made) => Ok(made),
-        Err(_) => Err(AllocError)?,
-    }
-}
-
-/// Runs a table of questions, each with the caller's place and what it must answer, on new callers.
-/// Answers how many rows were right before the first that was wrong.
-fn rows_right(alloc: Global, rows: &[(usize, Ask, Told)]) -> Result<usize, Fail> {
-    let (_host, mut callers) = open(alloc, 2)?;
-    for (right, (place, what, told)) in rows.iter().enumerate() {
-        let Some(caller) = callers.get_mut(*place) else {
-            return Ok(right);
-        };
-        let answered = match answer(caller, *what) {
-            Ok(answered) => answered,
-            Err(stop) => Told::Stopped(stop),
-        };
-        if answered != *told {
-            return Ok(right);
-        }
-    }
-    Ok(rows.len())
-}
-
-/// A refusal.
-fn refused(refusal: Refusal) -> Told {
-    Told::Stopped(Stop::Refused(refusal))
-}
-
-/// Two callers on a key's stripe: the second is busy, and sees what was committed afterwards.
-#[test]
-fn two_on_one_stripe(rt: HostRuntime) -> Result<(), Fail> {
-    let rows = [
+/// A put of a key, commit, and what is left.
+static FIRST_COMMIT: Worked<'static> = Worked {
+    stripes: 8,
+    callers: 2,
+    rows: &[
         (0, Ask::Begin, Told::Done),
-        (1, Ask::Begin, Told::Done),
-        (0, Ask::Do(Op::Put(1, 10)), Told::Replied(None)),
-        (
-            1,
-            Ask::Do(Op::Get(5)),
-            Told::Stopped(Stop::Busy { holder: 1 }),
-        ),
-        (1, Ask::Do(Op::Get(2)), refused(Refusal::NotOpen)),
+        (0, Ask::Do(Op::Put(1, 10)), NEW),
         (0, Ask::Commit, Told::Number(1)),
-        (1, Ask::Begin, Told::Done),
-        (1, Ask::Do(Op::Get(1)), Told::Replied(Some(10))),
-        (
-            1,
-            Ask::Do(Op::PutIf(1, Some(10), 11)),
-            Told::Replied(Some(10)),
-        ),
-        (1, Ask::Do(Op::Take(1)), Told::Replied(Some(11))),
-        (1, Ask::Do(Op::PutIf(1, Some(11), 12)), Told::Replied(None)),
-        (1, Ask::Abort, Told::Done),
+    ],
+    left: &[(1, 10)],
+};
+
+/// An abort takes the put back.
+static ABORT_TAKES_BACK: Worked<'static> = Worked {
+    stripes: 8,
+    callers: 2,
+    rows: &[
         (0, Ask::Begin, Told::Done),
-        (0, Ask::Do(Op::Get(1)), Told::Replied(Some(10))),
+        (0, Ask::Do(Op::Put(1, 10)), NEW),
+        (0, Ask::Abort, Told::Done),
+        (0, Ask::Abort, Told::Refused(Refusal::NotOpen)),
+    ],
+    left: &[],
+};
+
+/// A taken key, which nobody else can look up meanwhile, is there again after the abort.
+static ABORTED_TAKE_RESTORES: Worked<'static> = Worked {
+    stripes: 8,
+    callers: 2,
+    rows: &[
+        (0, Ask::Begin, Told::Done),
+        (0, Ask::Do(Op::Put(3, 30)), NEW),
+        (0, Ask::Commit, Told::Number(1)),
+        (0, Ask::Begin, Told::Done),
+        (0, Ask::Do(Op::Take(3)), Told::Replied(Some(30))),
+        (1, Ask::Begin, Told::Done),
+        (1, Ask::Do(Op::Get(3)), Told::Busy(1)),
+        (0, Ask::Abort, Told::Done),
+        (1, Ask::Begin, Told::Done),
+        (1, Ask::Do(Op::Get(3)), Told::Replied(Some(30))),
+        (1, Ask::Commit, Told::Number(2)),
+    ],
+    left: &[(3, 30)],
+};
+
+/// Caller 2 finds caller 1's stripe held, begins anew and commits first.
+static BUSY_BETWEEN_CALLERS: Worked<'static> = Worked {
+    stripes: 8,
+    callers: 2,
+    rows: &[
+        (0, Ask::Begin, Told::Done),
+        (0, Ask::Do(Op::Put(1, 10)), NEW),
+        (1, Ask::Begin, Told::Done),
+        (1, Ask::Do(Op::Get(9)), Told::Busy(1)),
+        (1, Ask::Begin, Told::Done),
+        (1, Ask::Commit, Told::Number(1)),
         (0, Ask::Commit, Told::Number(2)),
-    ];
-    assert!(rt; rows_right(rt.alloc(), &rows)? == rows.len());
-    Ok(())
+    ],
+    left: &[(1, 10)],
+};
+
+/// Keys on both sides of 2^63, and puts under a condition.
+static KEYS_OF_64_BITS: Worked<'static> = Worked {
+    stripes: 8,
+    callers: 2,
+    rows: &[
+        (0, Ask::Begin, Told::Done),
+        (0, Ask::Do(Op::Put(9_223_372_036_854_775_809, 11)), NEW),
+        (0, Ask::Do(Op::Put(1, 10)), NEW),
+        (0, Ask::Do(Op::PutIf(1, None, 12)), TEN),
+        (0, Ask::Do(Op::PutIf(1, Some(10), 12)), TEN),
+        (0, Ask::Do(Op::PutIf(2, None, 20)), NEW),
+        (0, Ask::Do(Op::PutIf(3, Some(5), 6)), NEW),
+        (0, Ask::Do(Op::Put(18_446_744_073_709_551_615, 7)), NEW),
+        (0, Ask::Commit, Told::Number(1)),
+    ],
+    left: &[
+        (1, 12),
+        (2, 20),
+        (9_223_372_036_854_775_809, 11),
+        (18_446_744_073_709_551_615, 7),
+    ],
+};
+
+/// Stripes come back at the end of a transaction and not before: keys 1, 9 and 17 have one stripe.
+/// A savepoint and a return to it leave caller 1 its stripe; an abort, a commit and a busy stripe
+/// give all back.
+static RIGHTS_COME_BACK: Worked<'static> = Worked {
+    stripes: 8,
+    callers: 2,
+    rows: &[
+        (0, Ask::Begin, Told::Done),
+        (0, Ask::Do(Op::Put(1, 10)), NEW),
+        (0, Ask::Save, Told::Number(1)),
+        (0, Ask::Do(Op::Put(9, 90)), NEW),
+        (0, Ask::Back(1), Told::Done),
+        (1, Ask::Begin, Told::Done),
+        (1, Ask::Do(Op::Put(2, 20)), NEW),
+        (1, Ask::Do(Op::Get(17)), Told::Busy(1)),
+        (0, Ask::Do(Op::Put(2, 21)), NEW),
+        (0, Ask::Abort, Told::Done),
+        (1, Ask::Begin, Told::Done),
+        (1, Ask::Do(Op::Put(9, 91)), NEW),
+        (0, Ask::Begin, Told::Done),
+        (0, Ask::Do(Op::Get(1)), Told::Busy(2)),
+        (1, Ask::Commit, Told::Number(1)),
+        (0, Ask::Begin, Told::Done),
+        (0, Ask::Do(Op::Get(9)), Told::Replied(Some(91))),
+        (0, Ask::Commit, Told::Number(2)),
+    ],
+    left: &[(9, 91)],
+};
+
+/// A transaction of caller 2 begins and commits between two operations of caller 1.
+static STEP_BETWEEN: Worked<'static> = Worked {
+    stripes: 8,
+    callers: 2,
+    rows: &[
+        (0, Ask::Begin, Told::Done),
+        (0, Ask::Do(Op::Put(2, 20)), NEW),
+        (1, Ask::Begin, Told::Done),
+        (1, Ask::Do(Op::Put(4, 40)), NEW),
+        (1, Ask::Commit, Told::Number(1)),
+        (0, Ask::Do(Op::Get(4)), Told::Replied(Some(40))),
+        (0, Ask::Commit, Told::Number(2)),
+    ],
+    left: &[(2, 20), (4, 40)],
+};
+
+/// What a return to a savepoint takes back, and the levels that it drops.
+static SAVEPOINTS: Worked<'static> = Worked {
+    stripes: 4,
+    callers: 1,
+    rows: &[
+        (0, Ask::Begin, Told::Done),
+        (0, Ask::Do(Op::Put(1, 10)), NEW),
+        (0, Ask::Save, Told::Number(1)),
+        (0, Ask::Do(Op::Put(1, 11)), TEN),
+        (0, Ask::Do(Op::Put(5, 50)), NEW),
+        (0, Ask::Save, Told::Number(2)),
+        (0, Ask::Do(Op::Take(1)), Told::Replied(Some(11))),
+        (0, Ask::Do(Op::Put(2, 20)), NEW),
+        (0, Ask::Back(1), Told::Done),
+        (0, Ask::Do(Op::Get(1)), TEN),
+        (0, Ask::Do(Op::Get(5)), NEW),
+        (0, Ask::Do(Op::Get(2)), NEW),
+        (0, Ask::Back(1), Told::Done),
+        (0, Ask::Do(Op::Get(1)), TEN),
+        (0, Ask::Back(2), Told::Refused(Refusal::NoSuchLevel)),
+        (0, Ask::Back(0), Told::Done),
+        (0, Ask::Do(Op::Get(1)), NEW),
+        (0, Ask::Save, Told::Number(1)),
+        (0, Ask::Commit, Told::Number(1)),
+    ],
+    left: &[],
+};
+
+/// Nine changes of one transaction are taken back.
+static NINE_UNDONE: Worked<'static> = Worked {
+    stripes: 8,
+    callers: 1,
+    rows: &[
+        (0, Ask::Begin, Told::Done),
+        (0, Ask::Do(Op::Put(1, 1)), NEW),
+        (0, Ask::Do(Op::Put(2, 2)), NEW),
+        (0, Ask::Do(Op::Put(3, 3)), NEW),
+        (0, Ask::Do(Op::Put(4, 4)), NEW),
+        (0, Ask::Do(Op::Put(5, 5)), NEW),
+        (0, Ask::Do(Op::Put(6, 6)), NEW),
+        (0, Ask::Do(Op::Put(7, 7)), NEW),
+        (0, Ask::Do(Op::Put(8, 8)), NEW),
+        (0, Ask::Do(Op::Put(9, 9)), NEW),
+        (0, Ask::Len, Told::Number(9)),
+        (0, Ask::Abort, Told::Done),
+        (0, Ask::Begin, Told::Done),
+        (0, Ask::Len, Told::Number(0)),
+        (0, Ask::Commit, Told::Number(1)),
+    ],
+    left: &[],
+};
+
+/// What a caller refuses in each phase. A busy stripe ends the transaction; none of its calls finds
+/// one that the caller holds itself.
+static REFUSALS_IN_ORDER: Worked<'static> = Worked {
+    stripes: 4,
+    callers: 2,
+    rows: &[
+        (0, Ask::Commit, Told::Refused(Refusal::NotOpen)),
+        (0, Ask::Abort, Told::Refused(Refusal::NotOpen)),
+        (0, Ask::Save, Told::Refused(Refusal::NotOpen)),
+        (0, Ask::Back(0), Told::Refused(Refusal::NotOpen)),
+        (0, Ask::Len, Told::Refused(Refusal::NotOpen)),
+        (0, Ask::Do(Op::Get(1)), Told::Refused(Refusal::NotOpen)),
+        (0, Ask::Begin, Told::Done),
+        (0, Ask::Begin, Told::Refused(Refusal::AlreadyOpen)),
+        (0, Ask::Do(Op::Put(1, 10)), NEW),
+        (0, Ask::Do(Op::Put(5, 50)), NEW),
+        (1, Ask::Begin, Told::Done),
+        (1, Ask::Len, Told::Busy(1)),
+        (1, Ask::Do(Op::Get(2)), Told::Refused(Refusal::NotOpen)),
+        (1, Ask::Abort, Told::Refused(Refusal::NotOpen)),
+        (0, Ask::Len, Told::Number(2)),
+        (1, Ask::Begin, Told::Done),
+        (1, Ask::Do(Op::Get(2)), Told::Busy(1)),
+        (0, Ask::Commit, Told::Number(1)),
+    ],
+    left: &[(1, 10), (5, 50)],
+};
+
+#[test]
+fn first_commit(rt: HostRuntime) -> Result<(), Fail> {
+    play_worked(&rt, rt.alloc(), &FIRST_COMMIT)
 }
 
-/// Savepoints: what a return takes back, and the levels that it drops.
+#[test]
+fn abort_takes_back(rt: HostRuntime) -> Result<(), Fail> {
+    play_worked(&rt, rt.alloc(), &ABORT_TAKES_BACK)
+}
+
+#[test]
+fn aborted_take_restores(rt: HostRuntime) -> Result<(), Fail> {
+    play_worked(&rt, rt.alloc(), &ABORTED_TAKE_RESTORES)
+}
+
+#[test]
+fn busy_between_callers(rt: HostRuntime) -> Result<(), Fail> {
+    play_worked(&rt, rt.alloc(), &BUSY_BETWEEN_CALLERS)
+}
+
+#[test]
+fn keys_of_64_bits(rt: HostRuntime) -> Result<(), Fail> {
+    play_worked(&rt, rt.alloc(), &KEYS_OF_64_BITS)
+}
+
+#[test]
+fn rights_come_back(rt: HostRuntime) -> Result<(), Fail> {
+    play_worked(&rt, rt.alloc(), &RIGHTS_COME_BACK)
+}
+
+#[test]
+fn step_between(rt: HostRuntime) -> Result<(), Fail> {
+    play_worked(&rt, rt.alloc(), &STEP_BETWEEN)
+}
+
 #[test]
 fn savepoints(rt: HostRuntime) -> Result<(), Fail> {
-    let rows = [
-        (0, Ask::Begin, Told::Done),
-        (0, Ask::Do(Op::Put(1, 10)), Told::Replied(None)),
-        (0, Ask::Save, Told::Number(1)),
-        (0, Ask::Do(Op::Put(1, 11)), Told::Replied(Some(10))),
-        (0, Ask::Do(Op::Take(1)), Told::Replied(Some(11))),
-        (0, Ask::Do(Op::Put(5, 50)), Told::Replied(None)),
-        (0, Ask::Save, Told::Number(2)),
-        (0, Ask::Do(Op::Put(2, 20)), Told::Replied(None)),
-        (0, Ask::Back(1), Told::Done),
-        (0, Ask::Do(Op::Get(1)), Told::Replied(Some(10))),
-        (0, Ask::Do(Op::Get(5)), Told::Replied(None)),
-        (0, Ask::Do(Op::Get(2)), Told::Replied(None)),
-        (0, Ask::Back(2), refused(Refusal::NoSuchLevel)),
-        (0, Ask::Back(0), Told::Done),
-        (0, Ask::Do(Op::Get(1)), Told::Replied(None)),
-        (0, Ask::Save, Told::Number(1)),
-        (0, Ask::Commit, Told::Number(1)),
-    ];
-    assert!(rt; rows_right(rt.alloc(), &rows)? == rows.len());
-    Ok(())
+    play_worked(&rt, rt.alloc(), &SAVEPOINTS)
 }
 
-/// What a caller refuses in each phase.
 #[test]
-fn phases(rt: HostRuntime) -> Result<(), Fail> {
-    let rows = [
-        (0, Ask::Commit, refused(Refusal::NotOpen)),
-        (0, Ask::Abort, refused(Refusal::NotOpen)),
-        (0, Ask::Save, refused(Refusal::NotOpen)),
-        (0, Ask::Back(0), refused(Refusal::NotOpen)),
-        (0, Ask::Do(Op::Get(1)), refused(Refusal::NotOpen)),
-        (0, Ask::Begin, Told::Done),
-        (0, Ask::Begin, refused(Refusal::AlreadyOpen)),
-        (0, Ask::Abort, Told::Done),
-        (0, Ask::Abort, refused(Refusal::NotOpen)),
-    ];
-    assert!(rt; rows_right(rt.alloc(), &rows)? == rows.len());
-    Ok(())
+fn nine_undone_newest_first(rt: HostRuntime) -> Result<(), Fail> {
+    play_worked(&rt, rt.alloc(), &NINE_UNDONE)
 }
 
-/// Keys at both ends of 64 bits, which share a stripe.
 #[test]
-fn widest_keys(rt: HostRuntime) -> Result<(), Fail> {
-    let rows = [
-        (0, Ask::Begin, Told::Done),
-        (0, Ask::Do(Op::Put(3, 30)), Told::Replied(None)),
-        (0, Ask::Do(Op::Put(u64::MAX, 31)), Told::Replied(None)),
-        (0, Ask::Do(Op::Get(3)), Told::Replied(Some(30))),
-        (0, Ask::Do(Op::Get(u64::MAX)), Told::Replied(Some(31))),
-        (0, Ask::Commit, Told::Number(1)),
-    ];
-    assert!(rt; rows_right(rt.alloc(), &rows)? == rows.len());
-    Ok(())
-}
-
-/// A caller that is dropped in a transaction takes its changes back and gives its stripes back.
-#[test]
-fn dropped_in_a_transaction(rt: HostRuntime) -> Result<(), Fail> {
-    let (_host, mut callers) = open(rt.alloc(), 2)?;
-    let (Some(mut second), Some(mut first)) = (callers.pop(), callers.pop()) else {
-        return Err(AllocError)?;
-    };
-    assert!(rt; answer(&mut first, Ask::Begin) == Ok(Told::Done));
-    assert!(rt; operate(&mut first, Op::Put(1, 10)) == Ok(None));
-    drop(first);
-    assert!(rt; answer(&mut second, Ask::Begin) == Ok(Told::Done));
-    assert!(rt; operate(&mut second, Op::Get(1)) == Ok(None));
-    Ok(())
+fn refusals_in_order(rt: HostRuntime) -> Result<(), Fail> {
+    play_worked(&rt, rt.alloc(), &REFUSALS_IN_ORDER)
 }

@@ -1,0 +1,72 @@
+-- Transfers between the accounts of a striped map.
+use Rattle.std.specs.Prelude.{ℕ, ◌≡◌, ◌≢◌, ◌+◌, ◌^◌, ◌<◌, ◌≤◌, ◌⊎◌, Bool, true, false, List, [], ◌∷◌, ◌++◌, Option, Some, unwrap_or, slice_get}
+use Rattle.txn_trace.specs.declared.entry.Entry.{Entry}
+use Rattle.txn_trace.specs.declared.entry.Entry.TheVariants.{Asked, Did, Committed}
+use Rattle.txn_trace.specs.declared.holder.Holder.TheVariants.{Begun}
+use Rattle.txn_trace.specs.declared.op.Op.TheVariants.{Get, Put}
+use Rattle.txn_trace.specs.History.{is_commit}
+use Rattle.txn_trace.specs.Legal.{IsLegal}
+use Rattle.txn_trace.specs.Map.{Map}
+use Rattle.txn_trace.specs.Serial.{serial}
+use Rattle.txn_trace.specs.Shape.{own, how_many}
+use Rattle.striped_map.specs.declared.caller.Caller.{Caller}
+use Rattle.striped_map.specs.Callers.{number, seen, stripes_in}
+use Rattle.bank.specs.Transfers.{balance, IsTransfer}
+
+-- The sum cannot go over: the one account has less, or the other would have 2^64 or more.
+abbrev pub CannotMove : ℕ → ℕ → ℕ → Type 0
+CannotMove sum had has = (had < sum) ⊎ (2 ^ 64 ≤ has + sum)
+
+-- What a transfer makes of a map: the sum went over, or could not and nothing changed.
+abbrev pub Makes : ℕ → ℕ → ℕ → Bool → Map → Map → Type 0
+Makes from to sum true old new = IsTransfer from to sum old new
+Makes from to sum false old new = (new ≡ old) × CannotMove sum (balance old from) (balance old to)
+
+-- The caller has committed one transaction more. The legal history that it has seen goes on from
+-- what it had seen, and ends with this commit, which makes of the map that the commits before it
+-- leave what the transfer does.
+pub record HasTransferred (from to sum : ℕ) (moved : Bool) (a b : Caller) : Type 0 where
+  pub map_is : b.map ≡ a.map
+  pub number_is : number b ≡ number a
+  pub goes : (i : ℕ) (e : Entry) → slice_get (seen a) i ≡ Some e → slice_get (seen b) i ≡ Some e
+  pub legal : IsLegal Begun (stripes_in b) (seen b)
+  pub once : how_many is_commit (own (number a) (seen b))
+      ≡ how_many is_commit (own (number a) (seen a)) + 1
+  pub place : ℕ
+  pub before : List Entry
+  pub ends : seen b ≡ before ++ Committed (number a) place ∷ []
+  pub place_is : place ≡ how_many is_commit before + 1
+  pub makes : Makes from to sum moved (serial before) (serial (seen b))
+
+-- The caller has added just these entries, others' between.
+pub record HasAdded (a : Caller) (es : List Entry) (b : Caller) : Type 0 where
+  pub map_is : b.map ≡ a.map
+  pub number_is : number b ≡ number a
+  pub rest : List Entry
+  pub goes : seen b ≡ seen a ++ rest
+  pub own_is : own (number a) rest ≡ es
+
+-- The entries of the two reads, and of the two writes.
+abbrev pub reading : ℕ → ℕ → ℕ → Option ℕ → Option ℕ → List Entry
+reading c from to had has =
+    Asked c (Get from) ∷ Did c had ∷ Asked c (Get to) ∷ Did c has ∷ []
+
+abbrev pub writing : ℕ → ℕ → ℕ → ℕ → ℕ → Option ℕ → Option ℕ → List Entry
+writing c from to less more first second =
+    Asked c (Put from less) ∷ Did c first ∷ Asked c (Put to more) ∷ Did c second ∷ []
+
+-- Both accounts were read, and both written if the sum could go over.
+abbrev pub HasWritten : ℕ → ℕ → ℕ → ℕ → Bool → Option ℕ → Option ℕ → List Entry → Type 0
+HasWritten c from to sum true had has es = (less : ℕ) × (less + sum ≡ unwrap_or had 0)
+    × (first : Option ℕ) × (second : Option ℕ) × (es ≡ reading c from to had has
+    ++ writing c from to less (unwrap_or has 0 + sum) first second)
+HasWritten c from to sum false had has es =
+    CannotMove sum (unwrap_or had 0) (unwrap_or has 0) × (es ≡ reading c from to had has)
+
+-- The work of a transfer: the entries that it has added.
+pub record HasWorked (from to sum : ℕ) (moved : Bool) (a b : Caller) : Type 0 where
+  pub entries : List Entry
+  pub added : HasAdded a entries b
+  pub had : Option ℕ
+  pub has : Option ℕ
+  pub written : HasWritten (number a) from to sum moved had has entries

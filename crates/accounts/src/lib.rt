@@ -1,0 +1,63 @@
+//! Accounts in a striped map: a key is an account, its value what the account has.
+//!
+//! An example of a caller of `striped_map`. Proved: a transfer is one transaction of its caller,
+//! which takes the map that the commits before it leave to one in which the sum has gone over, or
+//! leaves it unchanged; whatever other callers do in their threads meanwhile.
+#![tactic(auto)]
+
+ghost use Rattle.std.specs.Prelude.{◌≡◌, ◌≢◌, false, IfOk, OnErr};
+ghost use Rattle.striped_map.specs.Callers.{IsSince};
+ghost use Rattle.accounts.specs.Transfers.{HasTransferred, HasWorked};
+
+use striped_map::{Caller, Stop, Transaction};
+
+/// Moves a sum from one account to another, in a transaction of its own, and answers whether it
+/// did: not if the first has too little, or the second would have 2^64 or more. An account without
+/// a key has 0.
+///
+/// If a stripe is busy it gives way and begins anew, at most `tries` times more.
+///
+/// # Errors
+///
+/// Those of `Caller::transact`; nothing is committed.
+///
+/// # Cost
+///
+/// A begin, two `get`s, two `put`s and a commit, and an abort for each try that fails.
+pub fn transfer(caller: &mut Caller, tries: u64, from: u64, to: u64, sum: u64) -> Result<bool, Stop>
+    requires { from ≢ to }
+    ensures closed { caller.old.is_open ≡ false → caller.new.is_open ≡ false }
+    ensures ok { IfOk result (λ moved. HasTransferred from to sum moved caller.old caller.new) }
+    ensures err { OnErr result (IsSince caller.old caller.new) }
+{
+    let (moved, _place) = caller.transact(
+        tries,
+        |t: &mut Transaction<'_>| -> Result<bool, Stop>
+            ensures same_reference { t.new.me.ghost_name ≡ t.old.me.ghost_name }
+            ensures before { t.new.before ≡ t.old.before }
+            ensures ok { IfOk result (λ moved.
+                HasWorked from to sum moved t.old.me.now t.new.me.now) }
+        { move_sum(t, from, to, sum) },
+    )?;
+    Ok(moved)
+}
+
+/// Reads both accounts, and writes both if the sum can go over.
+#[tactic(auto, using(crate::proofs::Adding::moved, crate::proofs::Adding::not_moved))]
+fn move_sum(t: &mut Transaction<'_>, from: u64, to: u64, sum: u64) -> Result<bool, Stop>
+    ensures same_reference { t.new.me.ghost_name ≡ t.old.me.ghost_name }
+    ensures before { t.new.before ≡ t.old.before }
+    ensures ok { IfOk result (λ moved. HasWorked from to sum moved t.old.me.now t.new.me.now) }
+{
+    let had = t.get(from)?.unwrap_or(0);
+    let has = t.get(to)?.unwrap_or(0);
+    let Some(less) = had.checked_sub(sum) else {
+        return Ok(false);
+    };
+    let Some(more) = has.checked_add(sum) else {
+        return Ok(false);
+    };
+    t.put(from, less)?;
+    t.put(to, more)?;
+    Ok(true)
+}

@@ -1,0 +1,197 @@
+//! Callers at the limits of the map: stripes, callers, keys, values, savepoints, and the order of
+//! the pairs.
+use crate::calls::{Ask, NEW, Row, Told, Worked, has_left, open, play, play_worked};
+use std::alloc::{AllocError, Global};
+use std::process::Abort;
+use std::test::Fail;
+use striped_map::{Caller, open_map};
+use txn_trace::{Op, Refusal};
+
+/// How many callers a map of so many stripes and callers has, or none if it is refused as a limit.
+fn callers_in(alloc: Global, stripes: usize, callers: usize) -> Result<Option<usize>, AllocError> {
+    match open_map(alloc, stripes, callers) {
+        Ok((_host, made)) => Ok(Some(made.len())),
+        Err(Refusal::Limit) => Ok(None),
+        Err(_) => Err(AllocError),
+    }
+}
+
+/// Stripes and callers, and whether there is such a map.
+const MAPS: [(usize, usize, bool); 9] = [
+    (0, 1, false),
+    (1, 0, true),
+    (1, 1, true),
+    (1, 4096, true),
+    (4096, 1, true),
+    (4096, 4096, true),
+    (1, 4097, false),
+    (4097, 1, false),
+    (
+        18_446_744_073_709_551_615,
+        18_446_744_073_709_551_615,
+        false,
+    ),
+];
+
+#[test]
+fn stripes_and_callers(rt: HostRuntime) -> Result<(), Fail> {
+    for (stripes, callers, is_there) in MAPS {
+        let made = callers_in(rt.alloc(), stripes, callers)?;
+        assert!(rt; made == is_there.then_some(callers), "{stripes} {callers}");
+    }
+    Ok(())
+}
+
+/// The last of 4,096 callers has that number.
+static LAST_CALLER: Worked<'static> = Worked {
+    stripes: 4096,
+    callers: 4096,
+    rows: &[
+        (4095, Ask::Begin, Told::Done),
+        (4095, Ask::Do(Op::Put(4095, 1)), NEW),
+        (0, Ask::Begin, Told::Done),
+        (0, Ask::Do(Op::Put(4094, 2)), NEW),
+        (0, Ask::Do(Op::Get(8191)), Told::Busy(4096)),
+        (4095, Ask::Do(Op::Get(4094)), NEW),
+        (4095, Ask::Commit, Told::Number(1)),
+    ],
+    left: &[(4095, 1)],
+};
+
+#[test]
+fn last_caller(rt: HostRuntime) -> Result<(), Fail> {
+    play_worked(&rt, rt.alloc(), &LAST_CALLER)
+}
+
+/// Each operation on a key, which at last has the value 0, with the values 0 and 2^64 - 1.
+fn each_operation(key: u64) -> [Row; 11] {
+    let (zero, most) = (Told::Replied(Some(0)), Told::Replied(Some(u64::MAX)));
+    [
+        (0, Ask::Do(Op::Get(key)), NEW),
+        (0, Ask::Do(Op::Take(key)), NEW),
+        (0, Ask::Do(Op::Put(key, 0)), NEW),
+        (0, Ask::Do(Op::PutIf(key, None, 1)), zero),
+        (0, Ask::Do(Op::PutIf(key, Some(0), u64::MAX)), zero),
+        (0, Ask::Do(Op::PutIf(key, Some(0), 1)), most),
+        (0, Ask::Do(Op::Get(key)), most),
+        (0, Ask::Do(Op::Take(key)), most),
+        (0, Ask::Do(Op::PutIf(key, Some(u64::MAX), 1)), NEW),
+        (0, Ask::Do(Op::PutIf(key, None, u64::MAX)), NEW),
+        (0, Ask::Do(Op::Put(key, 0)), most),
+    ]
+}
+
+/// Each operation on these keys, in one transaction.
+fn play_keys<R: Abort>(rt: &R, callers: &mut [Caller], keys: &[u64]) {
+    play(rt, callers, &[(0, Ask::Begin, Told::Done)]);
+    for key in keys {
+        play(rt, callers, &each_operation(*key));
+    }
+    play(rt, callers, &[(0, Ask::Commit, Told::Number(1))]);
+}
+
+/// The keys 0, 2^63 and 2^64 - 1, with their neighbours, on 1, 3 and 4,096 stripes.
+#[test]
+fn widest_keys(rt: HostRuntime) -> Result<(), Fail> {
+    let half = 9_223_372_036_854_775_808;
+    for stripes in [1, 3, 4096usize] {
+        let (mut host, mut callers) = open(rt.alloc(), stripes, 1)?;
+        let keys = [0, 1, half - 1, half, half + 1, u64::MAX - 1, u64::MAX];
+        play_keys(&rt, callers.as_mut_slice(), &keys);
+        has_left(&rt, &mut host, &keys.map(|key| (key, 0)));
+    }
+    Ok(())
+}
+
+/// Sets a thousand savepoints, each after key 1 was given the level that comes next.
+fn save_a_thousand<R: Abort>(rt: &R, callers: &mut [Caller]) {
+    for level in 1..1001u64 {
+        let had = (level > 1).then_some(level - 1);
+        let rows = [
+            (0, Ask::Do(Op::Put(1, level)), Told::Replied(had)),
+            (0, Ask::Save, Told::Number(level)),
+        ];
+        play(rt, callers, rows.as_slice());
+    }
+}
+
+/// Returns to levels, and what key 1 has there.
+const LEVELS: [Row; 13] = [
+    (0, Ask::Back(1001), Told::Refused(Refusal::NoSuchLevel)),
+    (0, Ask::Back(u64::MAX), Told::Refused(Refusal::NoSuchLevel)),
+    (0, Ask::Back(1000), Told::Done),
+    (0, Ask::Do(Op::Get(1)), Told::Replied(Some(1000))),
+    (0, Ask::Back(999), Told::Done),
+    (0, Ask::Do(Op::Get(1)), Told::Replied(Some(999))),
+    (0, Ask::Back(1000), Told::Refused(Refusal::NoSuchLevel)),
+    (0, Ask::Back(2), Told::Done),
+    (0, Ask::Do(Op::Get(1)), Told::Replied(Some(2))),
+    (0, Ask::Save, Told::Number(3)),
+    (0, Ask::Back(0), Told::Done),
+    (0, Ask::Do(Op::Get(1)), NEW),
+    (0, Ask::Save, Told::Number(1)),
+];
+
+#[test]
+fn a_thousand_savepoints(rt: HostRuntime) -> Result<(), Fail> {
+    let (_host, mut callers) = open(rt.alloc(), 1, 1)?;
+    play(&rt, callers.as_mut_slice(), &[(0, Ask::Begin, Told::Done)]);
+    save_a_thousand(&rt, callers.as_mut_slice());
+    play(&rt, callers.as_mut_slice(), LEVELS.as_slice());
+    Ok(())
+}
+
+/// Puts 202 keys in an order that looks random: the lowest and the highest 101, each low one with
+/// its double.
+fn put_scattered<R: Abort>(rt: &R, callers: &mut [Caller]) {
+    play(rt, callers, &[(0, Ask::Begin, Told::Done)]);
+    for place in 0..101u64 {
+        let key = place * 37 % 101;
+        let rows = [
+            (0, Ask::Do(Op::Put(u64::MAX - key, key)), NEW),
+            (0, Ask::Do(Op::Put(key, 2 * key)), NEW),
+        ];
+        play(rt, callers, rows.as_slice());
+    }
+}
+
+/// Those pairs by rising keys.
+fn rising(alloc: Global) -> Result<Vec<(u64, u64)>, AllocError> {
+    let mut pairs = Vec::new(alloc);
+    for key in 0..101u64 {
+        pairs.push((key, 2 * key))?;
+    }
+    for key in 0..101u64 {
+        pairs.push((u64::MAX - 100 + key, 100 - key))?;
+    }
+    Ok(pairs)
+}
+
+/// The caller of a place sees these pairs, in this order.
+fn sees<R: Abort>(rt: &R, callers: &mut [Caller], place: usize, wanted: &[(u64, u64)]) {
+    assert!(rt; place < callers.len());
+    let is_seen = match callers[place].pairs() {
+        Ok(pairs) => pairs.as_slice() == wanted,
+        Err(_) => false,
+    };
+    assert!(rt; is_seen);
+}
+
+/// Pairs are in the order of their keys, whatever the stripes: before the commit to the caller, and
+/// after it to the host.
+#[test]
+fn pairs_rise(rt: HostRuntime) -> Result<(), Fail> {
+    let wanted = rising(rt.alloc())?;
+    for stripes in [1, 7, 64, 4096usize] {
+        let (mut host, mut callers) = open(rt.alloc(), stripes, 1)?;
+        put_scattered(&rt, callers.as_mut_slice());
+        sees(&rt, callers.as_mut_slice(), 0, wanted.as_slice());
+        play(
+            &rt,
+            callers.as_mut_slice(),
+            &[(0, Ask::Commit, Told::Number(1))],
+        );
+        has_left(&rt, &mut host, wanted.as_slice());
+    }
+    Ok(())
+}
