@@ -1,2 +1,2 @@
-pub mod Ready
-pub mod Sweeps
+pub mod Entries
+pub mod Rows

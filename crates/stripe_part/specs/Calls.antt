@@ -2,7 +2,7 @@
 use Rattle.std.specs.Prelude.{◌≡◌, ℕ, true, Option, Some, List}
 use Rattle.txn_trace.specs.declared.op.Op.{Op}
 use Rattle.txn_trace.specs.declared.refusal.Refusal.{Refusal}
-use Rattle.txn_trace.specs.declared.refusal.Refusal.TheVariants.{NoMemory, StampsUsedUp}
+use Rattle.txn_trace.specs.declared.refusal.Refusal.TheVariants.{NoMemory}
 use Rattle.txn_trace.specs.Map.{reply_of, after}
 use Rattle.txn_trace.specs.Log.{log_did}
 use Rattle.txn_trace.specs.Now.{set_at}
@@ -21,11 +21,9 @@ pub record Does (old new : PartAt) (op : Op) (reply : Option ℕ) : Type 0 where
   pub content_is : new.content ≡ after old.content op
   pub log_is : new.log ≡ noted old.log op reply
 
--- Why an operation is not done: it may be a change, and no memory or no stamp was left for it.
+-- Why an operation is not done: it may be a change, and memory for it was refused.
 abbrev pub IsRefused : Op → Refusal → Type 0
-IsRefused op NoMemory = may_change op ≡ true
-IsRefused op StampsUsedUp = may_change op ≡ true
-IsRefused op refusal = ⊥
+IsRefused op refusal = (refusal ≡ NoMemory) × (may_change op ≡ true)
 
 -- The newest change is taken back: its key has the value before it, and every other key what it
 -- has now. The older changes stay.

@@ -1,4 +1,3 @@
 pub mod PartAt
 pub mod Calls
-pub mod Ready
-pub mod Stays
+pub mod Stored

@@ -1,96 +1,146 @@
-//! What is done to a table and the jobs of its open transaction. These are functions of the two
-//! fields, and not methods of `LoggedTable`, since its invariant does not hold between their steps.
-ghost use Rattle.std.specs.Prelude.{◌≡◌, ◌≢◌, ℕ, ◌<◌, Option, Some, List, [], ◌∷◌, ◌++◌, true, option_to_list, IfOk, IfErr, OnOk, OnErr, vec_capacity, vec_len};
+//! What is done to a map and the changes of its open transaction. These are functions of the two
+//! fields, and not methods of `LoggedMap`, since its invariant does not hold between their steps.
+ghost use Rattle.std.specs.Prelude.{◌≡◌, ◌≢◌, ℕ, ◌+◌, ◌<◌, ◌≤◌, Option, [], ◌∷◌, List, true, false, OnOk, OnErr, IfOk, IfErr, vec_len, vec_capacity, reverse};
+ghost use Rattle.std.specs.HashMap.{spare};
+ghost use Rattle.txn_trace.specs.Map.{after, get, reply_of};
+ghost use Rattle.txn_trace.specs.Now.{set_at};
 ghost use Rattle.txn_trace.specs.Owed.{may_change};
-ghost use Rattle.map_ops.specs.TableAt.{IsClean, nodes_of};
 ghost use Rattle.stripe_part.specs.Calls.{Does, IsRefused, TakesBack};
-ghost use Rattle.stripe_part.specs.Ready.{CanUndo, IsSound, log_of, part_of};
-ghost use Rattle.stripe_part.specs.Stays.{Stays};
+ghost use Rattle.stripe_part.specs.Stored.{map_of, part_of};
 
-use crate::growth::grow;
-use crate::sweep::tidy;
-use map_ops::{MapJob, Table};
+use std::collections::HashMap;
 use txn_trace::{Op, Refusal, Reply};
 
-/// Makes room for the job of an operation, if it may be a change, and lets the table grow if it
-/// may be a put.
-fn prepare(table: &mut Table, jobs: &mut Vec<MapJob>, op: Op) -> Result<(), Refusal>
-    requires { IsClean table.old }
-    ensures jobs { jobs.new.items ≡ jobs.old.items }
-    ensures room { OnOk result (may_change op ≡ true → vec_len jobs.new < vec_capacity jobs.new) }
-    ensures err { IfErr result (IsRefused op) }
-    ensures stays { Stays table.old table.new }
-    ensures clean { IsClean table.new }
+/// A change that can be taken back: its key, and the value before it.
+pub(crate) type Change = (u64, Option<u64>);
+
+/// Makes room for one more change: a place in the log, and in the map as many places as there are
+/// then changes, and one for a new key.
+#[inline(always)]
+fn reserve(map: &mut HashMap<u64, u64>, log: &mut Vec<Change>) -> Result<(), Refusal>
+    ensures content { map_of map.new.entries ≡ map_of map.old.entries }
+    ensures log { log.new.items ≡ log.old.items }
+    ensures place { OnOk result (vec_len log.new < vec_capacity log.new) }
+    ensures spare { OnOk result (vec_len log.new + 2 ≤ spare map.new) }
+    ensures stays { spare map.old ≤ spare map.new }
+    ensures err { IfErr result (λ refusal. refusal ≡ Refusal.NoMemory) }
 {
-    if op.may_change() && jobs.reserve(1).is_err() {
+    if log.reserve(1).is_err() || map.reserve(log.len() + 2).is_err() {
         return Err(Refusal::NoMemory);
-    }
-    if let Op::Put(key, _) | Op::PutIf(key, ..) = op {
-        grow(table, key);
     }
     Ok(())
 }
 
-/// The key that an operation with this reply has taken out.
-fn taken_key(op: Op, reply: Reply) -> Option<u64> {
-    match op {
-        Op::Take(key) => reply.map(|_| key),
-        _ => None,
-    }
-}
-
-/// The key that is taken out as the change of a job is taken back.
-fn unput_key(job: &MapJob) -> Option<u64> {
-    match job {
-        MapJob::Unput(key) => Some(key.number()),
-        _ => None,
-    }
-}
-
-/// Does an operation, and adds its job as the newest, if it is a change.
-pub(crate) fn apply(table: &mut Table, jobs: &mut Vec<MapJob>, op: Op) -> Result<Reply, Refusal>
-    requires { IsSound table.old jobs.old.items }
-    ensures ok { IfOk result (Does (part_of table.old jobs.old.items)
-        (part_of table.new jobs.new.items) op) }
-    ensures err { IfErr result (IsRefused op) }
-    ensures unchanged { OnErr result (part_of table.new jobs.new.items
-        ≡ part_of table.old jobs.old.items) }
-    ensures sound { IsSound table.new jobs.new.items }
+/// The value of a key.
+#[inline(always)]
+fn value_at(map: &HashMap<u64, u64>, key: u64) -> Option<u64>
+    ensures { result ≡ get (map_of map.now.entries) key }
 {
-    prepare(table, jobs, op)?;
-    let (reply, job) = table.apply(op)?;
-    if let Some(job) = job {
-        jobs.push_reserved(job);
+    map.get(&key).copied()
+}
+
+/// Gives a key a value, and answers the value before it.
+#[inline(always)]
+fn put(map: &mut HashMap<u64, u64>, key: u64, value: u64) -> Option<u64>
+    requires { 0 < spare map.old }
+    ensures before { result ≡ get (map_of map.old.entries) key }
+    ensures content { map_of map.new.entries ≡ set_at (map_of map.old.entries) key (Option.Some value) }
+    ensures spare { spare map.old ≤ spare map.new + 1 }
+{
+    match map.insert(key, value) {
+        Ok(before) => before,
+        Err(_) => unreachable!(),
     }
-    tidy(table, taken_key(op, reply));
+}
+
+/// Takes a key out, and answers the value that it had.
+#[inline(always)]
+fn take(map: &mut HashMap<u64, u64>, key: u64) -> Option<u64>
+    ensures before { result ≡ get (map_of map.old.entries) key }
+    ensures content { map_of map.new.entries ≡ set_at (map_of map.old.entries) key Option.None }
+    ensures spare { spare map.old ≤ spare map.new }
+{
+    map.remove(&key)
+}
+
+/// Gives a key this value, or none.
+fn set(map: &mut HashMap<u64, u64>, key: u64, value: Option<u64>)
+    requires { 0 < spare map.old }
+    ensures content { map_of map.new.entries ≡ set_at (map_of map.old.entries) key value }
+    ensures spare { spare map.old ≤ spare map.new + 1 }
+{
+    match value {
+        Some(value) => {
+            let _ = put(map, key, value);
+        }
+        None => {
+            let _ = take(map, key);
+        }
+    }
+}
+
+/// Does an operation on a map that has room for a key.
+#[inline(always)]
+fn act(map: &mut HashMap<u64, u64>, op: Op) -> Reply
+    requires { 0 < spare map.old }
+    ensures reply { result ≡ reply_of (map_of map.old.entries) op }
+    ensures content { map_of map.new.entries ≡ after (map_of map.old.entries) op }
+    ensures spare { spare map.old ≤ spare map.new + 1 }
+{
+    match op {
+        Op::Get(key) => value_at(map, key),
+        Op::Put(key, value) => put(map, key, value),
+        Op::Take(key) => take(map, key),
+        Op::PutIf(key, expected, value) => {
+            let before = value_at(map, key);
+            if before == expected {
+                put(map, key, value)
+            } else {
+                before
+            }
+        }
+    }
+}
+
+/// Does an operation, and adds it to the log as the newest, if it is a change.
+#[inline(always)]
+#[tactic(auto, using(crate::proofs::Entries::looked))]
+pub(crate) fn apply(
+    map: &mut HashMap<u64, u64>,
+    log: &mut Vec<Change>,
+    op: Op,
+) -> Result<Reply, Refusal>
+    requires { vec_len log.old ≤ spare map.old }
+    ensures ok { IfOk result (Does (part_of map.old.entries log.old.items)
+        (part_of map.new.entries log.new.items) op) }
+    ensures err { IfErr result (IsRefused op) }
+    ensures unchanged { OnErr result (part_of map.new.entries log.new.items
+        ≡ part_of map.old.entries log.old.items) }
+    ensures spare { vec_len log.new ≤ spare map.new }
+{
+    if !op.may_change() {
+        return Ok(value_at(map, op.key()));
+    }
+    reserve(map, log)?;
+    let reply = act(map, op);
+    if op.changes(reply) {
+        log.push_reserved((op.key(), reply));
+    }
     Ok(reply)
 }
 
-/// Runs the newest job, and unlinks the node that it has marked, if it took its key out.
-pub(crate) fn take_back(table: &mut Table, jobs: &mut Vec<MapJob>)
-    requires sound { IsSound table.old jobs.old.items }
-    requires some { log_of jobs.old.items ≢ [] }
+/// Gives the key of the newest change the value before it.
+pub(crate) fn take_back(map: &mut HashMap<u64, u64>, log: &mut Vec<Change>)
+    requires spare { vec_len log.old ≤ spare map.old }
+    requires some { log.old.items ≢ [] }
     ensures back { (key : ℕ) (before : Option ℕ) (older : List (ℕ × Option ℕ))
-        → log_of jobs.old.items ≡ (key, before) ∷ older
-        → TakesBack (part_of table.old jobs.old.items) (part_of table.new jobs.new.items)
-        key before older }
-    ensures sound { IsSound table.new jobs.new.items }
+        → reverse log.old.items ≡ (key, before) ∷ older
+        → TakesBack (part_of map.old.entries log.old.items)
+        (part_of map.new.entries log.new.items) key before older }
+    ensures spare { vec_len log.new ≤ spare map.new }
 {
-    let Some(job) = jobs.pop() else {
+    let Some((key, before)) = log.pop() else {
         unreachable!();
     };
-    let unput = unput_key(&job);
-    table.take_back(job);
-    tidy(table, unput);
-}
-
-/// Lets all jobs go, with their spares, so that their changes stay.
-pub(crate) fn settle(table: &mut Table, jobs: &mut Vec<MapJob>)
-    requires { IsSound table.old jobs.old.items }
-    ensures nodes { nodes_of table.new ≡ nodes_of table.old }
-    ensures none { jobs.new.items ≡ [] }
-{
-    while let Some(job) = jobs.pop() {
-        table.discard(job);
-    }
+    set(map, key, before);
 }

@@ -1,8 +1,8 @@
-//! The table of one stripe of a map that is cut into stripes, with its own undo log.
+//! The map of one stripe of a map that is cut into stripes, with its own undo log.
 //!
-//! Whoever holds a stripe has its `Part` alone, as plain memory. So a part needs none of what
-//! callers in steps need: no cursor is kept from one call to the next, no job, spare or helper is
-//! seen outside, and a table that is due to grow grows within a put.
+//! Whoever holds a stripe has its `Part` for himself, as plain memory. So a part needs none of what
+//! callers in steps need: no cursors, no marked nodes, no buckets in split order. Inside is std's
+//! hash map.
 //!
 //! A contract sees a part as a `PartAt`: its `content`, a finite map, and its `log`, for each
 //! change of the open transaction, newest first, the key with the value before it. That is the log
@@ -17,27 +17,18 @@
 //! - `settle` keeps all changes and empties the log. It takes no memory either.
 //! - `len`, `changes` and `pairs` read the part.
 //!
-//! Inside are a table of `map_ops` and the jobs of the log, in a box that is made at the first
-//! change: an empty part takes no memory, and a part is one word with its tag. True of each such
-//! pair: each job is due on the map that the newer ones leave, each owns its spare, which is no
-//! other's, and no node is marked, since the holder unlinks each node that he marks at once, by a
-//! seek for its key. So the table needs no counts of marked nodes, and a part with its first key
-//! takes about 3 KB, of which 2 KB are the row of its segments.
+//! The map and its log are in a box that is made at the first change: an empty part takes no
+//! memory, and a part is one word. The invariant: the map has room for as many keys as the log has
+//! changes. So a key that was taken out can be put back without memory: each operation that may be
+//! a change reserves its place in the log, and one more in the map, before it changes anything.
 //!
-//! **Growth.** A put doubles a table of more than two keys a bucket, and initialises the bucket of
-//! its key, after its ancestors (Shalev and Shavit, "Split-Ordered Lists: Lock-Free Extensible Hash
-//! Tables", Journal of the ACM 53, 2006). Memory that is refused to growth leaves the part, and the
-//! put goes on: growth does not change what a contract sees. That it happens is tested.
-//!
-//! `apply` and `take_back` take amortized constant time up to two keys in each of 4,096 buckets,
-//! and beyond that time in proportion to the keys of a bucket; `settle` takes constant time a
-//! change; `pairs` walks the list. Only `apply` and `pairs` take memory.
+//! A part grows by itself. `apply` takes amortized constant time, but for keys whose hashes
+//! collide; `take_back`, `settle` and `len` take constant time; `pairs` takes time in proportion to
+//! the keys. Only `apply` and `pairs` take memory.
 #![tactic(auto)]
 
 mod change;
-mod growth;
-mod logged_table;
+mod logged_map;
 mod part;
-mod sweep;
 
 pub use part::Part;

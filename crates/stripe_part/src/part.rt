@@ -1,28 +1,28 @@
-//! The public type: a box with the table and its log, made at the first change. Until then a part
-//! is empty, and the calls answer as on the empty map.
-ghost use Rattle.std.specs.Prelude.{◌≡◌, ◌≢◌, ℕ, [], ◌∷◌, List, Option, length, IfOk, IfErr, OnErr};
+//! The public type: a box with the map and its log, made at the first change. Until then a part is
+//! empty, and the calls answer as on the empty map.
+ghost use Rattle.std.specs.Prelude.{◌≡◌, ◌≢◌, ℕ, true, [], ◌∷◌, List, Option, length, IfOk, IfErr, OnErr};
 ghost use Rattle.txn_trace.specs.Map.{count_of};
-ghost use Rattle.txn_trace.specs.Ordered.{ordered};
+ghost use Rattle.txn_trace.specs.Shape.{changes};
 ghost use Rattle.stripe_part.specs.PartAt.{nothing};
 ghost use Rattle.stripe_part.specs.Calls.{Does, IsRefused, TakesBack};
 
-use crate::logged_table::LoggedTable;
+use crate::logged_map::LoggedMap;
 use std::alloc::{AllocError, Global};
 use std::marker::Model;
 use txn_trace::{Op, Refusal, Reply};
 
-/// The table of one stripe, with the changes of the open transaction that can be taken back.
+/// The map of one stripe, with the changes of the open transaction that can be taken back.
 ///
 /// A contract sees a `PartAt`: the content, a finite map, and the log, newest first, of each change
 /// its key and the value before it.
 ///
 /// # Cost
 ///
-/// An empty part takes no memory. It takes some at the first change: one box for the table and the
-/// log, and what the table takes.
+/// An empty part takes no memory. It takes some at the first change: a box for the map and the log,
+/// and what these take.
 #[derive(Drop)]
 pub struct Part {
-    inner: Option<Box<LoggedTable>>,
+    inner: Option<Box<LoggedMap>>,
 }
 
 impl Model for Part {
@@ -36,15 +36,19 @@ impl Model for Part {
     ghost view = { λ p. unwrap_or (option_map (λ b. b.value) p.inner) nothing };
 }
 
-/// An empty table with an empty log, in a box, or `NoMemory`.
-fn boxed(alloc: Global) -> Result<Box<LoggedTable>, Refusal>
-    ensures ok { IfOk result (λ made. made.value ≡ nothing) }
-    ensures err { IfErr result (λ refusal. refusal ≡ Refusal.NoMemory) }
+/// Does a change on a new map.
+#[inline(never)]
+#[tactic(auto, using(crate::proofs::Entries::may_be))]
+fn begin(alloc: Global, op: Op) -> Result<(Box<LoggedMap>, Reply), Refusal>
+    requires { changes op Option.None ≡ true }
+    ensures ok { IfOk result (λ made. Does nothing made.0.value op made.1) }
+    ensures err { IfErr result (IsRefused op) }
 {
-    let Ok(table) = LoggedTable::new(alloc) else {
+    let Ok(mut made) = Box::new(alloc, LoggedMap::new(alloc)) else {
         return Err(Refusal::NoMemory);
     };
-    Box::new(alloc, table).map_err(|_| Refusal::NoMemory)
+    let reply = made.apply(op)?;
+    Ok((made, reply))
 }
 
 impl Part {
@@ -64,14 +68,13 @@ impl Part {
     ///
     /// # Errors
     ///
-    /// `NoMemory` if memory is refused, and `StampsUsedUp` if the table has given 2^64 - 2 stamps;
-    /// never for a get. Each leaves content and log unchanged.
+    /// `NoMemory` if memory is refused, never for a get. It leaves content and log unchanged.
     ///
     /// # Cost
     ///
-    /// Amortized constant time, since the table grows within a put up to 4,096 buckets; beyond two
-    /// keys in each of these time in proportion to the keys of a bucket. May take memory, a get
-    /// none.
+    /// Amortized constant time, but for keys whose hashes collide: the hash is fixed. May take
+    /// memory, a get none.
+    #[inline(always)]
     pub fn apply(&mut self, alloc: Global, op: Op) -> Result<Reply, Refusal>
         ensures ok { IfOk result (Does self.old self.new op) }
         ensures err { IfErr result (IsRefused op) }
@@ -83,8 +86,7 @@ impl Part {
         if !op.changes(None) {
             return Ok(None);
         }
-        let mut made = boxed(alloc)?;
-        let reply = made.apply(op)?;
+        let (made, reply) = begin(alloc, op)?;
         self.inner = Some(made);
         Ok(reply)
     }
@@ -94,7 +96,7 @@ impl Part {
     ///
     /// # Cost
     ///
-    /// That of a seek for the key, as `apply`; takes no memory.
+    /// That of `apply`; takes no memory.
     pub fn take_back(&mut self)
         requires { self.old.log ≢ [] }
         ensures { (key : ℕ) (before : Option ℕ) (older : List (ℕ × Option ℕ))
@@ -110,7 +112,7 @@ impl Part {
     ///
     /// # Cost
     ///
-    /// Constant time for each change; takes no memory.
+    /// Constant time; takes no memory.
     pub fn settle(&mut self)
         ensures content { self.new.content ≡ self.old.content }
         ensures log { self.new.log ≡ [] }
@@ -140,7 +142,7 @@ impl Part {
         }
     }
 
-    /// The keys with their values, each once, in the order of their split keys.
+    /// The keys with their values, by rising keys.
     ///
     /// # Errors
     ///
@@ -148,9 +150,9 @@ impl Part {
     ///
     /// # Cost
     ///
-    /// Time and memory in proportion to the keys and the buckets.
+    /// Memory in proportion to the keys, and the time of a sort of them.
     pub fn pairs(&self, alloc: Global) -> Result<Vec<(u64, u64)>, AllocError>
-        ensures { IfOk result (λ pairs. pairs.items ≡ ordered self.now.content) }
+        ensures { IfOk result (λ pairs. pairs.items ≡ self.now.content.rows) }
     {
         match &self.inner {
             Some(inner) => inner.pairs(alloc),

@@ -11,8 +11,6 @@ use Rattle.txn_trace.specs.declared.entry.Entry.{Entry}
 use Rattle.txn_trace.specs.declared.holder.Holder.TheVariants.{Begun}
 use Rattle.txn_trace.specs.declared.op.Op.{Op}
 use Rattle.txn_trace.specs.declared.op.Op.TheVariants.{Put, Take, Get, PutIf}
-use Rattle.txn_trace.specs.declared.refusal.Refusal.{Refusal}
-use Rattle.txn_trace.specs.declared.refusal.Refusal.TheVariants.{NoMemory, StampsUsedUp}
 use Rattle.txn_trace.specs.Map.{Map, get, insert, after, key_of}
 use Rattle.txn_trace.specs.Now.{now, set_at}
 use Rattle.txn_trace.specs.Locks.{stripe_of}
@@ -22,12 +20,12 @@ use Rattle.txn_trace.proofs.Acting.{get-after_other}
 use Rattle.txn_trace.proofs.Maps.{get-insert-here, get-remove-here}
 use Rattle.txn_trace.proofs.Table.{get-set_at}
 use Rattle.stripe_part.specs.PartAt.{PartAt}
-use Rattle.stripe_part.specs.Calls.{Does, IsRefused, TakesBack}
+use Rattle.stripe_part.specs.Calls.{Does, TakesBack}
 use Rattle.striped_map.specs.declared.view.View.{View}
 use Rattle.striped_map.specs.declared.held.Held.{Held}
 use Rattle.striped_map.specs.Rule.{times, Holds, Fits}
 use Rattle.striped_map.specs.Steps.{Extends, TakesIn, removed, lost, undone}
-use Rattle.striped_map.specs.Handling.{IsShort, under}
+use Rattle.striped_map.specs.Handling.{under}
 use Rattle.striped_map.specs.Sound.{stripes_in, log_in, AreHeld, AreLogged}
 use Rattle.striped_map.proofs.Lands.{own-append, own-none}
 
@@ -41,7 +39,7 @@ pub none_some : {A : Type 0} (a : A) → None ≡ Some a → ⊥
 none_some a e = cc (e)
 
 -- Places of lists.
-push_at : {A : Type 0} (xs : List A) (x a : A) (i : ℕ) → slice_get (xs ++ x ∷ []) i ≡ Some a → (slice_get xs i ≡ Some a) ⊎ ((i ≡ length xs) × (x ≡ a))
+pub push_at : {A : Type 0} (xs : List A) (x a : A) (i : ℕ) → slice_get (xs ++ x ∷ []) i ≡ Some a → (slice_get xs i ≡ Some a) ⊎ ((i ≡ length xs) × (x ≡ a))
 push_at [] x a zero e = inr (refl, some_same x a e)
 push_at [] x a (suc i) e = absurd (none_some a e)
 push_at (y ∷ xs) x a zero e = inl e
@@ -75,7 +73,7 @@ read_at (x ∷ xs) zero h lt e = ap (λ (y : Held). Some y) (sym e)
 read_at (x ∷ xs) (suc k) h lt e = read_at xs k h (omega arith) e
 
 -- The stripes of parts.
-stripes_push : (held : List Held) (h : Held) → stripes_in (held ++ h ∷ []) ≡ stripes_in held ++ h.stripe ∷ []
+pub stripes_push : (held : List Held) (h : Held) → stripes_in (held ++ h ∷ []) ≡ stripes_in held ++ h.stripe ∷ []
 stripes_push [] h = refl
 stripes_push (x ∷ held) h = ap (λ (l : List ℕ). x.stripe ∷ l) (stripes_push held h)
 
@@ -89,7 +87,7 @@ part_at [] i k e = absurd (none_some k e)
 part_at (x ∷ held) zero k e = (x, refl, some_same x.stripe k e)
 part_at (x ∷ held) (suc i) k e = part_at held i k e
 
-stripes_set : (held : List Held) (j : ℕ) (h new : Held) → slice_get held j ≡ Some h → new.stripe ≡ h.stripe → stripes_in (set held j new) ≡ stripes_in held
+pub stripes_set : (held : List Held) (j : ℕ) (h new : Held) → slice_get held j ≡ Some h → new.stripe ≡ h.stripe → stripes_in (set held j new) ≡ stripes_in held
 stripes_set [] j h new at same = refl
 stripes_set (x ∷ held) zero h new at same = ap (λ (k : ℕ). k ∷ stripes_in held) (same ∙ ap (λ (y : Held). y.stripe) (sym (some_same x h at)))
 stripes_set (x ∷ held) (suc j) h new at same = ap (λ (l : List ℕ). x.stripe ∷ l) (stripes_set held j h new at same)
@@ -392,9 +390,3 @@ back_step m left less jobs older job e f = subst (λ (l : ℕ). (undone (set_at 
 -- No change is left to be taken back.
 pub back_done : (m : Map) (left : ℕ) (jobs : List Job) → left ≡ 0 → (undone m (take left jobs) ≡ m) × (drop left jobs ≡ jobs)
 back_done m left jobs e = subst (λ (l : ℕ). (undone m (take l jobs) ≡ m) × (drop l jobs ≡ jobs)) (sym e) (refl, refl)
-
--- A part that is refused says why an operation is.
-pub short_of : (op : Op) (refusal : Refusal) → IsRefused op refusal → IsShort op refusal
-short_of op NoMemory is = tt
-short_of op StampsUsedUp is = is
-short_of op _ is = absurd is

@@ -1,28 +1,25 @@
 -- The pairs of the parts of all stripes are the pairs of the map.
-use Rattle.std.proofs.Common.{◌≡◌, ◌≢◌, ℕ, zero, suc, ◌+◌, ◌*◌, ◌/◌, ◌%◌, ◌<◌, ◌≤◌, ◌==◌, ◌⊎◌, Bool, true, false, cond, T, List, [], ◌∷◌, ◌++◌, length, map, filter, flat_map, sum_by, get_or, reverse, None, Some, slice_get, sym, refl, ◌∙◌, ap, subst, inl, inr, ⊎_elim, arith, eq-eqb, ne_eqb, IsPermutation, IsSorted, is_lt, is_eq, is_some, fold, nat_cmp, Ordering, Less, Equal, Greater, append-nil, le_of_eq, lt_of_not-le, mod-lt}
+use Rattle.std.proofs.Common.{◌≡◌, ◌≢◌, ℕ, zero, suc, ◌+◌, ◌*◌, ◌/◌, ◌%◌, ◌<◌, ◌≤◌, ◌==◌, Bool, cond, T, List, [], ◌∷◌, ◌++◌, length, map, filter, flat_map, sum_by, reverse, Some, slice_get, sym, refl, ◌∙◌, ap, subst, arith, eq-eqb, ne_eqb, IsPermutation, is_lt, nat_cmp, Less, le_of_eq, lt_of_not-le, mod-lt}
 use mathlib.Core.Logic.{dite}
 use native.Mathlib.Decide.{ℕ_discrete}
-use Rattle.std.specs.List.Sorted.{IsNonDecreasingBy}
 use Rattle.std.specs.FinMap.{nat_cmp-IsAntisymmetric}
-use Rattle.std.specs.FinMap.Entries.{by_order, find, put, is_sorted, below_all, same_entries}
-use Rattle.std.specs.Ordering.{ordering_then, MatchOrdering}
-use Rattle.std.specs.Cmp.{nat_cmp_total, nat_cmp_is, ranks, unsigned_tied}
+use Rattle.std.specs.FinMap.Entries.{find, is_sorted, below_all, same_entries}
+use Rattle.std.specs.Cmp.{nat_cmp_total, nat_cmp_is, unsigned_tied}
 use Rattle.std.proofs.Math.Nat.{mul-le-mul_right}
-use Rattle.std.proofs.lemmas.Bool.{false≢true}
 use Rattle.std.proofs.lemmas.Nat.{div-add-mod', div-mul-add, mod-mul-add}
-use Rattle.std.proofs.lemmas.List.Sorted.{IsPermutation-refl, IsPermutation-sym, IsPermutation-trans, IsPermutation-cons, IsPermutation-middle, IsPermutation-append, IsPermutation-append_left, IsPermutation-append_right, IsPermutation-map, length_permutation, sum_by-IsPermutation, IsNonDecreasingBy-from_sort}
+use Rattle.std.proofs.lemmas.List.Sorted.{IsPermutation-refl, IsPermutation-sym, IsPermutation-trans, IsPermutation-cons, IsPermutation-middle, IsPermutation-append_right, length_permutation}
 use Rattle.std.proofs.lemmas.List.{length-map, length-append}
 use Rattle.std.proofs.lemmas.List.Sums.{sum_by-cons}
 use Rattle.txn_trace.specs.Locks.{stripe_of}
 use Rattle.txn_trace.specs.Map.{Map, get}
-use Rattle.txn_trace.specs.Ordered.{split_cmp, ordered}
-use Rattle.txn_trace.proofs.Order.{pair_parts, pair_both, value_at, value_at-put, length-ordered}
+use Rattle.txn_trace.proofs.Order.{pair_parts, pair_both}
+use Rattle.stripe_part.proofs.Rows.{below_is}
 use Rattle.striped_map.specs.declared.held.Held.{Held}
 use Rattle.striped_map.specs.declared.view.View.{View}
 use Rattle.striped_map.specs.Rule.{times, Holds, Fits}
 use Rattle.striped_map.specs.Sound.{AreHeld, stripes_in}
 use Rattle.striped_map.specs.Contents.{count_at, pairs_at, pairs_in, whole}
-use Rattle.striped_map.proofs.Hands.{at_times, holds_at, none_some, stripe_at, times_reverse}
+use Rattle.striped_map.proofs.Hands.{at_times, holds_at, stripe_at, times_reverse}
 
 abbrev Pair : Type 0
 Pair = ℕ × ℕ
@@ -38,14 +35,6 @@ abbrev pub sub_rows : ℕ → ℕ → List Pair → List Pair
 sub_rows n k rows = map (sub n) (filter (is_in n k) rows)
 
 -- Numbers compared.
-below_is : (a b : ℕ) → T (is_lt (nat_cmp a b)) → a < b
-below_is a b less = from (nat_cmp a b) refl less
-  where
-    from : (o : Ordering) → nat_cmp a b ≡ o → T (is_lt o) → a < b
-    from Less is less = subst (λ r. MatchOrdering r (a < b) (a ≡ b) (b < a)) is (ranks a b)
-    from Equal is less = absurd less
-    from Greater is less = absurd less
-
 is_below : (a b : ℕ) → a < b → T (is_lt (nat_cmp a b))
 is_below a b less = subst (λ o. T (is_lt o)) (nat_cmp_is a b Less less) tt
 
@@ -155,54 +144,15 @@ all_stripes n ks once some [] = subst (IsPermutation []) (sym (no_rows n ks)) (I
 all_stripes n ks once some (row ∷ rows) = IsPermutation-trans _ _ _ (IsPermutation-cons row _ _ (all_stripes n ks once some rows))
     (one_more n row rows ks (once (stripe_of n row.0) (mod-lt row.0 some)))
 
--- The pairs of a map in the order of the table are its rows, in another order.
-put_fresh : (key v : ℕ) (es : List Pair) → find split_cmp key es ≡ None → IsPermutation ((key, v) ∷ es) (put split_cmp key v es)
-put_fresh key v [] none = IsPermutation-refl ((key, v) ∷ [])
-put_fresh key v (e ∷ es) none = from (split_cmp key e.0) refl (λ later. put_fresh key v es later)
-  where
-    from : (o : Ordering) → split_cmp key e.0 ≡ o → (find split_cmp key es ≡ None → IsPermutation ((key, v) ∷ es) (put split_cmp key v es)) → IsPermutation ((key, v) ∷ e ∷ es) (put split_cmp key v (e ∷ es))
-    from Less is deep = subst (λ r. IsPermutation ((key, v) ∷ e ∷ es) (by_order r ((key, v) ∷ e ∷ es) ((e.0, v) ∷ es) (e ∷ put split_cmp key v es))) (sym is) (IsPermutation-refl _)
-    from Equal is deep = absurd (none_some e.1 (sym none ∙ ap (λ r. cond (is_eq r) (Some e.1) (find split_cmp key es)) is))
-    from Greater is deep = let later : find split_cmp key es ≡ None = sym (ap (λ r. cond (is_eq r) (Some e.1) (find split_cmp key es)) is) ∙ none in
-        subst (λ r. IsPermutation ((key, v) ∷ e ∷ es) (by_order r ((key, v) ∷ e ∷ es) ((e.0, v) ∷ es) (e ∷ put split_cmp key v es))) (sym is)
-        (IsPermutation-trans _ (e ∷ (key, v) ∷ es) _ (IsPermutation-sym _ _ (IsPermutation-middle (e ∷ []) (key, v) es)) (IsPermutation-cons e _ _ (deep later)))
-
-abbrev puts : List Pair → List Pair → List Pair
-puts es rows = fold (λ pairs pair. put split_cmp pair.0 pair.1 pairs) es rows
-
-find_less : (key : ℕ) (rows : List Pair) → T (below_all nat_cmp key rows) → find nat_cmp key rows ≡ None
-find_less key [] below = refl
-find_less key (row ∷ rows) below = let parts = pair_parts (is_lt (nat_cmp key row.0)) (below_all nat_cmp key rows) below in
-    ap (λ b. cond b (Some row.1) (find nat_cmp key rows)) (unsigned_tied key row.0 ∙ ne_eqb key row.0 (λ same. let less = below_is key row.0 parts.0 in omega arith)) ∙ find_less key rows parts.1
-
-puts_fresh : (rows es : List Pair) → T (is_sorted nat_cmp rows) → ((key : ℕ) → is_some (find nat_cmp key rows) ≡ true → value_at key es ≡ None) → IsPermutation (es ++ rows) (puts es rows)
-puts_fresh [] es rise fresh = subst (λ (l : List Pair). IsPermutation l es) (sym (append-nil es)) (IsPermutation-refl es)
-puts_fresh (row ∷ rows) es rise fresh =
-    let parts = pair_parts (below_all nat_cmp row.0 rows) (is_sorted nat_cmp rows) rise in
-    let here : value_at row.0 es ≡ None = fresh row.0 (ap (λ b. is_some (cond b (Some row.1) (find nat_cmp row.0 rows))) (unsigned_tied row.0 row.0 ∙ eq-eqb row.0 row.0 refl)) in
-    IsPermutation-trans _ (row ∷ es ++ rows) _ (IsPermutation-middle es row rows)
-    (IsPermutation-trans _ (put split_cmp row.0 row.1 es ++ rows) _ (IsPermutation-append_left rows (row ∷ es) (put split_cmp row.0 row.1 es) (put_fresh row.0 row.1 es here))
-    (puts_fresh rows (put split_cmp row.0 row.1 es) parts.1 (λ key there. still parts.0 key there)))
-  where
-    still : T (below_all nat_cmp row.0 rows) → (key : ℕ) → is_some (find nat_cmp key rows) ≡ true → value_at key (put split_cmp row.0 row.1 es) ≡ None
-    still below key there = dite (ℕ_discrete key row.0)
-        (λ (same : key ≡ row.0). absurd (false≢true (sym (ap is_some (ap (λ x. find nat_cmp x rows) same ∙ find_less row.0 rows below)) ∙ there)))
-        (λ other. value_at-put key row.0 row.1 es ∙ ap (λ b. cond b (Some row.1) (value_at key es)) (ne_eqb key row.0 other)
-        ∙ fresh key (ap (λ b. is_some (cond b (Some row.1) (find nat_cmp key rows))) (unsigned_tied key row.0 ∙ ne_eqb key row.0 other) ∙ there))
-
-ordered_rows : (m : Map) → IsPermutation m.rows (ordered m)
-ordered_rows m = puts_fresh m.rows [] m.rising (λ key there. refl)
-
 -- The pairs of parts that fit are the rows of their stripes.
-part_pairs : (n : ℕ) (h : Held) (m : Map) → h.stripe < n → Fits n h.stripe h.part m → IsPermutation (filter (is_in n h.stripe) m.rows) (pairs_at n h)
-part_pairs n h m lt fits = subst (λ (l : List Pair). IsPermutation l (pairs_at n h)) (ap (map (whole n h.stripe)) (part_rows n h.stripe lt h.part.content m fits) ∙ whole_sub n h.stripe m.rows)
-    (IsPermutation-map (whole n h.stripe) h.part.content.rows (ordered h.part.content) (ordered_rows h.part.content))
+part_pairs : (n : ℕ) (h : Held) (m : Map) → h.stripe < n → Fits n h.stripe h.part m → pairs_at n h ≡ filter (is_in n h.stripe) m.rows
+part_pairs n h m lt fits = ap (map (whole n h.stripe)) (part_rows n h.stripe lt h.part.content m fits) ∙ whole_sub n h.stripe m.rows
 
-parts_pairs : (n : ℕ) (m : Map) (held : List Held) → ((i : ℕ) (h : Held) → slice_get held i ≡ Some h → (h.stripe < n) × Fits n h.stripe h.part m) → IsPermutation (by_stripes n (stripes_in held) m.rows) (pairs_in n held)
-parts_pairs n m [] fit = IsPermutation-refl []
+parts_pairs : (n : ℕ) (m : Map) (held : List Held) → ((i : ℕ) (h : Held) → slice_get held i ≡ Some h → (h.stripe < n) × Fits n h.stripe h.part m) → pairs_in n held ≡ by_stripes n (stripes_in held) m.rows
+parts_pairs n m [] fit = refl
 parts_pairs n m (h ∷ held) fit = let first = fit 0 h refl in
-    IsPermutation-append (filter (is_in n h.stripe) m.rows) (pairs_at n h) (by_stripes n (stripes_in held) m.rows) (pairs_in n held) (part_pairs n h m first.0 first.1)
-    (parts_pairs n m held (λ i other at. fit (suc i) other at))
+    ap (λ (l : List Pair). l ++ pairs_in n held) (part_pairs n h m first.0 first.1)
+    ∙ ap (λ (l : List Pair). filter (is_in n h.stripe) m.rows ++ l) (parts_pairs n m held (λ i other at. fit (suc i) other at))
 
 times_once : (k : ℕ) (ks : List ℕ) → ((i j stripe : ℕ) → slice_get ks i ≡ Some stripe → slice_get ks j ≡ Some stripe → i ≡ j) → times k ks ≤ 1
 times_once k [] apart = omega arith
@@ -220,9 +170,9 @@ times_once k (x ∷ ks) apart = dite (ℕ_discrete x k)
 
 -- Whoever holds every stripe has the map's pairs.
 pub all_pairs : (n : ℕ) (v : View) (held : List Held) (m : Map) → 0 < n → AreHeld n v held m → ((k : ℕ) → k < n → Holds v k) → ((k : ℕ) → Holds v k → k < n) → IsPermutation m.rows (pairs_in n held)
-all_pairs n v held m some s all inside = IsPermutation-trans _ (by_stripes n (stripes_in held) m.rows) _
+all_pairs n v held m some s all inside = subst (IsPermutation m.rows)
+    (sym (parts_pairs n m held (λ i h at. (inside h.stripe (holds_at n v held m s i h.stripe (stripe_at held i h at)), s.fits i h at))))
     (all_stripes n (stripes_in held) once some m.rows)
-    (parts_pairs n m held (λ i h at. (inside h.stripe (holds_at n v held m s i h.stripe (stripe_at held i h at)), s.fits i h at)))
   where
     once : (k : ℕ) → k < n → times k (stripes_in held) ≡ 1
     once k lt = let some : 0 < times k (reverse (stripes_in held)) = subst (λ (ks : List ℕ). 0 < times k ks) s.kept (all k lt) in
@@ -231,61 +181,8 @@ all_pairs n v held m some s all inside = IsPermutation-trans _ (by_stripes n (st
 -- How many there are.
 length_pairs : (n : ℕ) (held : List Held) → length (pairs_in n held) ≡ sum_by count_at held
 length_pairs n [] = refl
-length_pairs n (h ∷ held) = length-append (pairs_at n h) (pairs_in n held) ∙ ap (λ (c : ℕ). c + length (pairs_in n held)) (length-map (ordered h.part.content) (whole n h.stripe) ∙ length-ordered h.part.content)
+length_pairs n (h ∷ held) = length-append (pairs_at n h) (pairs_in n held) ∙ ap (λ (c : ℕ). c + length (pairs_in n held)) (length-map h.part.content.rows (whole n h.stripe))
     ∙ ap (λ (c : ℕ). count_at h + c) (length_pairs n held) ∙ sym (sum_by-cons count_at h held)
 
 pub all_counted : (n : ℕ) (held : List Held) (m : Map) → IsPermutation m.rows (pairs_in n held) → sum_by count_at held ≡ length m.rows
 all_counted n held m p = sym (length_pairs n held) ∙ length_permutation m.rows (pairs_in n held) p
-
--- A list that does not fall by keys and has just the pairs of a list that rises is that list.
-abbrev occurs : Pair → Pair → ℕ
-occurs p x = cond (x.0 == p.0) (cond (x.1 == p.1) 1 0) 0
-
-occurs_here : (p : Pair) → occurs p p ≡ 1
-occurs_here p = ap (λ b. cond b (cond (p.1 == p.1) 1 0) 0) (eq-eqb p.0 p.0 refl) ∙ ap (λ b. cond b 1 0) (eq-eqb p.1 p.1 refl)
-
-occurs_away : (p x : Pair) → x ≢ p → occurs p x ≡ 0
-occurs_away p x ne = dite (ℕ_discrete x.0 p.0)
-    (λ (e : x.0 ≡ p.0). ap (λ b. cond b (cond (x.1 == p.1) 1 0) 0) (eq-eqb x.0 p.0 e) ∙ ap (λ b. cond b 1 0) (ne_eqb x.1 p.1 (λ f. ne (λ i. (e i, f i)))))
-    (λ other. ap (λ b. cond b (cond (x.1 == p.1) 1 0) 0) (ne_eqb x.0 p.0 other))
-
-pair_cases : (x p : Pair) → (x ≡ p) ⊎ (x ≢ p)
-pair_cases x p = dite (ℕ_discrete x.0 p.0)
-    (λ (e : x.0 ≡ p.0). dite (ℕ_discrete x.1 p.1) (λ (f : x.1 ≡ p.1). inl (λ i. (e i, f i))) (λ other. inr (λ same. other (ap (λ (y : Pair). y.1) same))))
-    (λ other. inr (λ same. other (ap (λ (y : Pair). y.0) same)))
-
-occurs_at : (p : Pair) (xs : List Pair) → 0 < sum_by (occurs p) xs → (i : ℕ) × (i < length xs) × (get_or xs i p ≡ p)
-occurs_at p [] some = absurd (omega arith)
-occurs_at p (x ∷ xs) some = ⊎_elim (λ (e : x ≡ p). (0, omega arith, e))
-    (λ (ne : x ≢ p). let sum = sum_by-cons (occurs p) x xs in let none = occurs_away p x ne in let deep = occurs_at p xs (omega arith) in let within = deep.1 in (suc deep.0, omega arith, deep.2)) (pair_cases x p)
-
-below_at : (key : ℕ) (rows : List Pair) → T (below_all nat_cmp key rows) → (i : ℕ) (d : Pair) → i < length rows → key < (get_or rows i d).0
-below_at key [] below i d lt = absurd (omega arith)
-below_at key (row ∷ rows) below zero d lt = below_is key row.0 (pair_parts (is_lt (nat_cmp key row.0)) (below_all nat_cmp key rows) below).0
-below_at key (row ∷ rows) below (suc i) d lt = below_at key rows (pair_parts (is_lt (nat_cmp key row.0)) (below_all nat_cmp key rows) below).1 i d (omega arith)
-
-same_rows : (rows found : List Pair) → T (is_sorted nat_cmp rows) → IsNonDecreasingBy (λ (p : Pair). p.0) found → ((p : Pair) → sum_by (occurs p) found ≡ sum_by (occurs p) rows) → found ≡ rows
-same_rows [] [] rise up same = refl
-same_rows [] (r ∷ found) rise up same = let sum = sum_by-cons (occurs r) r found in let here = occurs_here r in let none : sum_by (occurs r) (r ∷ found) ≡ 0 = same r in absurd (omega arith)
-same_rows (x ∷ rows) [] rise up same = let sum = sum_by-cons (occurs x) x rows in let here = occurs_here x in let none : 0 ≡ sum_by (occurs x) (x ∷ rows) = same x in absurd (omega arith)
-same_rows (x ∷ rows) (r ∷ found) rise up same = let parts = pair_parts (below_all nat_cmp x.0 rows) (is_sorted nat_cmp rows) rise in
-    ⊎_elim (λ (e : r ≡ x). ap (λ (p : Pair). p ∷ found) e ∙ ap (λ (l : List Pair). x ∷ l) (same_rows rows found parts.1 (λ i j d le lt. up (suc i) (suc j) d (omega arith) (omega arith))
-    (λ p. let a = sum_by-cons (occurs p) r found in let b = sum_by-cons (occurs p) x rows in let c = ap (occurs p) e in let s = same p in omega arith)))
-    (λ (ne : r ≢ x).
-    let later = occurs_at r rows (let a = sum_by-cons (occurs r) r found in let b = sum_by-cons (occurs r) x rows in let c = occurs_here r in let d = occurs_away r x (λ e. ne (sym e)) in let s = same r in omega arith) in
-    let also = occurs_at x found (let a = sum_by-cons (occurs x) r found in let b = sum_by-cons (occurs x) x rows in let c = occurs_here x in let d = occurs_away x r ne in let s = same x in omega arith) in
-    let less : x.0 < r.0 = subst (λ (p : Pair). x.0 < p.0) later.2 (below_at x.0 rows parts.0 later.0 r later.1) in
-    let more : r.0 ≤ x.0 = subst (λ (p : Pair). r.0 ≤ p.0) also.2 (up 0 (suc also.0) x (omega arith) (let within = also.1 in omega arith)) in
-    absurd (omega arith)) (pair_cases r x)
-
-pub all_rows : (n : ℕ) (held : List Held) (m : Map) (found : List Pair) → IsPermutation m.rows (pairs_in n held) → IsPermutation (pairs_in n held) found → IsNonDecreasingBy (λ (p : Pair). p.0) found → found ≡ m.rows
-all_rows n held m found p q up = same_rows m.rows found m.rising up (λ x. sum_by-IsPermutation (occurs x) (pairs_in n held) found q ∙ sum_by-IsPermutation (occurs x) m.rows (pairs_in n held) p)
-
--- What a sort of pairs leaves does not fall by keys.
-first_less : (a b : Ordering) → is_lt (ordering_then a b) ≡ false → is_lt a ≡ false
-first_less Less b is = is
-first_less Equal b is = refl
-first_less Greater b is = refl
-
-pub up_sorted : (found : List Pair) → IsSorted (λ (a b : Pair). ordering_then (nat_cmp a.0 b.0) (nat_cmp a.1 b.1)) found → IsNonDecreasingBy (λ (p : Pair). p.0) found
-up_sorted found sorted = IsNonDecreasingBy-from_sort (λ (p : Pair). p.0) found (λ k d low lt. first_less _ _ (sorted k d low lt))

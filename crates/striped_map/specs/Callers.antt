@@ -4,7 +4,7 @@ use Rattle.txn_trace.specs.declared.entry.Entry.{Entry}
 use Rattle.txn_trace.specs.declared.entry.Entry.TheVariants.{Began, Committed, Busy as BusyEntry, Aborted}
 use Rattle.txn_trace.specs.declared.op.Op.{Op}
 use Rattle.txn_trace.specs.declared.op.Op.TheVariants.{Get}
-use Rattle.txn_trace.specs.declared.refusal.Refusal.TheVariants.{NotOpen}
+use Rattle.txn_trace.specs.declared.refusal.Refusal.TheVariants.{NoMemory, NotOpen}
 use Rattle.txn_trace.specs.History.{is_began, is_commit}
 use Rattle.txn_trace.specs.Shape.{own, how_many}
 use Rattle.striped_map.specs.declared.caller.Caller.{Caller}
@@ -12,7 +12,6 @@ use Rattle.striped_map.specs.declared.map.StripedMap.{StripedMap}
 use Rattle.striped_map.specs.declared.stop.Stop.{Stop}
 use Rattle.striped_map.specs.declared.stop.Stop.TheVariants.{Busy, Refused}
 use Rattle.striped_map.specs.Additions.{due, above}
-use Rattle.striped_map.specs.Handling.{IsShort}
 use Rattle.striped_map.specs.Steps.{Extends, seat_of, undoing}
 use Rattle.striped_map.specs.Seats.{known, stripes_of}
 
@@ -46,14 +45,14 @@ pub record IsStep (a : Caller) (es : List Entry) (b : Caller) : Type 0 where
   pub goes : Extends (stripes_in a) (number a) (seen a) es (seen b)
 
 -- An operation was not done. Busy: another caller, which has begun a transaction before, held the
--- stripe, and the transaction is aborted. NotOpen: there is no transaction. Any other refusal:
--- memory or a stamp was refused, and the transaction is unchanged.
+-- stripe, and the transaction is aborted. NotOpen: there is no transaction. NoMemory: memory was
+-- refused, and the transaction is unchanged.
 abbrev pub IsStopped : Caller → Op → Caller → Stop → Type 0
 IsStopped a op b (Busy holder) = (a.is_open ≡ true) × (b.is_open ≡ false)
     × IsStep a (BusyEntry (number a) op holder
     ∷ undoing (number a) (changes a) (Aborted (number a))) b
 IsStopped a op b (Refused NotOpen) = (a.is_open ≡ false) × (b ≡ a)
-IsStopped a op b (Refused refusal) = IsShort op refusal × (a.is_open ≡ true)
+IsStopped a op b (Refused refusal) = (refusal ≡ NoMemory) × (a.is_open ≡ true)
     × (b.is_open ≡ true) × IsStep a [] b
 
 -- A call that takes every stripe was not done: it stopped as a look at some key does.

@@ -1,7 +1,6 @@
 -- What the parts of stripes have together.
 use Rattle.std.specs.Prelude.{ℕ, ◌+◌, ◌*◌, List, map, flat_map}
 use Rattle.txn_trace.specs.Map.{count_of}
-use Rattle.txn_trace.specs.Ordered.{ordered}
 use Rattle.striped_map.specs.declared.held.Held.{Held}
 
 -- How many pairs a part has.
@@ -12,9 +11,9 @@ count_at h = count_of h.part.content
 abbrev pub whole : ℕ → ℕ → ℕ × ℕ → ℕ × ℕ
 whole stripes stripe pair = (pair.0 * stripes + stripe, pair.1)
 
--- The pairs of a part, in the order of its table.
+-- The pairs of a part, under their whole keys.
 abbrev pub pairs_at : ℕ → Held → List (ℕ × ℕ)
-pairs_at stripes h = map (whole stripes h.stripe) (ordered h.part.content)
+pairs_at stripes h = map (whole stripes h.stripe) h.part.content.rows
 
 -- The pairs of parts, one after the other.
 abbrev pub pairs_in : ℕ → List Held → List (ℕ × ℕ)

@@ -2,9 +2,7 @@
 use Rattle.std.specs.Prelude.{◌≡◌, ◌≢◌, ℕ, [], true}
 use Rattle.txn_trace.specs.declared.op.Op.{Op}
 use Rattle.txn_trace.specs.declared.op.Op.TheVariants.{Put, Take, Get, PutIf}
-use Rattle.txn_trace.specs.declared.refusal.Refusal.{Refusal}
-use Rattle.txn_trace.specs.declared.refusal.Refusal.TheVariants.{NoMemory, StampsUsedUp}
-use Rattle.txn_trace.specs.Owed.{may_change}
+use Rattle.txn_trace.specs.declared.refusal.Refusal.TheVariants.{NoMemory}
 use Rattle.txn_trace.specs.Locks.{has_begun}
 use Rattle.striped_map.specs.declared.view.View.{View}
 use Rattle.striped_map.specs.declared.addition.Addition.{Addition}
@@ -35,9 +33,3 @@ abbrev pub IsEnd : View → Addition → Type 0
 IsEnd v Abort = Unit {0}
 IsEnd v (Yield op holder) = (has_begun holder v.seen ≡ true) × (holder ≢ v.number)
 IsEnd v _ = ⊥
-
--- Why an operation may be refused: memory, or a stamp where it may be a change.
-abbrev pub IsShort : Op → Refusal → Type 0
-IsShort op NoMemory = Unit {0}
-IsShort op StampsUsedUp = may_change op ≡ true
-IsShort op refusal = ⊥

@@ -7,7 +7,6 @@ use Rattle.txn_trace.specs.declared.op.Op.TheVariants.{Get}
 use Rattle.txn_trace.specs.declared.refusal.Refusal.TheVariants.{NoMemory}
 use Rattle.txn_trace.specs.Now.{now}
 use Rattle.txn_trace.specs.declared.seat.Phase.TheVariants.{Closed, Opened}
-use Rattle.striped_map.specs.Handling.{IsShort}
 use Rattle.striped_map.specs.declared.hand.Hand.{Hand}
 use Rattle.striped_map.specs.declared.map.StripedMap.{StripedMap}
 use Rattle.striped_map.specs.Seats.{known, stripes_of}
@@ -25,14 +24,13 @@ pub record Moves (map : StripedMap) (a : Hand) (es : List Entry) (b : Hand) : Ty
       (known b.seat).seen
 
 -- An operation was not done. Busy: another caller, which has begun a transaction before, held the
--- stripe, and the transaction is aborted. Refused: memory or a stamp was, and the transaction is
--- unchanged.
+-- stripe, and the transaction is aborted. Refused: memory was, and the transaction is unchanged.
 abbrev pub IsStopped : StripedMap → Hand → Op → Hand → Stop → Type 0
 IsStopped map a op b (Busy holder) = IsAt Closed (known b.seat) × ((known b.seat).held ≡ [])
     × Moves map a (BusyEntry (known a.seat).number op holder
     ∷ undoing (known a.seat).number (due (known a.seat)) (Aborted (known a.seat).number)) b
 IsStopped map a op b (Refused refusal) =
-    IsShort op refusal × IsAt Opened (known b.seat) × Moves map a [] b
+    (refusal ≡ NoMemory) × IsAt Opened (known b.seat) × Moves map a [] b
 
 -- A call that takes every stripe was not done: it stopped as a look at some key does.
 abbrev pub IsCut : StripedMap → Hand → Hand → Stop → Type 0

@@ -2,7 +2,7 @@
 //!
 //! The parts of the stripes that it holds lie here and not in their slots, so that an operation
 //! works on plain memory. Who calls keeps the phases.
-ghost use Rattle.std.specs.Prelude.{◌≡◌, ◌≢◌, ℕ, ◌+◌, ◌-◌, ◌<◌, ◌≤◌, ◌%◌, ◌^◌, [], ◌∷◌, IfOk, IfErr, IfSome, OnOk, OnErr, None, Some, true, slice_get, slice_index, length, take, drop, vec_len, vec_capacity};
+ghost use Rattle.std.specs.Prelude.{◌≡◌, ◌≢◌, ℕ, ◌+◌, ◌-◌, ◌/◌, ◌<◌, ◌≤◌, ◌%◌, ◌^◌, [], ◌∷◌, IfOk, IfErr, IfSome, OnOk, OnErr, None, Some, true, slice_get, slice_index, length, take, drop, vec_len, vec_capacity};
 ghost use Rattle.txn_trace.specs.declared.entry.Entry.TheVariants.{Began, Asked, Did, Saved, Leave, Returned, Committed};
 ghost use Rattle.txn_trace.specs.declared.seat.Phase.TheVariants.{Closed, Opened};
 ghost use Rattle.txn_trace.specs.Locks.{stripe_of};
@@ -16,7 +16,7 @@ ghost use Rattle.striped_map.specs.Handling.{IsEnd, IsMiss, idle};
 ghost use Rattle.striped_map.specs.Lone.{RunsAlone};
 ghost use Rattle.striped_map.specs.Rule.{Holds};
 ghost use Rattle.striped_map.specs.Seats.{IsOf, known, stripes_of};
-ghost use Rattle.striped_map.specs.Sound.{AreHeld, AreLogged, IsSound, stripes_in};
+ghost use Rattle.striped_map.specs.Sound.{AreHeld, AreLogged, IsIndexed, IsSound, stripes_in};
 ghost use Rattle.striped_map.specs.Steps.{HasAll, HasNoOther, IsAt, SeesIn, seat_of, taken_in, undone, undoing};
 
 use crate::addition::Addition;
@@ -25,7 +25,7 @@ use crate::held::Held;
 use crate::map::{StripedMap, Taken};
 use crate::seat::MapSeat;
 use crate::stop::Stop;
-use std::alloc::Global;
+use std::alloc::{AllocError, Global};
 use txn_trace::{Op, Refusal, Reply};
 
 /// A seat with the parts that it has taken, and what there is to take back. It may be let go only
@@ -33,25 +33,44 @@ use txn_trace::{Op, Refusal, Reply};
 pub(crate) struct Hand {
     pub(crate) seat: MapSeat,
     held: Vec<Held>,
+    index: Vec<usize>,
     order: Vec<usize>,
     levels: Vec<usize>,
     ghost sound: { IsSound seat.seat.table_id.slots (known seat) held.items order.items
         levels.items },
+    ghost indexed: { IsIndexed held.items index.items },
 }
 
-/// The place of a stripe among the parts that are held.
-fn place_of(held: &Vec<Held>, stripe: usize) -> Option<usize>
+/// The place of a stripe among the parts that are held. What the index has for a stripe that is not
+/// held may be any place, so it is looked at.
+#[inline(always)]
+fn place_of(held: &Vec<Held>, index: &Vec<usize>, stripe: usize) -> Option<usize>
+    requires { IsIndexed held.now.items index.now.items }
     ensures some { IfSome result (λ place. slice_get (stripes_in held.now.items) place
         ≡ Some stripe) }
     ensures none { result ≡ None → (place : ℕ)
         → slice_get (stripes_in held.now.items) place ≢ Some stripe }
 {
-    for place in 0..held.len() {
-        if held[place].stripe == stripe {
-            return Some(place);
-        }
+    let place = *index.get(stripe)?;
+    if held.get(place)?.stripe == stripe {
+        Some(place)
+    } else {
+        None
     }
-    None
+}
+
+/// Gives each stripe a place in the index. It takes memory the first time.
+#[tactic(auto, using(crate::proofs::Index::resized_at))]
+fn widen(index: &mut Vec<usize>, stripes: usize) -> Result<(), AllocError>
+    ensures long { OnOk result (stripes ≤ vec_len index.new) }
+    ensures keeps { (stripe place : ℕ) → slice_get index.old.items stripe ≡ Some place
+        → slice_get index.new.items stripe ≡ Some place }
+    ensures err { OnErr result (index.new.items ≡ index.old.items) }
+{
+    if index.len() < stripes {
+        index.resize(stripes, 0)?;
+    }
+    Ok(())
 }
 
 /// How many changes stood at a level.
@@ -63,6 +82,7 @@ fn mark_of(levels: &Vec<usize>, level: usize) -> usize
 }
 
 /// The operation under another key.
+#[inline(always)]
 fn under(op: Op, key: u64) -> Op
     ensures { result ≡ Rattle.striped_map.specs.Handling.under op key }
 {
@@ -131,6 +151,7 @@ impl Hand {
         Hand {
             seat,
             held: Vec::new(alloc),
+            index: Vec::new(alloc),
             order: Vec::new(alloc),
             levels: Vec::new(alloc),
         }
@@ -167,16 +188,20 @@ impl Hand {
         ensures order { self.new.order ≡ self.old.order }
         ensures miss { IfErr result (IsMiss (known self.new.seat)) }
     {
-        if let Some(place) = place_of(&self.held, stripe) {
+        if let Some(place) = place_of(&self.held, &self.index, stripe) {
             return Ok(place);
         }
         if self.held.reserve(1).is_err() {
             return Err(Stop::Refused(Refusal::NoMemory));
         }
+        let Ok(()) = widen(&mut self.index, map.stripes()) else {
+            return Err(Stop::Refused(Refusal::NoMemory));
+        };
         match map.take(&mut self.seat, stripe) {
             Taken::Granted(part) => {
                 let place = self.held.len();
                 self.held.push_reserved(Held { stripe, part });
+                self.index[stripe] = place;
                 Ok(place)
             }
             Taken::Denied(holder) => Err(Stop::Busy { holder }),
@@ -303,18 +328,21 @@ impl Hand {
         }
     }
 
-    /// Does an operation on the part at a place, and notes it.
+    /// Does an operation, whose key has this sub-key, on the part at a place, and notes it.
+    #[inline(always)]
     fn apply(
         &mut self,
         map: &StripedMap,
         alloc: Global,
         place: usize,
         op: Op,
+        sub_key: u64,
     ) -> Result<Reply, Refusal>
         requires map { IsOf self.old.seat map.now }
         requires open { IsAt Opened (known self.old.seat) }
         requires place { slice_get (stripes_in self.old.held.items) place
             ≡ Some (stripe_of (stripes_of map.now) (key_of op)) }
+        requires sub_key { sub_key ≡ key_of op / stripes_of map.now }
         requires room { may_change op ≡ true → vec_len self.old.order < vec_capacity self.old.order }
         ensures map { IsOf self.new.seat map.now }
         ensures open { IsAt Opened (known self.new.seat) }
@@ -324,10 +352,7 @@ impl Hand {
         ensures refused { IfErr result (IsRefused op) }
         ensures unchanged { OnErr result (self.new ≡ self.old) }
     {
-        let stripes = map.stripes() as u64;
-        let reply = self.held[place]
-            .part
-            .apply(alloc, under(op, op.key() / stripes))?;
+        let reply = self.held[place].part.apply(alloc, under(op, sub_key))?;
         map.add(&mut self.seat, map.quiet(), Addition::Note(op, reply));
         if op.changes(reply) {
             self.order.push_reserved(place);
@@ -336,7 +361,8 @@ impl Hand {
     }
 
     /// Does an operation.
-    #[tactic(auto, using(crate::proofs::Ends::moved_did, crate::proofs::Ends::moved_busy, crate::proofs::Hands::short_of))]
+    #[tactic(auto, using(crate::proofs::Ends::moved_did, crate::proofs::Ends::moved_busy))]
+    #[inline(always)]
     pub(crate) fn operate(&mut self, map: &StripedMap, alloc: Global, op: Op) -> Result<Reply, Stop>
         requires map { IsOf self.old.seat map.now }
         requires open { IsAt Opened (known self.old.seat) }
@@ -349,9 +375,11 @@ impl Hand {
         if op.may_change() && self.order.reserve(1).is_err() {
             return Err(Stop::Refused(Refusal::NoMemory));
         }
-        let stripe = (op.key() % map.stripes() as u64) as usize;
+        let stripes = map.stripes() as u64;
+        let stripe = (op.key() % stripes) as usize;
+        let sub_key = op.key() / stripes;
         match self.hold(map, stripe) {
-            Ok(place) => match self.apply(map, alloc, place, op) {
+            Ok(place) => match self.apply(map, alloc, place, op, sub_key) {
                 Ok(reply) => Ok(reply),
                 Err(refusal) => Err(Stop::Refused(refusal)),
             },
@@ -469,6 +497,7 @@ impl Hand {
         let Hand {
             seat,
             held: _,
+            index: _,
             order: _,
             levels: _,
         } = self;
@@ -483,6 +512,7 @@ impl Drop for Hand {
         let Hand {
             seat: _,
             held: _,
+            index: _,
             order: _,
             levels: _,
         } = self;

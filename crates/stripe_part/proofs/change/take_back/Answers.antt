@@ -1,9 +1,10 @@
-use Rattle.std.proofs.Common.{◌≡◌, [], ◌∷◌, ◌++◌, ap, ◌∙◌}
-use Rattle.std.specs.Prelude.{option_to_list}
-use Rattle.stripe_part.proofs.Ready.{sound_back}
+use Rattle.std.proofs.Common.{List, Option, ℕ, reverse, sym, ap, subst, ◌∙◌}
+use Rattle.stripe_part.specs.Calls.{TakesBack}
+use Rattle.stripe_part.specs.Stored.{part_of}
+use Rattle.stripe_part.proofs.Entries.{back_done}
 use Rattle.stripe_part.proofs.change.take_back.Goals as goal
 
-pub returns-clause-sound : goal.returns-clause-sound
-returns-clause-sound c =
-    let items : c.args.jobs.now.items ≡ c.pop.new.self.items ++ c.in-Some.job ∷ [] = c.pop.ensures.items ∙ ap (λ o. c.pop.new.self.items ++ option_to_list o) c.in-Some.is in
-    sound_back c.args.table.now c.take_back.new.self c.tidy.new.table c.in-Some.job c.args.jobs.now.items c.pop.new.self.items c.requires.sound items c.take_back.ensures.back c.tidy.ensures.stays c.tidy.ensures.clean
+pub returns-clause-back : goal.returns-clause-back
+returns-clause-back c k b rest is = let items = c.in-Some.ensures.items in
+    subst (λ (l : List (ℕ × Option ℕ)). TakesBack (part_of c.args.map.now.entries l) (part_of c.set.new.map.entries c.pop.new.self.items) k b rest) (sym items)
+    (back_done c.args.map.now.entries c.set.new.map.entries c.pop.new.self.items c.in-Some.key c.in-Some.before c.set.ensures.content k b rest (ap reverse (sym items) ∙ is))

@@ -1,23 +1,33 @@
-use Rattle.std.proofs.Common.{◌≡◌, ℕ, ◌<◌, Some, slice_get, length, sym, ap, ◌∙◌, arith}
-use mathlib.Core.Logic.{dite}
-use native.Mathlib.Decide.{ℕ_discrete}
-use Rattle.std.proofs.lemmas.List.{length-map}
+use Rattle.std.proofs.Common.{◌≡◌, ℕ, List, None, Some, slice_get, sym, ap, subst, ◌∙◌}
+use Rattle.std.proofs.lemmas.Option.{slice_get_past, slice_get-get_or}
 use Rattle.striped_map.specs.declared.held.Held.{Held}
-use Rattle.striped_map.specs.Sound.{stripes_in}
-use Rattle.striped_map.proofs.Hands.{read_at, stripe_at, place_in, some_same}
+use Rattle.striped_map.proofs.Hands.{read_at, stripe_at}
+use Rattle.striped_map.proofs.Index.{none_indexed, none_other, none_placed}
 use Rattle.striped_map.proofs.hand.place_of.Goals as goal
 
-pub loop-place-preserved : goal.loop-place-preserved
-loop-place-preserved c = λ place lt at. let held = c.args.held.now.items in let here = c.loop-place.place in
-    let below : here < length held = (let t = c.loop-place-test.true in let e = c.len-place-end.ensures in let o = c.args.held.now.ok.0 in omega arith) in
-    let found : slice_get (stripes_in held) here ≡ Some c.index.result.now.stripe = stripe_at held here c.index.result.now (read_at held here c.index.result.now below c.index.ensures) in
-    dite (ℕ_discrete place here)
-    (λ (e : place ≡ here). c.if-index-stripe.false (some_same _ _ (sym found ∙ ap (λ (i : ℕ). slice_get (stripes_in held) i) (sym e) ∙ at)))
-    (λ ne. c.loop-place.invariant place (omega arith) at)
+pub returns-in_err-place-clause-none : goal.returns-in_err-place-clause-none
+returns-in_err-place-clause-none c _ other at =
+    let none : slice_get c.args.index.now.items c.args.stripe ≡ None = subst (λ (xs : List ℕ). slice_get xs c.args.stripe ≡ None) c.deref.ensures.value (slice_get_past c.deref.result.now c.args.stripe c.in_err-place.ensures.lookup.3) in
+    none_indexed c.args.held.now.items c.args.index.now.items c.requires c.args.stripe none other at
 
-pub returns-clause-none : goal.returns-clause-none
-returns-clause-none c = λ none place at. let held = c.args.held.now.items in
-    let within : place < length (stripes_in held) = place_in (stripes_in held) place c.args.stripe at in
-    let long : length (stripes_in held) ≡ length held = length-map held (λ (h : Held). h.stripe) in
-    let t = c.loop-place-test.false in let e = c.len-place-end.ensures in let o = c.args.held.now.ok.0 in
-    c.loop-place.invariant place (omega arith) at
+pub returns-in_err-get-clause-none : goal.returns-in_err-get-clause-none
+returns-in_err-get-clause-none c _ other at =
+    let place : ℕ = c.in_ok-place.field-0.now in
+    let found : slice_get c.args.index.now.items c.args.stripe ≡ Some place = subst (λ (xs : List ℕ). slice_get xs c.args.stripe ≡ Some place) c.deref.ensures.value (slice_get-get_or c.deref.result.now c.args.stripe place c.in_ok-place.ensures.lookup.3.0 ∙ ap (λ (x : ℕ). Some x) (sym c.in_ok-place.ensures.lookup.1)) in
+    let none : slice_get c.args.held.now.items place ≡ None = subst (λ (xs : List Held). slice_get xs place ≡ None) c.deref-2.ensures.value (slice_get_past c.deref-2.result.now place c.in_err-get.ensures.lookup.3) in
+    none_placed c.args.held.now.items c.args.index.now.items c.requires c.args.stripe place found none other at
+
+pub returns-then-branch-stripe-clause-some : goal.returns-then-branch-stripe-clause-some
+returns-then-branch-stripe-clause-some c =
+    let place : ℕ = c.in_ok-place.field-0.now in
+    let h : Held = c.in_ok-get.field-0.now in
+    let part : slice_get c.args.held.now.items place ≡ Some h = subst (λ (xs : List Held). slice_get xs place ≡ Some h) c.deref-2.ensures.value (read_at c.deref-2.result.now place h c.in_ok-get.ensures.lookup.3.0 c.in_ok-get.ensures.lookup.1) in
+    stripe_at c.args.held.now.items place h part ∙ ap (λ (x : ℕ). Some x) c.if-branch-stripe.true
+
+pub returns-else-branch-stripe-clause-none : goal.returns-else-branch-stripe-clause-none
+returns-else-branch-stripe-clause-none c _ other at =
+    let place : ℕ = c.in_ok-place.field-0.now in
+    let h : Held = c.in_ok-get.field-0.now in
+    let found : slice_get c.args.index.now.items c.args.stripe ≡ Some place = subst (λ (xs : List ℕ). slice_get xs c.args.stripe ≡ Some place) c.deref.ensures.value (slice_get-get_or c.deref.result.now c.args.stripe place c.in_ok-place.ensures.lookup.3.0 ∙ ap (λ (x : ℕ). Some x) (sym c.in_ok-place.ensures.lookup.1)) in
+    let part : slice_get c.args.held.now.items place ≡ Some h = subst (λ (xs : List Held). slice_get xs place ≡ Some h) c.deref-2.ensures.value (read_at c.deref-2.result.now place h c.in_ok-get.ensures.lookup.3.0 c.in_ok-get.ensures.lookup.1) in
+    none_other c.args.held.now.items c.args.index.now.items c.requires c.args.stripe place h found part c.if-branch-stripe.false other at

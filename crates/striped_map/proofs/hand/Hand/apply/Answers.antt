@@ -1,4 +1,4 @@
-use Rattle.std.proofs.Common.{◌≡◌, ℕ, ◌/◌, Bool, true, false, cond, List, [], ◌∷◌, ◌++◌, Some, slice_get, set, sym, ap, subst, ◌∙◌}
+use Rattle.std.proofs.Common.{◌≡◌, ℕ, ◌/◌, Bool, true, false, cond, List, [], ◌∷◌, ◌++◌, Some, slice_get, set, refl, sym, ap, subst, ◌∙◌}
 use Rattle.txn_trace.specs.declared.op.Op.{Op}
 use Rattle.txn_trace.specs.Locks.{stripe_of}
 use Rattle.txn_trace.specs.Map.{key_of}
@@ -11,7 +11,8 @@ use Rattle.striped_map.specs.Handling.{under}
 use Rattle.striped_map.specs.Seats.{known}
 use Rattle.striped_map.specs.Sound.{IsSound}
 use Rattle.striped_map.specs.Steps.{noting, seat_of}
-use Rattle.striped_map.proofs.Hands.{part_at, place_in, read_at, stripe_at, holds_at, some_same, reply_right, parts_noted, logged_noted}
+use Rattle.striped_map.proofs.Hands.{part_at, place_in, read_at, stripe_at, holds_at, some_same, reply_right, parts_noted, logged_noted, stripes_set}
+use Rattle.striped_map.proofs.Index.{indexed_same}
 use Rattle.striped_map.proofs.Lands.{may_note}
 use Rattle.striped_map.proofs.Sounds.{sound_added}
 use Rattle.striped_map.proofs.hand.Hand.apply.Goals as goal
@@ -24,7 +25,7 @@ add-requires-clause-may c = let me = c.args.self.now in let n = c.args.map.now.t
     let h : Held = c.index_mut.result.now in
     let at : slice_get held c.args.place ≡ Some h = read_at held c.args.place h (place_in held c.args.place p.0 p.1) c.index_mut.ensures.value in
     let in_k : h.stripe ≡ stripe_of n (key_of op) = some_same _ _ (sym (stripe_at held c.args.place h at) ∙ c.requires.place) in
-    let sub = c.under.ensures ∙ ap (λ (x : ℕ). under op (x / c.stripes-stripes.result)) c.key.ensures ∙ ap (λ (x : ℕ). under op (key_of op / x)) c.stripes-stripes.ensures in
+    let sub = c.under.ensures ∙ ap (under op) c.requires.sub_key in
     let does : Does h.part c.apply.new.self (under op (key_of op / n)) reply = subst (λ (o : Op). Does h.part c.apply.new.self o reply) sub c.in_ok-reply.ensures.ok in
     may_note n v me.seat.acting (seat_of v) at_open.seat_is at_open.phase_is op reply (holds_at n v held (now v.seen) s.parts c.args.place _ c.requires.place)
     (reply_right n v held (now v.seen) s.parts c.args.place h c.apply.new.self op reply at in_k does)
@@ -36,7 +37,7 @@ invariant_of-self-then-changes c = let me = c.args.self.now in let n = c.args.ma
     let h : Held = c.index_mut.result.now in
     let at : slice_get held c.args.place ≡ Some h = read_at held c.args.place h (place_in held c.args.place p.0 p.1) c.index_mut.ensures.value in
     let in_k : h.stripe ≡ stripe_of n (key_of op) = some_same _ _ (sym (stripe_at held c.args.place h at) ∙ c.requires.place) in
-    let sub = c.under.ensures ∙ ap (λ (x : ℕ). under op (x / c.stripes-stripes.result)) c.key.ensures ∙ ap (λ (x : ℕ). under op (key_of op / x)) c.stripes-stripes.ensures in
+    let sub = c.under.ensures ∙ ap (under op) c.requires.sub_key in
     let does : Does h.part c.apply.new.self (under op (key_of op / n)) reply = subst (λ (o : Op). Does h.part c.apply.new.self o reply) sub c.in_ok-reply.ensures.ok in
     let new : Held = record { stripe = h.stripe; part = c.apply.new.self } in
     let later : List ℕ = me.order.items ++ c.args.place ∷ [] in
@@ -48,6 +49,7 @@ invariant_of-self-then-changes c = let me = c.args.self.now in let n = c.args.ma
           (sound_added n v w _ (noting v (seat_of v) op reply) (set held c.args.place new) (cond (changes op reply) later me.order.items) me.levels.items c.add.ensures.added
           (parts_noted n v held (now v.seen) s.parts c.args.place h c.apply.new.self op reply at in_k does)
           (logged_noted n v held (now v.seen) me.order.items (due v) s.parts s.logged c.args.place h c.apply.new.self op reply at in_k does) s.levelled));
+      indexed = indexed_same held (set held c.args.place new) me.index.items (stripes_set held c.args.place h new at refl) me.indexed;
     }
 
 pub invariant_of-self-else-changes : goal.invariant_of-self-else-changes
@@ -57,7 +59,7 @@ invariant_of-self-else-changes c = let me = c.args.self.now in let n = c.args.ma
     let h : Held = c.index_mut.result.now in
     let at : slice_get held c.args.place ≡ Some h = read_at held c.args.place h (place_in held c.args.place p.0 p.1) c.index_mut.ensures.value in
     let in_k : h.stripe ≡ stripe_of n (key_of op) = some_same _ _ (sym (stripe_at held c.args.place h at) ∙ c.requires.place) in
-    let sub = c.under.ensures ∙ ap (λ (x : ℕ). under op (x / c.stripes-stripes.result)) c.key.ensures ∙ ap (λ (x : ℕ). under op (key_of op / x)) c.stripes-stripes.ensures in
+    let sub = c.under.ensures ∙ ap (under op) c.requires.sub_key in
     let does : Does h.part c.apply.new.self (under op (key_of op / n)) reply = subst (λ (o : Op). Does h.part c.apply.new.self o reply) sub c.in_ok-reply.ensures.ok in
     let new : Held = record { stripe = h.stripe; part = c.apply.new.self } in
     let later : List ℕ = me.order.items ++ c.args.place ∷ [] in
@@ -69,4 +71,5 @@ invariant_of-self-else-changes c = let me = c.args.self.now in let n = c.args.ma
           (sound_added n v w _ (noting v (seat_of v) op reply) (set held c.args.place new) (cond (changes op reply) later me.order.items) me.levels.items c.add.ensures.added
           (parts_noted n v held (now v.seen) s.parts c.args.place h c.apply.new.self op reply at in_k does)
           (logged_noted n v held (now v.seen) me.order.items (due v) s.parts s.logged c.args.place h c.apply.new.self op reply at in_k does) s.levelled));
+      indexed = indexed_same held (set held c.args.place new) me.index.items (stripes_set held c.args.place h new at refl) me.indexed;
     }

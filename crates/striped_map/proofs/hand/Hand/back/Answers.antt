@@ -8,6 +8,7 @@ use Rattle.striped_map.specs.Seats.{known}
 use Rattle.striped_map.specs.Sound.{AreHeld, AreLogged, IsSound}
 use Rattle.striped_map.specs.Steps.{AddsIn, returning, seat_of, undone, undoing}
 use Rattle.striped_map.proofs.Ends.{moved}
+use Rattle.striped_map.proofs.Index.{indexed_same, same_stripes}
 use Rattle.striped_map.proofs.Lands.{may_return}
 use Rattle.striped_map.proofs.Sounds.{sound_added, level_within, order_length, take_first}
 use Rattle.striped_map.proofs.hand.Hand.back.Goals as goal
@@ -48,6 +49,7 @@ invariant_of-self c = let me = c.args.self.now in let n = c.args.map.now.table.s
     record {
       sound = subst (λ z. IsSound z.slots w held order c.truncate.new.self.items) (sym c.add.ensures.seat)
           (sound_added n v w _ (returning v (seat_of v) level (take count (due v)) (drop count (due v))) held order c.truncate.new.self.items c.add.ensures.added parts logged levelled);
+      indexed = indexed_same me.held.items held me.index.items (same_stripes _ n v me.held.items held _ _ me.sound.parts parts) me.indexed;
     }
 
 pub returns-clause-moves : goal.returns-clause-moves

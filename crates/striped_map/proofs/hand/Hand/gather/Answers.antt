@@ -9,4 +9,5 @@ invariant_of-self c = let me = c.args.self.now in let n = c.args.map.now.table.s
     let s : IsSound n v me.held.items me.order.items me.levels.items = subst (λ z. IsSound z.slots v me.held.items me.order.items me.levels.items) c.requires.map me.sound in
     record {
       sound = subst (λ z. IsSound z.slots w me.held.items me.order.items me.levels.items) (sym c.gather.ensures.seat) (sound_seen n v w me.held.items me.order.items me.levels.items s c.gather.ensures.sees);
+      indexed = me.indexed;
     }

@@ -1,9 +1,11 @@
-use Rattle.std.proofs.Common.{◌≡◌, ℕ, List, [], ◌∷◌, ◌++◌, Some, slice_get, length, sym, ap, subst, ◌∙◌, arith}
+use Rattle.std.proofs.Common.{rules, vec_len, ◌<◌, ◌≡◌, ℕ, List, [], ◌∷◌, ◌++◌, Some, slice_get, length, set, sym, ap, subst, ◌∙◌, arith}
+use Rattle.std.proofs.lemmas.List.{length-map}
 use Rattle.txn_trace.specs.Now.{now}
 use Rattle.striped_map.specs.declared.held.Held.{Held}
 use Rattle.striped_map.specs.Seats.{known}
-use Rattle.striped_map.specs.Sound.{IsSound, stripes_in}
+use Rattle.striped_map.specs.Sound.{IsIndexed, IsSound, stripes_in}
 use Rattle.striped_map.proofs.Hands.{not_held, push_last, stripe_at}
+use Rattle.striped_map.proofs.Index.{indexed_longer, indexed_taken}
 use Rattle.striped_map.proofs.Sounds.{sound_taken, sound_seen}
 use Rattle.striped_map.proofs.hand.Hand.hold.Goals as goal
 
@@ -20,6 +22,11 @@ invariant_of-self-in-Granted c = let me = c.args.self.now in let n = c.args.map.
       sound = subst (λ z. IsSound z.slots w c.push_reserved.new.self.items me.order.items me.levels.items) (sym c.take.ensures.seat)
           (subst (λ (l : List Held). IsSound n w l me.order.items me.levels.items) (sym items)
           (sound_taken n k v w me.held.items me.order.items me.levels.items c.in-Granted.part s (c.place_of.ensures.none c.in_default.is) c.in-Granted.ensures.taken));
+      indexed = subst (λ (l : List Held). IsIndexed l (set c.widen.new.index.items k c.len-place.result)) (sym items)
+          (indexed_taken me.held.items c.widen.new.index.items new c.len-place.result (c.place_of.ensures.none c.in_default.is)
+          (let lt : k < vec_len c.widen.new.index = search rules in let o = c.widen.new.index.ok.0 in omega arith)
+          (let l = c.len-place.ensures in let r = c.reserve.ensures.len in let o = me.held.ok.0 in let m = length-map me.held.items (λ (h : Held). h.stripe) in omega arith)
+          (indexed_longer me.held.items me.index.items c.widen.new.index.items c.widen.ensures.keeps me.indexed));
     }
 
 pub invariant_of-self-in-Denied-1 : goal.invariant_of-self-in-Denied-1
@@ -29,6 +36,8 @@ invariant_of-self-in-Denied-1 c = let me = c.args.self.now in let n = c.args.map
       sound = subst (λ z. IsSound z.slots w c.reserve.new.self.items me.order.items me.levels.items) (sym c.take.ensures.seat)
           (subst (λ (l : List Held). IsSound n w l me.order.items me.levels.items) (sym c.reserve.ensures.items)
           (sound_seen n v w me.held.items me.order.items me.levels.items s c.in-Denied.ensures.taken.sees));
+      indexed = subst (λ (l : List Held). IsIndexed l c.widen.new.index.items) (sym c.reserve.ensures.items)
+          (indexed_longer me.held.items me.index.items c.widen.new.index.items c.widen.ensures.keeps me.indexed);
     }
 
 pub returns-in-Granted-clause-held : goal.returns-in-Granted-clause-held

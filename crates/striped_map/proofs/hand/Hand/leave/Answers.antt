@@ -9,6 +9,7 @@ use Rattle.striped_map.specs.Sound.{AreHeld, IsSound}
 use Rattle.striped_map.specs.Steps.{Standing, AddsIn, at_end, undone}
 use Rattle.striped_map.proofs.Ends.{moved_idle}
 use Rattle.striped_map.proofs.Hands.{Job, parts_on}
+use Rattle.striped_map.proofs.Index.{indexed_none}
 use Rattle.striped_map.proofs.Sounds.{sound_ended, sound_lists, at_added, at_idle, may_end, left_end, take_all, order_length}
 use Rattle.striped_map.proofs.hand.Hand.leave.Goals as goal
 
@@ -36,6 +37,7 @@ invariant_of-self c = let me = c.args.self.now in let n = c.args.map.now.table.s
     record {
       sound = subst (λ z. IsSound z.slots u c.give_all.new.held.items c.clear.new.self.items c.clear-2.new.self.items) (sym c.give_all.ensures.map)
           (sound_lists n u _ _ _ c.give_all.ensures.none c.clear.ensures.items c.clear-2.ensures.items (sound_ended n v w u _ (undone (now v.seen) (due v)) left c.give_all.ensures.idle));
+      indexed = indexed_none c.give_all.new.held.items me.index.items c.give_all.ensures.none;
     }
 
 pub returns-clause-closed : goal.returns-clause-closed

@@ -19,4 +19,5 @@ invariant_of-self-2 c = let me = c.args.self.now in let n = c.args.map.now.table
     record {
       sound = subst (λ z. IsSound z.slots w me.held.items me.order.items c.push_reserved.new.self.items) (sym c.add.ensures.seat)
           (sound_added n v w _ (saving v (seat_of v)) me.held.items me.order.items c.push_reserved.new.self.items c.add.ensures.added s.parts s.logged kept);
+      indexed = me.indexed;
     }

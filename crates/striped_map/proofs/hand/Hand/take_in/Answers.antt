@@ -9,4 +9,5 @@ invariant_of-self c = let me = c.args.self.now in let n = c.args.map.now.table.s
     let s : IsSound n v me.held.items me.order.items me.levels.items = subst (λ z. IsSound z.slots v me.held.items me.order.items me.levels.items) c.requires.map me.sound in
     record {
       sound = subst (λ z. IsSound z.slots w me.held.items me.order.items me.levels.items) (sym c.take_in.ensures.seat) (sound_retired n v (known c.args.other) w me.held.items me.order.items me.levels.items s c.take_in.ensures.taken);
+      indexed = me.indexed;
     }
