@@ -16,7 +16,8 @@ use Rattle.undo_log.specs.SideValue.{Leveled}
 use Rattle.locked_map.specs.Calls.{Ended, FellOut, IsDone, Passed, Ran, WentOn, refused_by}
 use Rattle.locked_map.specs.Claims.{Readies, claims_at}
 use Rattle.locked_map.specs.Holds.{HasRun, IsHeld, is_out}
-use Rattle.locked_map.specs.Sides.{Follows, IsBackAt, IsSameSide}
+use Rattle.locked_map.specs.Sides.{Follows}
+use Rattle.undo_log.specs.Sides.{IsBackAt, IsSameSide}
 use Rattle.locked_map.specs.Suits.{may_refuse}
 use Rattle.locked_map.specs.Tokens.{Token, IsSameCaller, IsSameSeen}
 

@@ -15,7 +15,8 @@ use Rattle.txn_drive.specs.Drives.{first_step}
 use Rattle.txn_drive.specs.Made.{IsMade}
 use Rattle.locked_map.specs.Claims.{Readies, claims_at}
 use Rattle.locked_map.specs.Holds.{CommitNothing, IsHeld}
-use Rattle.locked_map.specs.Sides.{IsSameSide, Follows}
+use Rattle.locked_map.specs.Sides.{Follows}
+use Rattle.undo_log.specs.Sides.{IsSameSide}
 use Rattle.locked_map.specs.Suits.{may_refuse}
 use Rattle.locked_map.specs.Tokens.{Token, IsSameCaller, IsSameSeen}
 use Rattle.locked_map.specs.declared.stop.Stop.{Stop}

@@ -10,7 +10,8 @@ ghost use Rattle.locked_map.specs.Calls.{Failed, refused_by, refused_help, refus
 ghost use Rattle.locked_map.specs.Claims.{IsIdle, Readies, claims_at};
 ghost use Rattle.locked_map.specs.Holds.{Held, InStep, IsGoing, GoesTo, out_if};
 ghost use Rattle.locked_map.specs.Noted.{last_txn};
-ghost use Rattle.locked_map.specs.Sides.{CanFollow, Follows, IsReadyFor, IsSameSide};
+ghost use Rattle.locked_map.specs.Sides.{CanFollow, Follows, IsReadyFor};
+ghost use Rattle.undo_log.specs.Sides.{IsSameSide};
 ghost use Rattle.locked_map.specs.Tokens.{HasTried, HasTriedNext, IsSameButSide, IsSameCaller, IsSameClaims, IsSameSeen, IsSeated, is_over};
 
 use crate::booked::Booked;

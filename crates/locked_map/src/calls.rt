@@ -22,7 +22,7 @@ ghost use Rattle.txn_trace.specs.Sizes.{is_bad_key};
 ghost use Rattle.txn_drive.specs.Made.{undone_by};
 ghost use Rattle.locked_map.specs.Calls.{Leaves, WentOn, refused_side};
 ghost use Rattle.locked_map.specs.Noted.{last_txn};
-ghost use Rattle.locked_map.specs.Sides.{HasLevel, IsBackAt, IsSameSide, IsSettled};
+ghost use Rattle.undo_log.specs.Sides.{HasLevel, IsBackAt, IsSameSide, IsSettled};
 ghost use Rattle.locked_map.specs.Claims.{Readies, given_back};
 ghost use Rattle.locked_map.specs.Tokens.{IsSameButSide};
 

@@ -164,6 +164,7 @@ impl Hand {
         requires idle { (known self.old.seat).held ≡ [] }
         ensures map { IsOf self.new.seat map.now }
         ensures open { IsAt Opened (known self.new.seat) }
+        ensures levels { self.new.levels.items ≡ [] }
         ensures begun { (t : ℕ) × Moves map.now self.old
             (Began (known self.old.seat).number t ∷ []) self.new }
     {
@@ -186,6 +187,7 @@ impl Hand {
         ensures keeps { (other : ℕ) → Holds (known self.old.seat) other
             → Holds (known self.new.seat) other }
         ensures order { self.new.order ≡ self.old.order }
+        ensures levels { self.new.levels ≡ self.old.levels }
         ensures miss { IfErr result (IsMiss (known self.new.seat)) }
     {
         if let Some(place) = place_of(&self.held, &self.index, stripe) {
@@ -215,6 +217,7 @@ impl Hand {
         requires map { IsOf self.old.seat map.now }
         requires open { IsAt Opened (known self.old.seat) }
         ensures map { IsOf self.new.seat map.now }
+        ensures levels { OnOk result (self.new.levels ≡ self.old.levels) }
         ensures ok { OnOk result (IsAt Opened (known self.new.seat)
             × Moves map.now self.old [] self.new) }
         ensures all { OnOk result ((stripe : ℕ) → stripe < stripes_of map.now
@@ -239,6 +242,7 @@ impl Hand {
         requires map { IsOf self.old.seat map.now }
         requires open { IsAt Opened (known self.old.seat) }
         ensures map { IsOf self.new.seat map.now }
+        ensures levels { OnOk result (self.new.levels ≡ self.old.levels) }
         ensures ok { IfOk result (λ count. IsAt Opened (known self.new.seat)
             × Moves map.now self.old [] self.new
             × (count ≡ count_of (now (known self.new.seat).seen))) }
@@ -256,6 +260,7 @@ impl Hand {
         requires map { IsOf self.old.seat map.now }
         requires open { IsAt Opened (known self.old.seat) }
         ensures map { IsOf self.new.seat map.now }
+        ensures levels { OnOk result (self.new.levels ≡ self.old.levels) }
         ensures ok { IfOk result (λ pairs. IsAt Opened (known self.new.seat)
             × Moves map.now self.old [] self.new
             × (pairs.items ≡ (now (known self.new.seat).seen).rows)) }
@@ -346,6 +351,7 @@ impl Hand {
         requires room { may_change op ≡ true → vec_len self.old.order < vec_capacity self.old.order }
         ensures map { IsOf self.new.seat map.now }
         ensures open { IsAt Opened (known self.new.seat) }
+        ensures levels { self.new.levels ≡ self.old.levels }
         ensures done { IfOk result (λ reply. Moves map.now self.old
             (Asked (known self.old.seat).number op ∷ Did (known self.old.seat).number reply ∷ [])
             self.new) }
@@ -367,6 +373,7 @@ impl Hand {
         requires map { IsOf self.old.seat map.now }
         requires open { IsAt Opened (known self.old.seat) }
         ensures map { IsOf self.new.seat map.now }
+        ensures levels { OnOk result (self.new.levels ≡ self.old.levels) }
         ensures ok { IfOk result (λ reply. IsAt Opened (known self.new.seat)
             × Moves map.now self.old (Asked (known self.old.seat).number op
             ∷ Did (known self.old.seat).number reply ∷ []) self.new) }
@@ -397,6 +404,7 @@ impl Hand {
         requires open { IsAt Opened (known self.old.seat) }
         ensures map { IsOf self.new.seat map.now }
         ensures open { IsAt Opened (known self.new.seat) }
+        ensures levels { OnOk result (vec_len self.new.levels ≡ vec_len self.old.levels + 1) }
         ensures ok { IfOk result (λ level. (level + 1 ≡ length (seat_of (known self.new.seat)).kept)
             × Moves map.now self.old (Saved (known self.old.seat).number ∷ []) self.new) }
         ensures refused { IfErr result (λ refusal. refusal ≡ NoMemory) }
@@ -424,6 +432,7 @@ impl Hand {
         requires level { level < length (seat_of (known self.old.seat)).kept }
         ensures map { IsOf self.new.seat map.now }
         ensures open { IsAt Opened (known self.new.seat) }
+        ensures levels { vec_len self.new.levels ≡ level }
         ensures moves { Moves map.now self.old
             (Leave (known self.old.seat).number (Some level) ∷ undoing (known self.old.seat).number
             (above level (known self.old.seat)) (Returned (known self.old.seat).number level))

@@ -1,3 +1,4 @@
 pub mod InlineJobs
 pub mod SideValue
+pub mod Sides
 pub mod UndoLog

@@ -1,4 +1,4 @@
-use Rattle.std.proofs.Common.{◌≡◌, sym, subst, arith}
+use Rattle.std.proofs.Common.{◌≡◌, ◌∙◌, sym, subst, arith}
 use mathlib.Core.Logic.{dite}
 use native.Mathlib.Decide.{ℕ_discrete}
 use Rattle.txn_trace.specs.declared.op.Op.TheVariants.{Get}
@@ -22,6 +22,7 @@ loop-stripe-preserved c = let map = c.args.map.now in let n = map.table.shared.t
     record {
       map = c.hold.ensures.map;
       opened = c.hold.ensures.open;
+      levels = c.hold.ensures.levels ∙ inv.levels;
       moves = moved_on map c.args.self.now c.loop-stripe.self me inv.moves c.hold.ensures.moves;
       held = λ other lt. dite (ℕ_discrete other stripe)
           (λ (e : other ≡ stripe). subst (Holds v) (sym e) (holds_at n v me.held.items (now v.seen) parts c.in-Ok.field-0 stripe c.in-Ok.ensures.held))

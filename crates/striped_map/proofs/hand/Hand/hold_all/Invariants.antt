@@ -1,4 +1,4 @@
-use Rattle.std.specs.Prelude.{ℕ, ◌<◌, []}
+use Rattle.std.specs.Prelude.{◌≡◌, ℕ, ◌<◌, []}
 use Rattle.txn_trace.specs.declared.seat.Phase.TheVariants.{Opened}
 use Rattle.striped_map.specs.Hands.{Moves}
 use Rattle.striped_map.specs.Rule.{Holds}
@@ -10,6 +10,7 @@ abbrev pub invariant-loop-stripe : goal.invariant-loop-stripe
 invariant-loop-stripe l = record {
   map : IsOf l.self.seat l.map;
   opened : IsAt Opened (known l.self.seat);
+  levels : l.self.levels ≡ l.initial.self.levels;
   moves : Moves l.map l.initial.self [] l.self;
   held : (other : ℕ) → other < l.stripe → Holds (known l.self.seat) other;
 }

@@ -1,0 +1,42 @@
+-- What becomes of a work that is tried several times, each time in a transaction that is begun for
+-- it. `work` relates the caller as the work found it, its answer, and the caller as it left it.
+use Rattle.std.specs.Prelude.{◌≡◌, ℕ, zero, suc, [], ◌∷◌, Result, Ok, Err, true, false}
+use Rattle.txn_trace.specs.declared.entry.Entry.TheVariants.{Began}
+use Rattle.txn_trace.specs.declared.refusal.Refusal.TheVariants.{NotOpen}
+use Rattle.striped_map.specs.declared.caller.Caller.{Caller}
+use Rattle.striped_map.specs.declared.stop.Stop.{Stop}
+use Rattle.striped_map.specs.declared.stop.Stop.TheVariants.{Busy, Refused}
+use Rattle.striped_map.specs.Callers.{number, IsStep, IsSince}
+
+-- A relation of what holds a caller, as one of the callers.
+abbrev pub on_callers : {H A : Type 0} → (H → Caller) → (H → A → H → Type 0)
+    → Caller → A → Caller → Type 0
+on_callers caller_of relation a answer b =
+    (h : _) × (k : _) × relation h answer k × (caller_of h ≡ a) × (caller_of k ≡ b)
+
+-- Why an attempt failed: the work failed; or it succeeded after a call that was busy, and there was
+-- no transaction to commit.
+abbrev pub IsWhy : {T : Type 0} → Result T Stop → Caller → Stop → Type 0
+IsWhy (Err found) left stop = stop ≡ found
+IsWhy (Ok value) left stop = (stop ≡ Refused NotOpen) × (left.is_open ≡ false)
+
+-- One attempt that failed: a transaction was begun, and the work ran in it. Nothing is committed, and
+-- no transaction is open.
+pub record Fails {T : Type 0} (work : Caller → Result T Stop → Caller → Type 0) (a b : Caller)
+    (stop : Stop) : Type 0 where
+  pub txn : ℕ
+  pub begun : Caller
+  pub began : IsStep a (Began (number a) txn ∷ []) begun
+  pub answer : Result T Stop
+  pub left : Caller
+  pub worked : work begun answer left
+  pub why : IsWhy answer left stop
+  pub since : IsSince a b
+  pub closed : b.is_open ≡ false
+
+-- This many attempts in a row, each of which was busy.
+abbrev pub FailsBusy : {T : Type 0} → (Caller → Result T Stop → Caller → Type 0) → ℕ → Caller
+    → Caller → Type 0
+FailsBusy work zero a b = b ≡ a
+FailsBusy work (suc n) a c =
+    (b : Caller) × (holder : ℕ) × FailsBusy work n a b × Fails work b c (Busy holder)
