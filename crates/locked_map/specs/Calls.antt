@@ -18,8 +18,8 @@ use Rattle.locked_map.specs.Holds.{CommitNothing, IsHeld}
 use Rattle.locked_map.specs.Sides.{IsSameSide, Follows}
 use Rattle.locked_map.specs.Suits.{may_refuse}
 use Rattle.locked_map.specs.Tokens.{Token, IsSameCaller, IsSameSeen}
-use Rattle.map_answers.specs.declared.stop.Stop.{Stop}
-use Rattle.map_answers.specs.declared.stop.Stop.TheVariants as stops
+use Rattle.locked_map.specs.declared.stop.Stop.{Stop}
+use Rattle.locked_map.specs.declared.stop.Stop.TheVariants as stops
 
 -- The refusal of help by its key, where its map takes half keys alone or all.
 abbrev pub refused_help : Bool → Call → Option Refusal

@@ -56,15 +56,16 @@ mod pass;
 mod receipt;
 mod seen;
 mod shared_map;
+mod stop;
 mod turns;
 mod unclosed;
 
 pub use booked::Booked;
 pub use caller::Caller;
 pub use closed::Closed;
-pub use map_answers::Stop;
 pub use no_side::{NoJob, NoSide};
 pub use pass::Pass;
 pub use receipt::Receipt;
 pub use shared_map::{OnRelease, SharedMap};
+pub use stop::Stop;
 pub use unclosed::Unclosed;

@@ -13,13 +13,13 @@ fn texts_of_stops(rt: HostRuntime) -> Result<(), Fail> {
     for (stop, wanted) in [
         (
             Stop::Busy { holder: 10 },
-            "caller 10 held the stripe of the key",
+            "caller 10 held the stripe of the key; the transaction was taken back",
         ),
         (
             Stop::from(Refusal::NotOpen),
-            "the caller has no open transaction",
+            "the call was refused (refusal 3)",
         ),
-        (Stop::from(AllocError), "memory was refused"),
+        (Stop::from(AllocError), "the call was refused (refusal 14)"),
     ] {
         let text = text_of(rt.alloc(), stop)?;
         assert_eq!(&rt; text.as_str(), wanted);
