@@ -3,7 +3,7 @@
 # copied, with their lines of crates.txt and the caller's own, and what `examples` does with the caller is run there as
 # a program of its own, with no proof; it must write what `examples` writes of it. Then that each clause that the page
 # shows stands in a caller. At last it has docs/library/new.sh lay out a repository, runs its program, and proves it over
-# the work that this repository keeps in out/. Takes two minutes, and one more for that proof where all that it stands on
+# the work that this repository keeps in out/. Takes two minutes, and three more for that proof where all that it stands on
 # is proved here; else some fifteen.
 # The last line is 'library: N passed, M failed', and the status is 1 where M is not 0.
 set -u

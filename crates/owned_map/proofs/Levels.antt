@@ -41,11 +41,11 @@ module _ {rule : Holder} (limits : Sizes) (c : ℕ) (base : Map) (h : List Entry
         next.now_is,
       )
 
-  left_to_now : (n : ℕ) (stands : Stands rule limits c base Opened h) → n < length stands.seat.kept → Stands rule limits c base (LeavingTo n) (h ++ entry.Leave c (Some n) ∷ [])
+  pub left_to_now : (n : ℕ) (stands : Stands rule limits c base Opened h) → n < length stands.seat.kept → Stands rule limits c base (LeavingTo n) (h ++ entry.Leave c (Some n) ∷ [])
   left_to_now n stands within =
       stands_after limits c base h (entry.Leave c (Some n)) refl stands.within _ _ _ _ _ (laws.left_to limits.stripes h stands.legal c n stands.seat stands.seat_is stands.phase_is within) stands.back
 
-  undone_to_now : (n : ℕ) (stands : Stands rule limits c base (LeavingTo n) h) → slice_index stands.seat.kept n < stands.seat.standing → Stands rule limits c base (LeavingTo n) (h ++ entry.Undone c ∷ [])
+  pub undone_to_now : (n : ℕ) (stands : Stands rule limits c base (LeavingTo n) h) → slice_index stands.seat.kept n < stands.seat.standing → Stands rule limits c base (LeavingTo n) (h ++ entry.Undone c ∷ [])
   undone_to_now n stands more =
       let newest = laws.newest h c stands.seat stands.seat_is (some_of (slice_index stands.seat.kept n) stands.seat.standing more) in
       let next = laws.undone_to limits.stripes h stands.legal c n stands.seat stands.seat_is stands.phase_is more newest.0 newest.1 newest.2 in
@@ -55,7 +55,7 @@ module _ {rule : Holder} (limits : Sizes) (c : ℕ) (base : Map) (h : List Entry
       some_of : (m k : ℕ) → m < k → 0 < k
       some_of m k less = omega arith
 
-  returned_now : (n : ℕ) (stands : Stands rule limits c base (LeavingTo n) h) → slice_index stands.seat.kept n ≡ stands.seat.standing → Stands rule limits c base Opened (h ++ entry.Returned c n ∷ [])
+  pub returned_now : (n : ℕ) (stands : Stands rule limits c base (LeavingTo n) h) → slice_index stands.seat.kept n ≡ stands.seat.standing → Stands rule limits c base Opened (h ++ entry.Returned c n ∷ [])
   returned_now n stands reached =
       stands_after limits c base h (entry.Returned c n) refl stands.within _ _ _ _ _ (laws.returned limits.stripes h stands.legal c n stands.seat stands.seat_is stands.phase_is reached) stands.back
 
@@ -96,7 +96,7 @@ backwards old new c base n (suc changes) steps others stands moves =
     (s2, one_back between s1 s2 c base n there seek.move act.move, rest)
 
 -- Where a Returned has the right shape, just the changes of its level stand.
-reached_at : (c n m : ℕ) (h : List Entry) (seat : Seat) → seat_after (own c h) ≡ Some seat → seat.phase ≡ LeavingTo n → IsShaped (h ++ entry.Returned c m ∷ []) → (n ≡ m) × (slice_index seat.kept n ≡ seat.standing)
+pub reached_at : (c n m : ℕ) (h : List Entry) (seat : Seat) → seat_after (own c h) ≡ Some seat → seat.phase ≡ LeavingTo n → IsShaped (h ++ entry.Returned c m ∷ []) → (n ≡ m) × (slice_index seat.kept n ≡ seat.standing)
 reached_at c n m h seat seat_is leaving shaped =
     let e : Entry = entry.Returned c m in
     let there : is_some (seat_after (own c (h ++ e ∷ []))) ≡ true =
@@ -111,7 +111,7 @@ reached_at c n m h seat seat_is leaving shaped =
     tested false s there = absurd (false≢true there)
 
 -- A caller that is not refused as unready may be refused otherwise.
-past : (s : State) (c : ℕ) (rest : Option Refusal) → unready s c rest ≡ None → rest ≡ None
+pub past : (s : State) (c : ℕ) (rest : Option Refusal) → unready s c rest ≡ None → rest ≡ None
 past s c rest free =
     let q : Phase = (seat_in s.history c).phase in
     let waits : Option Refusal = cond (is_waiting q) (Some refusals.OperationUnfinished) rest in

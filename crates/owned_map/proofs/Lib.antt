@@ -4,3 +4,6 @@ pub mod Steps
 pub mod Trimming
 pub mod Calls
 pub mod Levels
+pub mod Taken
+pub mod Filling
+pub mod Savepoints

@@ -84,11 +84,11 @@ no_other_begin old new c (answers.Began t) not_begun not_refused move = not_begu
 no_other_begin old new c _ not_begun not_refused move = absurd move.allowed.1
 
 -- An operation is asked for and sought: it waits, and the reply is that of the map.
-record Waits (old between : State) (c : ℕ) (base : Map) (op : Op) : Type 0 where
+pub record Waits (old between : State) (c : ℕ) (base : Map) (op : Op) : Type 0 where
   pub stands : IsAt c base (Waiting op) between
   pub same : now between.history ≡ now old.history
 
-waits : (old between next : State) (c : ℕ) (base : Map) (op : Op) → IsAt c base Opened old → Event old (Ask c op) answers.Asked between → Event between (Seek c) answers.Placed next → Waits old next c base op
+pub waits : (old between next : State) (c : ℕ) (base : Map) (op : Op) → IsAt c base Opened old → Event old (Ask c op) answers.Asked between → Event between (Seek c) answers.Placed next → Waits old next c base op
 waits old between next c base op stands ask seek =
     let locked = (and_parts (has_stamp_for old op) _ ask.move.allowed.1).1 in
     let asked = asked_now old.limits c base old.history op stands locked in
@@ -99,12 +99,12 @@ waits old between next c base op stands ask seek =
     }
 
 -- The reply is that of the map.
-replied : (s : State) (c : ℕ) (base : Map) (op : Op) (x : Option ℕ) → IsAt c base (Waiting op) s → IsReply (seat_in s.history c).phase (now s.history) x → x ≡ reply_of (now s.history) op
+pub replied : (s : State) (c : ℕ) (base : Map) (op : Op) (x : Option ℕ) → IsAt c base (Waiting op) s → IsReply (seat_in s.history c).phase (now s.history) x → x ≡ reply_of (now s.history) op
 replied s c base op x stands reply =
     subst (λ q. IsReply q (now s.history) x) (ap (λ (seat : Seat). seat.phase) (phase_in c base (Waiting op) s stands) ∙ stands.phase_is) reply
 
 -- An operation that is done.
-does : (old new : State) (c : ℕ) (base : Map) (op : Op) (x : Option ℕ) → IsAt c base Opened old → Operates old c op (answers.Done x) new
+pub does : (old new : State) (c : ℕ) (base : Map) (op : Op) (x : Option ℕ) → IsAt c base Opened old → Operates old c op (answers.Done x) new
     → IsAt c base Opened new × HasDone op x old new
 does old new c base op x stands (s1, ask, (s2, seek, (s3, did, last))) =
     let w = waits old s1 s2 c base op stands ask seek in

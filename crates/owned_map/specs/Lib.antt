@@ -1,3 +1,4 @@
 pub mod Within
 pub mod Keeps
+pub mod Taken
 pub mod Trimmed

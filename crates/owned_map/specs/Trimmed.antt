@@ -1,5 +1,5 @@
 -- A history that was cut off: what the map that goes on begins with.
-use Rattle.std.specs.Prelude.{ℕ, ◌≡◌, ◌<◌, false, List, [], ◌∷◌, ◌++◌, None}
+use Rattle.std.specs.Prelude.{ℕ, ◌≡◌, ◌≢◌, ◌<◌, false, List, [], ◌∷◌, ◌++◌, None}
 use Rattle.std.specs.List.{flat_map}
 use Rattle.txn_trace.specs.declared.op.Op.TheVariants.{Put}
 use Rattle.txn_trace.specs.declared.entry.Entry.{Entry}
@@ -9,7 +9,9 @@ use Rattle.txn_trace.specs.declared.refusal.Refusal.TheVariants.{AlreadyOpen, No
 use Rattle.txn_trace.specs.Map.{Map}
 use Rattle.txn_trace.specs.Now.{now}
 use Rattle.txn_trace.specs.Ordered.{ordered}
+use Rattle.txn_trace.specs.declared.seat.Phase.TheVariants.{Opened}
 use Rattle.txn_trace.specs.Seats.{is_closed}
+use Rattle.txn_trace.specs.Shape.{own}
 use Rattle.boost_core.specs.State.{State, seat_in}
 use Rattle.owned_map.specs.Within.{IsIdle}
 
@@ -20,6 +22,12 @@ put_new pair = Asked 0 (Put pair.0 pair.1) ∷ Did 0 None ∷ []
 -- One committed transaction, the first, in which caller 0 puts these pairs into a map without keys.
 abbrev pub filling : List (ℕ × ℕ) → List Entry
 filling pairs = (Began 0 1 ∷ flat_map put_new pairs) ++ Committed 0 1 ∷ []
+
+-- Caller 0 is there and has a transaction, and no other caller has done anything.
+pub record IsFilling (state : State) : Type 0 where
+  pub there : 0 < state.limits.callers
+  pub opened : (seat_in state.history 0).phase ≡ Opened
+  pub alone : (d : ℕ) → d ≢ 0 → own d state.history ≡ []
 
 -- No caller has a transaction.
 abbrev pub IsAtRest : State → Type 0

@@ -1,5 +1,5 @@
 -- A transaction of one caller that no step of another comes between: what its calls leave.
-use Rattle.std.specs.Prelude.{ℕ, ◌≡◌, ◌≢◌, ◌⊎◌, Bool, true, List, [], ◌∷◌, ◌++◌, Option, Some, nat_le, false}
+use Rattle.std.specs.Prelude.{ℕ, ◌+◌, ◌-◌, ◌<◌, ◌≡◌, ◌≢◌, ◌⊎◌, Bool, true, List, [], ◌∷◌, ◌++◌, length, take, slice_index, Option, Some, nat_le, false}
 use Rattle.std.specs.List.{filter}
 use Rattle.txn_trace.specs.declared.op.Op.{Op}
 use Rattle.txn_trace.specs.declared.step.Step.{Step}
@@ -42,6 +42,40 @@ IsAt c base phase state =
 -- A caller has a transaction that began on this map and can be aborted, or is being aborted.
 abbrev pub CanAbort : ℕ → Map → State → Type 0
 CanAbort c base state = IsAt c base Opened state ⊎ IsAt c base LeavingToEnd state
+
+-- The map at a level of a caller's transaction, level 0 its beginning and each other a savepoint's
+-- number: the changes since are taken back, newest first.
+abbrev pub map_at : ℕ → ℕ → List Entry → Map
+map_at c level h =
+    taken_back (take ((seat_in h c).standing - slice_index (seat_in h c).kept level) (log_of c h))
+    (now h)
+
+-- How many levels a caller has.
+abbrev pub levels_of : ℕ → List Entry → ℕ
+levels_of c h = length (seat_in h c).kept
+
+-- The first levels of a caller, this many, have the map that they had.
+abbrev pub KeepsLevels : ℕ → ℕ → State → State → Type 0
+KeepsLevels levels c old new =
+    (level : ℕ) → level < levels → map_at c level new.history ≡ map_at c level old.history
+
+-- A caller has the same levels, each with the same map.
+pub record KeepsSavepoints (c : ℕ) (old new : State) : Type 0 where
+  pub levels : levels_of c new.history ≡ levels_of c old.history
+  pub maps : KeepsLevels (levels_of c old.history) c old new
+
+-- A caller set a savepoint of this number at the map that is there, above those that it had.
+pub record IsSaved (c level : ℕ) (old new : State) : Type 0 where
+  pub number : level ≡ levels_of c old.history
+  pub levels : levels_of c new.history ≡ level + 1
+  pub map : map_at c level new.history ≡ now old.history
+  pub maps : KeepsLevels level c old new
+
+-- A caller went back to a level: the map is the one of that level, which is now the highest.
+pub record IsBackAt (c level : ℕ) (old new : State) : Type 0 where
+  pub map : now new.history ≡ map_at c level old.history
+  pub levels : levels_of c new.history ≡ level + 1
+  pub maps : KeepsLevels (level + 1) c old new
 
 -- A caller has no transaction.
 abbrev pub IsIdle : ℕ → State → Type 0

@@ -38,10 +38,9 @@
 #![tactic(auto)]
 
 mod owned_map;
-mod stop;
 mod transaction;
 mod trim;
 
+pub use map_answers::{Stop, Swapped};
 pub use owned_map::OwnedMap;
-pub use stop::Stop;
 pub use transaction::Transaction;

@@ -5,13 +5,15 @@
 ghost use Rattle.std.specs.Prelude.{◌≡◌, ◌==◌, true, false, IfOk, IfErr, OnOk, OnErr, Ok};
 ghost use Rattle.txn_trace.specs.Map.{count_of};
 ghost use Rattle.txn_trace.specs.Now.{now};
+ghost use Rattle.boost_core.specs.Machine.{Move};
 ghost use Rattle.boost_core.specs.State.{start};
-ghost use Rattle.boost_core.specs.Plain.{Operates, Returns};
-ghost use Rattle.owned_map.specs.Within.{CanAbort, GoesOn, HasDone, IsBeside, IsCommitted, IsGrown, IsRun, IsSameMap, IsTakenBack, OnlyDid, is_grown};
+ghost use Rattle.boost_core.specs.Plain.{Operates};
+ghost use Rattle.owned_map.specs.Taken.{asks_well};
+ghost use Rattle.owned_map.specs.Within.{CanAbort, GoesOn, HasDone, IsBackAt, IsBeside, IsCommitted, IsGrown, IsRun, IsSameMap, IsSaved, IsTakenBack, KeepsSavepoints, OnlyDid, is_grown};
 
-use crate::stop::Stop;
 use crate::transaction::Transaction;
 use boost_core::Core;
+use map_answers::Stop;
 use std::alloc::Global;
 use txn_trace::{Answer, Limits, Op, Refusal, Reply, Step};
 
@@ -23,6 +25,8 @@ pub struct OwnedMap {
     // The next bucket to initialise: all below it are.
     grown: u64,
     ghost ordinary: { core.words ≡ false },
+    // No operation has asked for a key that the limits refuse.
+    ghost taken: { asks_well core.limits.half core.history ≡ true },
 }
 
 impl OwnedMap {
@@ -88,7 +92,7 @@ impl OwnedMap {
         ensures beside { IsBeside caller self.old.core self.new.core }
     {
         let _legal = self.core.trace();
-        match self.core.step(Step::Begin(caller)) {
+        match self.take_step(Step::Begin(caller)) {
             Answer::Began(_) => Ok(()),
             Answer::Refused(refusal) => Err(Stop::Refused(refusal)),
             _ => unreachable!(),
@@ -96,8 +100,10 @@ impl OwnedMap {
     }
 
     /// Does an operation, and grows the table by a step where it put a new key.
+    #[tactic(auto, using(crate::proofs::Savepoints::keeps_operated, crate::proofs::Savepoints::keeps_grown))]
     pub(crate) fn operate(&mut self, caller: u64, op: Op) -> Result<Reply, Stop>
         ensures goes_on { GoesOn caller self.old.core self.new.core }
+        ensures savepoints { KeepsSavepoints caller self.old.core self.new.core }
         ensures ok { IfOk result (λ reply. HasDone op reply self.old.core self.new.core) }
         ensures err { OnErr result (now self.new.core.history ≡ now self.old.core.history) }
     {
@@ -116,7 +122,8 @@ impl OwnedMap {
     }
 
     /// The plain call of an operation.
-    fn ask(&mut self, caller: u64, op: Op) -> Answer
+    #[tactic(auto, using(crate::proofs::Taken::operated))]
+    pub(crate) fn ask(&mut self, caller: u64, op: Op) -> Answer
         ensures { Operates self.old.core caller op result self.new.core }
     {
         match op {
@@ -130,10 +137,11 @@ impl OwnedMap {
     /// Sets a savepoint in a caller's transaction, and answers its level.
     pub(crate) fn save(&mut self, caller: u64) -> Result<u64, Stop>
         ensures goes_on { GoesOn caller self.old.core self.new.core }
+        ensures ok { IfOk result (λ level. IsSaved caller level self.old.core self.new.core) }
         ensures same { now self.new.core.history ≡ now self.old.core.history }
     {
         let _legal = self.core.trace();
-        match self.core.step(Step::Save(caller)) {
+        match self.take_step(Step::Save(caller)) {
             Answer::Saved(level) => Ok(level),
             Answer::Refused(refusal) => Err(Stop::Refused(refusal)),
             _ => unreachable!(),
@@ -141,12 +149,13 @@ impl OwnedMap {
     }
 
     /// Takes a caller's changes back to a level.
+    #[tactic(auto, using(crate::proofs::Taken::returned))]
     pub(crate) fn back(&mut self, caller: u64, level: u64) -> Result<(), Stop>
         ensures goes_on { GoesOn caller self.old.core self.new.core }
-        ensures ok { OnOk result (Returns self.old.core caller level (Answer.Returned level)
-            self.new.core) }
+        ensures ok { OnOk result (IsBackAt caller level self.old.core self.new.core) }
         ensures err { OnErr result (now self.new.core.history ≡ now self.old.core.history) }
     {
+        let _before = self.core.trace();
         let answer = self.core.back(caller, level);
         let _legal = self.core.trace();
         match answer {
@@ -162,7 +171,7 @@ impl OwnedMap {
         ensures err { OnErr result (GoesOn caller self.old.core self.new.core) }
     {
         let _legal = self.core.trace();
-        match self.core.step(Step::Commit(caller)) {
+        match self.take_step(Step::Commit(caller)) {
             Answer::Committed(place) => Ok(place),
             Answer::Refused(refusal) => Err(Stop::Refused(refusal)),
             _ => unreachable!(),
@@ -170,7 +179,7 @@ impl OwnedMap {
     }
 
     /// Aborts a caller's transaction.
-    #[tactic(auto, using(crate::proofs::Steps::taken_back_by))]
+    #[tactic(auto, using(crate::proofs::Steps::taken_back_by, crate::proofs::Taken::aborted))]
     pub(crate) fn abort(&mut self, caller: u64)
         ensures { IsTakenBack caller self.old.core self.new.core }
     {
@@ -200,6 +209,15 @@ impl OwnedMap {
     fn serve(&mut self, step: Step) -> Answer
         requires { is_grown step ≡ true }
         ensures { IsGrown self.old.core self.new.core }
+    {
+        self.take_step(step)
+    }
+
+    /// Takes a step of the core.
+    #[tactic(auto, using(crate::proofs::Taken::moved))]
+    pub(crate) fn take_step(&mut self, step: Step) -> Answer
+        ensures moves { Move self.old.core step result self.new.core }
+        ensures words { self.new.core.words ≡ self.old.core.words }
     {
         self.core.step(step)
     }

@@ -2,15 +2,15 @@
 //!
 //! It stands apart from the map so that no other call can be made on the map while it is open. Each
 //! operation keeps `Keeps`, by which a work of several operations keeps it too.
-ghost use Rattle.std.specs.Prelude.{◌≡◌, is_some, IfOk, OnErr, OnOk};
-ghost use Rattle.txn_trace.specs.Map.{get as value_at};
+ghost use Rattle.std.specs.Prelude.{◌≡◌, ◌==◌, nat_eq, is_some, IfOk, OnErr, OnOk};
+ghost use Rattle.std.specs.Option.{option_eq};
+ghost use Rattle.txn_trace.specs.Map.{after, count_of, get as value_at};
 ghost use Rattle.txn_trace.specs.Now.{now};
-ghost use Rattle.boost_core.specs.Plain.{Returns};
-ghost use Rattle.owned_map.specs.Within.{HasDone, IsCommitted, IsTakenBack};
+ghost use Rattle.owned_map.specs.Within.{HasDone, IsBackAt, IsCommitted, IsSaved, IsTakenBack, KeepsSavepoints};
 
 use crate::owned_map::OwnedMap;
-use crate::stop::Stop;
-use txn_trace::{Answer, Op, Reply};
+use map_answers::{Stop, Swapped};
+use txn_trace::{Op, Reply};
 
 /// An open transaction of a caller on a map, which it borrows. Dropped before it is committed, it is
 /// aborted: at every `?` and every early return its changes are taken back, and no stripe stays
@@ -39,6 +39,8 @@ impl Transaction<'_> {
     /// take memory for the history.
     pub fn get(&mut self, key: u64) -> Result<Reply, Stop>
         ensures keeps { Keeps self.old self.new }
+        ensures savepoints { KeepsSavepoints self.old.caller
+            self.old.map.now.core self.new.map.now.core }
         ensures ok { IfOk result (λ reply. HasDone (Op.Get key) reply
             self.old.map.now.core self.new.map.now.core) }
         ensures err { OnErr result (now self.new.map.now.core.history
@@ -58,6 +60,8 @@ impl Transaction<'_> {
     /// That of `get`.
     pub fn contains_key(&mut self, key: u64) -> Result<bool, Stop>
         ensures keeps { Keeps self.old self.new }
+        ensures savepoints { KeepsSavepoints self.old.caller
+            self.old.map.now.core self.new.map.now.core }
         ensures ok { IfOk result (λ there. there
             ≡ is_some (value_at (now self.old.map.now.core.history) key)) }
         ensures same { now self.new.map.now.core.history ≡ now self.old.map.now.core.history }
@@ -78,6 +82,8 @@ impl Transaction<'_> {
     /// node and for the log.
     pub fn put(&mut self, key: u64, value: u64) -> Result<Reply, Stop>
         ensures keeps { Keeps self.old self.new }
+        ensures savepoints { KeepsSavepoints self.old.caller
+            self.old.map.now.core self.new.map.now.core }
         ensures ok { IfOk result (λ reply. HasDone (Op.Put key value) reply
             self.old.map.now.core self.new.map.now.core) }
         ensures err { OnErr result (now self.new.map.now.core.history
@@ -97,6 +103,8 @@ impl Transaction<'_> {
     /// That of `get`; may take memory also for the log.
     pub fn take(&mut self, key: u64) -> Result<Reply, Stop>
         ensures keeps { Keeps self.old self.new }
+        ensures savepoints { KeepsSavepoints self.old.caller
+            self.old.map.now.core self.new.map.now.core }
         ensures ok { IfOk result (λ reply. HasDone (Op.Take key) reply
             self.old.map.now.core self.new.map.now.core) }
         ensures err { OnErr result (now self.new.map.now.core.history
@@ -117,6 +125,8 @@ impl Transaction<'_> {
     /// That of `put`.
     pub fn put_if(&mut self, key: u64, expected: Option<u64>, value: u64) -> Result<Reply, Stop>
         ensures keeps { Keeps self.old self.new }
+        ensures savepoints { KeepsSavepoints self.old.caller
+            self.old.map.now.core self.new.map.now.core }
         ensures ok { IfOk result (λ reply. HasDone (Op.PutIf key expected value) reply
             self.old.map.now.core self.new.map.now.core) }
         ensures err { OnErr result (now self.new.map.now.core.history
@@ -125,7 +135,53 @@ impl Transaction<'_> {
         self.operate(Op::PutIf(key, expected, value))
     }
 
-    /// Sets a savepoint, and answers its level, from 1.
+    /// Puts a value at a key exactly if the key has what is expected, a value or none, and answers
+    /// whether it did. It is `put_if` for who need not know what the key had.
+    ///
+    /// # Errors
+    ///
+    /// Those of `put`.
+    ///
+    /// # Cost
+    ///
+    /// That of `put`.
+    pub fn swap(&mut self, key: u64, expected: Option<u64>, value: u64) -> Result<Swapped, Stop>
+        ensures keeps { Keeps self.old self.new }
+        ensures savepoints { KeepsSavepoints self.old.caller
+            self.old.map.now.core self.new.map.now.core }
+        ensures ok { IfOk result (λ swapped. (swapped.0
+            ≡ option_eq nat_eq (value_at (now self.old.map.now.core.history) key) expected)
+            × (now self.new.map.now.core.history
+            ≡ after (now self.old.map.now.core.history) (Op.PutIf key expected value))) }
+        ensures err { OnErr result (now self.new.map.now.core.history
+            ≡ now self.old.map.now.core.history) }
+    {
+        let had = self.put_if(key, expected, value)?;
+        Ok(Swapped(had == expected))
+    }
+
+    /// How many keys the map has, with the changes of open transactions. Constant time.
+    pub fn len(&self) -> u64
+        ensures { result ≡ count_of (now self.now.map.now.core.history) }
+    {
+        self.map.len()
+    }
+
+    /// Whether the map has no keys, with the changes of open transactions. Constant time.
+    pub fn is_empty(&self) -> bool
+        ensures { result ≡ (count_of (now self.now.map.now.core.history) == 0) }
+    {
+        self.map.is_empty()
+    }
+
+    /// How many buckets the table has, which is not how many keys are in it. Constant time.
+    pub fn buckets(&self) -> u32
+        ensures { result ≡ self.now.map.now.core.size }
+    {
+        self.map.buckets()
+    }
+
+    /// Sets a savepoint at the map that is there, and answers its level, from 1.
     ///
     /// # Errors
     ///
@@ -137,14 +193,16 @@ impl Transaction<'_> {
     #[tactic(auto, using(crate::proofs::Calls::keeps_by))]
     pub fn save(&mut self) -> Result<u64, Stop>
         ensures keeps { Keeps self.old self.new }
+        ensures ok { IfOk result (λ level. IsSaved self.old.caller level
+            self.old.map.now.core self.new.map.now.core) }
         ensures same { now self.new.map.now.core.history ≡ now self.old.map.now.core.history }
     {
         let caller = self.caller;
         self.map.save(caller)
     }
 
-    /// Takes every change since a savepoint back, newest first, and keeps the savepoint; level 0 is
-    /// the beginning. Stripes stay held.
+    /// Takes every change since a savepoint back, newest first: the map is the one of that savepoint,
+    /// which is kept, and the later ones are gone. Level 0 is the beginning. Stripes stay held.
     ///
     /// # Errors
     ///
@@ -157,8 +215,8 @@ impl Transaction<'_> {
     #[tactic(auto, using(crate::proofs::Calls::keeps_by))]
     pub fn back(&mut self, level: u64) -> Result<(), Stop>
         ensures keeps { Keeps self.old self.new }
-        ensures ok { OnOk result (Returns self.old.map.now.core self.old.caller level
-            (Answer.Returned level) self.new.map.now.core) }
+        ensures ok { OnOk result (IsBackAt self.old.caller level
+            self.old.map.now.core self.new.map.now.core) }
         ensures err { OnErr result (now self.new.map.now.core.history
             ≡ now self.old.map.now.core.history) }
     {
@@ -170,6 +228,8 @@ impl Transaction<'_> {
     #[tactic(auto, using(crate::proofs::Calls::keeps_by))]
     fn operate(&mut self, op: Op) -> Result<Reply, Stop>
         ensures keeps { Keeps self.old self.new }
+        ensures savepoints { KeepsSavepoints self.old.caller
+            self.old.map.now.core self.new.map.now.core }
         ensures ok { IfOk result (λ reply. HasDone op reply
             self.old.map.now.core self.new.map.now.core) }
         ensures err { OnErr result (now self.new.map.now.core.history

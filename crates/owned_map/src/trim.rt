@@ -2,20 +2,22 @@
 //!
 //! It stands apart since it makes a second core, which goes on in the place of the first. The new
 //! history begins with one transaction, which puts all pairs.
-ghost use Rattle.std.specs.Prelude.{◌≡◌, ◌+◌, ◌++◌, [], ◌∷◌, None, IfOk, IfErr, OnOk, OnErr};
+ghost use Rattle.std.specs.Prelude.{◌≡◌, ◌+◌, ◌++◌, [], ◌∷◌, None, false, IfOk, IfErr, OnOk, OnErr};
 ghost use Rattle.txn_trace.specs.declared.entry.Entry.TheVariants as entries;
 ghost use Rattle.txn_trace.specs.History.{is_commit};
 ghost use Rattle.txn_trace.specs.Map.{Map, get, insert};
 ghost use Rattle.txn_trace.specs.Now.{now};
 ghost use Rattle.txn_trace.specs.Ordered.{ordered};
 ghost use Rattle.txn_trace.specs.Shape.{how_many};
-ghost use Rattle.owned_map.specs.Trimmed.{IsLack, IsNotTrimmed, IsTrimmed, filling, put_new as putting};
+ghost use Rattle.txn_trace.specs.Sizes.{is_bad_key};
+ghost use Rattle.owned_map.specs.Taken.{HasTakenKeys};
+ghost use Rattle.owned_map.specs.Trimmed.{IsFilling, IsLack, IsNotTrimmed, IsTrimmed, filling, put_new as putting};
 
 use crate::owned_map::OwnedMap;
 use boost_core::Core;
 use std::alloc::Global;
 use std::mem;
-use txn_trace::{Answer, Refusal, Step};
+use txn_trace::{Answer, Op, Refusal, Step};
 
 impl OwnedMap {
     /// Cuts the history off: hands out the core so far, whose history is legal, and goes on with a
@@ -53,7 +55,8 @@ impl OwnedMap {
     /// Puts pairs into a map in which nothing has happened, in one transaction.
     fn fill(&mut self, pairs: &[(u64, u64)]) -> Result<(), Refusal>
         requires blank { self.old.core.history ≡ [] }
-        requires listed { (m : Map) × (pairs.now ≡ ordered m) }
+        requires listed { (m : Map) × (pairs.now ≡ ordered m)
+            × HasTakenKeys self.old.core.limits.half m }
         ensures ok { OnOk result (self.new.core.history ≡ filling pairs.now) }
         ensures map { OnOk result ((m : Map) → pairs.now ≡ ordered m
             → now self.new.core.history ≡ m) }
@@ -64,57 +67,65 @@ impl OwnedMap {
         for pair in pairs {
             self.put_new(pair.0, pair.1)?;
         }
-        self.commit_first()
+        self.commit_first();
+        Ok(())
     }
 
-    /// Begins the first transaction.
+    /// Begins the first transaction. Caller 0 is there and has none, so only memory can be refused.
     fn begin_first(&mut self) -> Result<(), Refusal>
         requires blank { self.old.core.history ≡ [] }
         ensures ok { OnOk result (self.new.core.history ≡ entries.Began 0 1 ∷ []) }
+        ensures only { OnOk result (IsFilling self.new.core) }
         ensures limits { self.new.core.limits ≡ self.old.core.limits }
         ensures lack { IfErr result (λ refusal. IsLack refusal) }
     {
-        // Caller 0 is there and has no transaction, so only memory can be refused.
-        match self.core.step(Step::Begin(0)) {
+        let _legal = self.core.trace();
+        let _callers = self.core.limits().callers();
+        match self.take_step(Step::Begin(0)) {
             Answer::Began(_) => Ok(()),
-            _ => Err(Refusal::NoMemory),
+            Answer::Refused(refusal) => Err(refusal),
+            _ => unreachable!(),
         }
     }
 
-    /// Puts a pair of a new key, and grows the table by a step.
+    /// Puts a pair of a new key, and grows the table by a step. The limits take the key, and no other
+    /// caller is there to hold its stripe, so only memory and stamps can be missing.
+    #[tactic(auto, using(crate::proofs::Filling::only_puts))]
     fn put_new(&mut self, key: u64, value: u64) -> Result<(), Refusal>
+        requires only { IsFilling self.old.core }
         requires fresh { get (now self.old.core.history) key ≡ None }
+        requires taken { is_bad_key self.old.core.limits.half key ≡ false }
         ensures ok { OnOk result (self.new.core.history
             ≡ self.old.core.history ++ putting (key, value)) }
         ensures map { OnOk result (now self.new.core.history
             ≡ insert (now self.old.core.history) key value) }
+        ensures only { OnOk result (IsFilling self.new.core) }
         ensures limits { self.new.core.limits ≡ self.old.core.limits }
         ensures lack { IfErr result (λ refusal. IsLack refusal) }
     {
         let _legal = self.core.trace();
-        // The key was a key of such a map before, and no other caller is there to hold its stripe.
-        match self.core.put(0, key, value) {
+        match self.ask(0, Op::Put(key, value)) {
             Answer::Done(_) => {
                 self.grow(0);
                 Ok(())
             }
-            Answer::Refused(Refusal::StampsUsedUp) => Err(Refusal::StampsUsedUp),
-            _ => Err(Refusal::NoMemory),
+            Answer::Refused(refusal) => Err(refusal),
+            _ => unreachable!(),
         }
     }
 
     /// Commits the first transaction, which takes no memory.
-    fn commit_first(&mut self) -> Result<(), Refusal>
-        ensures ok { OnOk result (self.new.core.history ≡ self.old.core.history
-            ++ entries.Committed 0 (how_many is_commit self.old.core.history + 1) ∷ []) }
-        ensures map { OnOk result (now self.new.core.history ≡ now self.old.core.history) }
+    #[tactic(auto, using(crate::proofs::Filling::only_commits))]
+    fn commit_first(&mut self)
+        requires only { IsFilling self.old.core }
+        ensures ok { self.new.core.history ≡ self.old.core.history
+            ++ entries.Committed 0 (how_many is_commit self.old.core.history + 1) ∷ [] }
+        ensures map { now self.new.core.history ≡ now self.old.core.history }
         ensures limits { self.new.core.limits ≡ self.old.core.limits }
-        ensures lack { IfErr result (λ refusal. IsLack refusal) }
     {
         let _legal = self.core.trace();
-        match self.core.step(Step::Commit(0)) {
-            Answer::Committed(_) => Ok(()),
-            _ => Err(Refusal::NoMemory),
-        }
+        let Answer::Committed(_) = self.take_step(Step::Commit(0)) else {
+            unreachable!();
+        };
     }
 }

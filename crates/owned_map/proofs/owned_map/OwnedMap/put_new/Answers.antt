@@ -1,14 +1,22 @@
 use Rattle.std.proofs.Common.{ap, ◌∙◌}
 use Rattle.txn_trace.specs.Now.{now}
 use Rattle.owned_map.proofs.Trimming.{put_once}
+use Rattle.owned_map.proofs.Filling.{put_on, put_lacks}
 use Rattle.owned_map.proofs.owned_map.OwnedMap.put_new.Goals as goal
 
 pub returns-in-Done-clause-ok : goal.returns-in-Done-clause-ok
 returns-in-Done-clause-ok c =
     c.grow.ensures.history
-    ∙ (put_once c.args.self.now.core c.put.new.self c.args.key c.args.value c.in-Done.field-0 c.trace-legal.ensures.legal c.in-Done.ensures.operates c.requires.fresh).0
+    ∙ (put_once c.args.self.now.core c.ask.new.self.core c.args.key c.args.value c.in-Done.field-0 c.trace-legal.ensures.legal c.in-Done.ensures c.requires.fresh).0
 
 pub returns-in-Done-clause-map : goal.returns-in-Done-clause-map
 returns-in-Done-clause-map c =
     ap now c.grow.ensures.history
-    ∙ (put_once c.args.self.now.core c.put.new.self c.args.key c.args.value c.in-Done.field-0 c.trace-legal.ensures.legal c.in-Done.ensures.operates c.requires.fresh).1
+    ∙ (put_once c.args.self.now.core c.ask.new.self.core c.args.key c.args.value c.in-Done.field-0 c.trace-legal.ensures.legal c.in-Done.ensures c.requires.fresh).1
+
+pub returns-in-Done-clause-only : goal.returns-in-Done-clause-only
+returns-in-Done-clause-only c =
+    put_on c.args.self.now.core c.ask.new.self.core c.grow.new.self.core c.args.key c.args.value c.in-Done.field-0 c.requires.only c.trace-legal.ensures.legal c.in-Done.ensures c.grow.ensures
+
+pub returns-in-Refused-clause-lack : goal.returns-in-Refused-clause-lack
+returns-in-Refused-clause-lack c = put_lacks c.args.self.now.core c.ask.new.self.core c.args.key c.args.value c.in-Refused.refusal c.requires.only c.requires.taken c.in-Refused.ensures

@@ -4,6 +4,9 @@ use Rattle.txn_trace.specs.Ordered.{ordered}
 use Rattle.boost_core.specs.State.{State}
 use Rattle.owned_map.specs.declared.owned_map.OwnedMap.{OwnedMap}
 use Rattle.owned_map.specs.Trimmed.{IsTrimmed, filling}
+use Rattle.txn_trace.specs.Sizes.{Sizes}
+use Rattle.owned_map.specs.Taken.{HasTakenKeys}
+use Rattle.owned_map.proofs.Taken.{none_there}
 use Rattle.owned_map.proofs.Trimming.{at_rest, some_open}
 use Rattle.owned_map.proofs.owned_map.OwnedMap.trim.Goals as goal
 
@@ -11,7 +14,12 @@ pub returns-then-owed-ne0-clause-cause : goal.returns-then-owed-ne0-clause-cause
 returns-then-owed-ne0-clause-cause c = some_open c.args.self.now.core (λ none. c.if-owed-ne0.true (c.owed.ensures ∙ none))
 
 pub fill-requires-clause-listed : goal.fill-requires-clause-listed
-fill-requires-clause-listed c = (now c.args.self.now.core.history, c.as_slice.ensures.value ∙ c.in_ok-pairs.ensures)
+fill-requires-clause-listed c = (
+  now c.args.self.now.core.history,
+  c.as_slice.ensures.value ∙ c.in_ok-pairs.ensures,
+  subst (λ (l : Sizes). HasTakenKeys l.half (now c.args.self.now.core.history)) (sym (ap (λ (s : State). s.limits) c.in_ok-fresh.ensures.ok ∙ c.limits.ensures))
+      (none_there c.args.self.now.core.limits.half c.args.self.now.core.history c.args.self.now.taken),
+)
 
 pub returns-clause-trimmed : goal.returns-clause-trimmed
 returns-clause-trimmed c =

@@ -1,0 +1,10 @@
+-- The text of a stopped call.
+use Rattle.std.specs.Prelude.{ℕ, List, ◌++◌, codes, decimal}
+use Rattle.txn_trace.specs.Sentences.{sentence_of}
+use Rattle.map_answers.specs.declared.stop.Stop.{Stop}
+use Rattle.map_answers.specs.declared.stop.Stop.TheVariants.{Busy, Refused}
+
+-- It names the caller that held the stripe, or says the refusal.
+abbrev pub stop_text : Stop → List ℕ
+stop_text (Busy holder) = codes "caller " ++ (decimal holder ++ codes " held the stripe of the key")
+stop_text (Refused refusal) = sentence_of refusal

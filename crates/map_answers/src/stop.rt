@@ -1,0 +1,58 @@
+//! Why a call of a transaction did not do what it was asked.
+ghost use Rattle.std.specs.Prelude.{◌≡◌};
+ghost use Rattle.txn_trace.specs.declared.refusal.Refusal.TheVariants.{NoMemory};
+ghost use Rattle.map_answers.specs.declared.stop.Stop.TheVariants.{Refused};
+
+use std::alloc::AllocError;
+use std::error::Error;
+use std::fmt;
+use txn_trace::Refusal;
+
+/// Why a call of a transaction did not do what it was asked. It is an error with a text, so `?`
+/// hands it on, also as an `anyhow::Error`.
+#[derive(Clone, Copy, Debug, PartialEq, Eq)]
+pub enum Stop {
+    /// Another caller held the stripe of the key, in a transaction that was still open. So this
+    /// transaction cannot go on: each map says who takes it back.
+    Busy {
+        /// The caller that held it.
+        holder: u64,
+    },
+    /// The call was refused, and the transaction is unchanged.
+    Refused(Refusal),
+}
+
+/// A sentence without its full stop, which names the holder or says the refusal.
+impl fmt::Display for Stop {
+    ghost use Rattle.std.specs.Prelude.{Some};
+    ghost use Rattle.map_answers.specs.Texts.{stop_text};
+
+    ghost output = { λ stop. Some (stop_text stop) };
+
+    fn fmt<W: fmt::Write>(&self, f: &mut fmt::Formatter<W>) -> fmt::Result {
+        match *self {
+            Stop::Busy { holder } => write!(f, "caller {holder} held the stripe of the key"),
+            Stop::Refused(refusal) => f.write_str(refusal.text()),
+        }
+    }
+}
+
+impl Error for Stop {}
+
+/// A refusal is `Refused`, so that `?` converts it.
+impl From<Refusal> for Stop {
+    ghost from_gives = { λ refusal stop. stop ≡ Refused refusal };
+
+    fn from(refusal: Refusal) -> Stop {
+        Stop::Refused(refusal)
+    }
+}
+
+/// Memory that is refused is `Refused` with `NoMemory`, so that `?` converts it.
+impl From<AllocError> for Stop {
+    ghost from_gives = { λ _ stop. stop ≡ Refused NoMemory };
+
+    fn from(_: AllocError) -> Stop {
+        Stop::Refused(Refusal::NoMemory)
+    }
+}

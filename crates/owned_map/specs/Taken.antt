@@ -1,0 +1,20 @@
+-- The keys that the limits of a map take.
+use Rattle.std.specs.Prelude.{ℕ, ◌≡◌, Bool, true, not, ◌&&◌, List, [], ◌∷◌, None}
+use Rattle.txn_trace.specs.declared.entry.Entry.{Entry}
+use Rattle.txn_trace.specs.declared.entry.Entry.TheVariants.{Asked}
+use Rattle.txn_trace.specs.Map.{Map, key_of, get}
+use Rattle.txn_trace.specs.Sizes.{is_bad_key}
+
+-- Whether an entry asks for no key that is refused, where only half keys are taken or all.
+abbrev pub is_well : Bool → Entry → Bool
+is_well half (Asked c op) = not (is_bad_key half (key_of op))
+is_well half e = true
+
+-- Whether no entry of a history does.
+abbrev pub asks_well : Bool → List Entry → Bool
+asks_well half [] = true
+asks_well half (e ∷ es) = is_well half e && asks_well half es
+
+-- A map has no key that is refused.
+abbrev pub HasTakenKeys : Bool → Map → Type 0
+HasTakenKeys half m = (k : ℕ) → is_bad_key half k ≡ true → get m k ≡ None
