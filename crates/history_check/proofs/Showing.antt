@@ -13,7 +13,7 @@ use Rattle.txn_trace.proofs.Next.{Next}
 use Rattle.key_locks.specs.Locks as locks
 use Rattle.history_check.specs.declared.live_map.LiveMap.{LiveMap}
 use Rattle.history_check.specs.LiveMaps.{Shows, FollowsAt}
-use Rattle.history_check.specs.Values.{Has}
+use Rattle.history_check.specs.Remainders.{Have}
 use Rattle.history_check.proofs.EachKind.{broken_by, next-began, next-busy, next-saved, next-leave, next-returned}
 use Rattle.history_check.proofs.Seating.{seat_there}
 
@@ -24,13 +24,13 @@ module _ {holder : Holder} (stripes : ℕ) (h : List Entry) (legal : IsLegal hol
 
   -- What a map shows that is as the law of the entry's kind says.
   pub followed : (new : LiveMap) (seat : Seat) (log : List (ℕ × Option ℕ)) (committed current : Map) (held : ℕ → Option ℕ) → is_locked holder stripes h e ≡ true → Next holder stripes h e seat log committed current held
-      → new.holder ≡ live.holder → new.stripes ≡ live.stripes → Has current new.values → ((s : ℕ) → s < stripes → locks.holder_of new.locks s ≡ held s) → FollowsAt holder stripes h e true new
+      → new.holder ≡ live.holder → new.stripes ≡ live.stripes → Have current new.values → ((s : ℕ) → s < stripes → locks.holder_of new.locks s ≡ held s) → FollowsAt holder stripes h e true new
   followed new seat log committed current held locked next holder_is stripes_are has holds = record {
     locked = locked;
     shows = λ r. record {
       holder_is = holder_is ∙ shows.holder_is;
       stripes_are = stripes_are ∙ shows.stripes_are;
-      values = subst (λ m. Has m new.values) (sym next.now_is) has;
+      values = subst (λ m. Have m new.values) (sym next.now_is) has;
       holders = λ s below. holds s below ∙ sym (next.holder_is s);
     };
   }
@@ -63,7 +63,7 @@ followed_still stripes h legal live shows (Aborted c) shaped answered _ _ _ _ _ 
 
 -- A Busy, which changes neither the map nor the stripes.
 pub busy_followed : {holder : Holder} (stripes : ℕ) (h : List Entry) (legal : IsLegal holder stripes h) (live : LiveMap) (shows : Shows holder stripes h live) (c : ℕ) (op : Op) (x : ℕ) → is_shaped h (Busy c op x) ≡ true → replies_hold (h ++ Busy c op x ∷ []) ≡ true
-    → (right : Bool) (new : LiveMap) → is_locked holder stripes h (Busy c op x) ≡ right → new.holder ≡ live.holder → new.stripes ≡ live.stripes → Has (now h) new.values → ((s : ℕ) → s < stripes → locks.holder_of new.locks s ≡ holder_of stripes s h)
+    → (right : Bool) (new : LiveMap) → is_locked holder stripes h (Busy c op x) ≡ right → new.holder ≡ live.holder → new.stripes ≡ live.stripes → Have (now h) new.values → ((s : ℕ) → s < stripes → locks.holder_of new.locks s ≡ holder_of stripes s h)
     → FollowsAt holder stripes h (Busy c op x) right new
 busy_followed stripes h legal live shows c op x shaped answered right new locked holder_is stripes_are has holds = record {
   locked = locked;

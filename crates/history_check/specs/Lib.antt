@@ -3,6 +3,7 @@ pub mod FirstBad
 pub mod Logs
 pub mod Callers
 pub mod Values
+pub mod Remainders
 pub mod LiveMaps
 pub mod States
 pub mod Fed

@@ -10,13 +10,13 @@ use Rattle.key_locks.specs.Locks as locks
 use Rattle.history_check.specs.declared.callers.Callers.{Callers}
 use Rattle.history_check.specs.declared.live_map.LiveMap.{LiveMap}
 use Rattle.history_check.specs.Callers.{HaveEntered}
-use Rattle.history_check.specs.Values.{Has}
+use Rattle.history_check.specs.Remainders.{Have}
 
 -- Its values are those of the map now, and its stripes have the holders that the history says.
 pub record Shows (holder : Holder) (stripes : ℕ) (h : List Entry) (live : LiveMap) : Type 0 where
   pub holder_is : live.holder ≡ holder
   pub stripes_are : live.stripes ≡ stripes
-  pub values : Has (now h) live.values
+  pub values : Have (now h) live.values
   pub holders : (s : ℕ) → s < stripes → locks.holder_of live.locks s ≡ holder_of stripes s h
 
 -- The new map shows what the old one shows.

@@ -36,6 +36,7 @@ impl Caller {
     }
 
     /// Its phase.
+    #[inline(always)]
     pub(crate) fn phase(&self) -> Phase
         ensures { result ≡ (seat_of self.now).phase }
     {
@@ -50,6 +51,7 @@ impl Caller {
     }
 
     /// Whether an entry of it may come next.
+    #[inline(always)]
     pub(crate) fn allows(&self, entry: &Entry) -> bool
         ensures { result ≡ is_some (row (seat_of self.now) (seat_of self.now).phase entry.now) }
     {
@@ -57,6 +59,7 @@ impl Caller {
     }
 
     /// The newest change that stands: its key and the value before it.
+    #[inline(always)]
     pub(crate) fn newest(&self) -> Option<(u64, Reply)>
         ensures { result ≡ slice_get (log_in self.now) 0 }
     {
@@ -64,6 +67,7 @@ impl Caller {
     }
 
     /// Makes room for what an entry takes: a change or a savepoint.
+    #[inline(always)]
     pub(crate) fn reserve(&mut self, entry: &Entry) -> Result<(), AllocError>
         ensures seat { seat_of self.new ≡ seat_of self.old }
         ensures log { log_in self.new ≡ log_in self.old }
@@ -78,6 +82,7 @@ impl Caller {
     }
 
     /// Goes on by an entry of it that may come next.
+    #[inline(always)]
     pub(crate) fn enter(&mut self, entry: Entry)
         requires { HasRoom entry self.old }
         ensures { is_some (row (seat_of self.old) (seat_of self.old).phase entry) ≡ true →
@@ -92,6 +97,7 @@ impl Caller {
 }
 
 /// Whether an entry begins a transaction.
+#[inline(always)]
 fn begins(entry: Entry) -> bool
     ensures { result ≡ is_began entry }
 {
@@ -99,6 +105,7 @@ fn begins(entry: Entry) -> bool
 }
 
 /// Notes a change that an entry makes in this phase, or drops those that it takes back.
+#[inline(always)]
 fn note(changes: &mut Vec<(u64, Reply)>, phase: Phase, entry: Entry)
     requires { is_did entry ≡ true → vec_len changes.old < vec_capacity changes.old }
     ensures { reverse changes.new.items ≡ log_entered phase (reverse changes.old.items) entry }

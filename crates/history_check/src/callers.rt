@@ -88,6 +88,7 @@ impl Callers {
     /// # Cost
     ///
     /// Constant time; takes no memory.
+    #[inline(always)]
     pub fn has_shape(&self, entry: &Entry) -> bool
         requires { caller_of entry.now < 64 }
         ensures { (h : List Entry) → HaveEntered h self.now → result ≡ is_shaped h entry.now }
@@ -102,6 +103,7 @@ impl Callers {
     /// # Cost
     ///
     /// Constant time; takes no memory.
+    #[inline(always)]
     pub fn phase(&self, caller: u64) -> Phase
         requires { caller < 64 }
         ensures { (h : List Entry) → HaveEntered h self.now → IsIn h caller result }
@@ -114,6 +116,7 @@ impl Callers {
     /// # Cost
     ///
     /// Constant time; takes no memory.
+    #[inline(always)]
     pub fn newest_change(&self, caller: u64) -> Option<(u64, Reply)>
         requires { caller < 64 }
         ensures { (h : List Entry) → HaveEntered h self.now →
@@ -127,6 +130,7 @@ impl Callers {
     /// # Cost
     ///
     /// Constant time; takes no memory.
+    #[inline(always)]
     pub fn has_begun(&self, caller: u64) -> bool
         ensures { (h : List Entry) → HaveEntered h self.now → result ≡ has_begun caller h }
     {
@@ -145,6 +149,7 @@ impl Callers {
     /// # Cost
     ///
     /// Constant time, spread over many calls.
+    #[inline(always)]
     pub fn reserve(&mut self, entry: &Entry) -> Result<(), AllocError>
         requires { caller_of entry.now < 64 }
         ensures same { (h : List Entry) → HaveEntered h self.old → HaveEntered h self.new }
@@ -159,6 +164,7 @@ impl Callers {
     /// # Cost
     ///
     /// Constant time; takes no memory.
+    #[inline(always)]
     pub fn enter(&mut self, entry: Entry)
         requires caller { caller_of entry < 64 }
         requires room { HasRoomFor entry self.old }
@@ -173,6 +179,7 @@ impl Callers {
 }
 
 /// Whether a transaction that begins or commits has the next number.
+#[inline(always)]
 fn has_next_number(began: u64, committed: u64, entry: &Entry) -> bool
     ensures { (h : List Entry) →
         began ≡ how_many is_began h → committed ≡ how_many is_commit h →
@@ -186,6 +193,7 @@ fn has_next_number(began: u64, committed: u64, entry: &Entry) -> bool
 }
 
 /// Whether the number is one more than that before it.
+#[inline(always)]
 fn is_next(before: u64, number: u64) -> bool
     ensures { result ≡ (number == before + 1) }
 {
@@ -193,6 +201,7 @@ fn is_next(before: u64, number: u64) -> bool
 }
 
 /// How many transactions began, with an entry of the right number.
+#[inline(always)]
 fn began_after(began: u64, entry: Entry) -> u64
     ensures { (h : List Entry) → began ≡ how_many is_began h → is_numbered h entry ≡ true →
         result ≡ how_many is_began (h ++ entry ∷ []) }
@@ -204,6 +213,7 @@ fn began_after(began: u64, entry: Entry) -> u64
 }
 
 /// How many transactions committed, with an entry of the right number.
+#[inline(always)]
 fn committed_after(committed: u64, entry: Entry) -> u64
     ensures { (h : List Entry) → committed ≡ how_many is_commit h → is_numbered h entry ≡ true →
         result ≡ how_many is_commit (h ++ entry ∷ []) }

@@ -6,10 +6,9 @@ ghost use Rattle.txn_trace.specs.Legal.{IsLegal};
 ghost use Rattle.txn_trace.specs.declared.holder.Holder.{Holder};
 
 use crate::callers::Callers;
-use crate::values::{operate, restore};
+use crate::values::Values;
 use key_locks::{KeyLocks, LockAnswer};
 use std::alloc::{AllocError, Global};
-use std::collections::BTreeMap;
 use txn_trace::{Entry, Holder, Op, Phase};
 
 /// The map as it is now, with what open transactions changed, and the holder of each stripe.
@@ -20,7 +19,7 @@ pub(crate) struct LiveMap {
     /// How many stripes the keys are shared out to.
     pub(crate) stripes: u64,
     /// The values of the keys.
-    pub(crate) values: BTreeMap<u64, u64>,
+    pub(crate) values: Values,
     /// The holder of each stripe.
     pub(crate) locks: KeyLocks,
     ghost some_stripes: { 0 < stripes },
@@ -39,16 +38,16 @@ impl LiveMap {
         requires { 0 < stripes }
         ensures { IfOk result (Shows holder stripes []) }
     {
-        let locks = KeyLocks::new(alloc, stripes as usize)?;
         Ok(LiveMap {
             holder,
             stripes,
-            values: BTreeMap::new(alloc),
-            locks,
+            values: Values::new(alloc)?,
+            locks: KeyLocks::new(alloc, stripes as usize)?,
         })
     }
 
     /// Whether a reply is that of the map as it is now.
+    #[inline(always)]
     pub(crate) fn is_answered(&self, callers: &Callers, entry: &Entry) -> bool
         requires { caller_of entry.now < 64 }
         ensures { (holder : Holder) (stripes : ℕ) (h : List Entry) →
@@ -59,13 +58,14 @@ impl LiveMap {
             return true;
         };
         match callers.phase(caller) {
-            Phase::Waiting(op) => reply == self.values.get(&op.key()).copied(),
+            Phase::Waiting(op) => reply == self.values.get(op.key()),
             _ => true,
         }
     }
 
     /// Does what an entry does that has the right shape and reply, or answers that it breaks the
     /// rule of locks.
+    #[inline(always)]
     pub(crate) fn follow(&mut self, callers: &Callers, entry: &Entry) -> Result<bool, AllocError>
         requires { caller_of entry.now < 64 }
         ensures ok { IfOk result (λ right. Follows entry.now callers.now self.old right self.new) }
@@ -76,12 +76,12 @@ impl LiveMap {
             Entry::Busy(caller, op, named) => return Ok(self.may_name(callers, caller, op, named)),
             Entry::Did(caller, _) => {
                 if let Phase::Waiting(op) = callers.phase(caller) {
-                    operate(&mut self.values, op)?;
+                    self.values.operate(op)?;
                 }
             }
             Entry::Undone(caller) => {
                 if let Some((key, before)) = callers.newest_change(caller) {
-                    restore(&mut self.values, key, before)?;
+                    self.values.restore(key, before)?;
                 }
             }
             Entry::Committed(caller, _) => self.locks.release_all(caller as usize),
@@ -92,6 +92,7 @@ impl LiveMap {
     }
 
     /// An operation is asked for, if no other caller holds the stripe of its key.
+    #[inline(always)]
     fn ask(&mut self, caller: u64, op: Op) -> bool
         requires { caller < 64 }
         ensures { (callers : Callers) →
@@ -105,6 +106,7 @@ impl LiveMap {
     }
 
     /// Whether a Busy of the caller may name that one. Nothing changes if it may.
+    #[inline(always)]
     fn may_name(&mut self, callers: &Callers, caller: u64, op: Op, named: u64) -> bool
         requires { caller < 64 }
         ensures { Follows (Entry.Busy caller op named) callers.now self.old result self.new }

@@ -33,7 +33,30 @@ impl State {
     }
 
     /// Takes the entry in, or answers with the rule that it breaks.
+    #[inline(always)]
     pub(crate) fn take_in(&mut self, entry: &Entry) -> Result<Option<Rule>, AllocError>
+        requires { caller_of entry.now < 64 }
+        ensures ok { IfOk result (λ rule. Judges entry.now self.old rule self.new) }
+        ensures err { OnErr result (Stays self.old self.new) }
+    {
+        // An arm each, so that `judge` is compiled for each kind of entry by itself.
+        match *entry {
+            Entry::Began(caller, txn) => self.judge(&Entry::Began(caller, txn)),
+            Entry::Asked(caller, op) => self.judge(&Entry::Asked(caller, op)),
+            Entry::Did(caller, reply) => self.judge(&Entry::Did(caller, reply)),
+            Entry::Saved(caller) => self.judge(&Entry::Saved(caller)),
+            Entry::Leave(caller, level) => self.judge(&Entry::Leave(caller, level)),
+            Entry::Undone(caller) => self.judge(&Entry::Undone(caller)),
+            Entry::Returned(caller, level) => self.judge(&Entry::Returned(caller, level)),
+            Entry::Committed(caller, number) => self.judge(&Entry::Committed(caller, number)),
+            Entry::Busy(caller, op, named) => self.judge(&Entry::Busy(caller, op, named)),
+            Entry::Aborted(caller) => self.judge(&Entry::Aborted(caller)),
+        }
+    }
+
+    /// The same, of whatever kind the entry is.
+    #[inline(always)]
+    fn judge(&mut self, entry: &Entry) -> Result<Option<Rule>, AllocError>
         requires { caller_of entry.now < 64 }
         ensures ok { IfOk result (λ rule. Judges entry.now self.old rule self.new) }
         ensures err { OnErr result (Stays self.old self.new) }

@@ -1,52 +1,96 @@
-//! The map as it is now, as a sorted map: an operation, and the taking back of one. Time in
-//! proportion to the logarithm of the map.
-ghost use Rattle.std.specs.Prelude.{OnOk, OnErr};
-ghost use Rattle.txn_trace.specs.Map.{Map, after};
+//! The map as it is now, as sorted maps that share the keys out by their remainder: what a key has, an
+//! operation, and the taking back of one. Few keys fall to each of the maps, so that a look-up reads
+//! less memory than in one map of all keys; keys of one remainder cost the logarithm of their number.
+ghost use Rattle.std.specs.Prelude.{◌≡◌, Option, Some, None, IfOk, OnOk, OnErr, vec_len};
+ghost use Rattle.txn_trace.specs.Map.{Map, empty, get, after};
 ghost use Rattle.txn_trace.specs.Now.{set_at};
-ghost use Rattle.history_check.specs.Values.{Has};
 
-use std::alloc::AllocError;
+use std::alloc::{AllocError, Global};
 use std::collections::BTreeMap;
 use txn_trace::Op;
 
-/// Does an operation. Costs the logarithm of the number of keys.
-pub(crate) fn operate(values: &mut BTreeMap<u64, u64>, op: Op) -> Result<(), AllocError>
-    ensures ok { OnOk result ((m : Map) → Has m values.old → Has (after m op) values.new) }
-    ensures err { OnErr result ((m : Map) → Has m values.old → Has m values.new) }
-{
-    match op {
-        Op::Put(key, value) => {
-            values.insert(key, value)?;
+/// How many sorted maps there are: a prime, so that keys at equal distances are shared out as well.
+const MAPS: u64 = 1021;
+
+/// The values of the keys.
+#[derive(Drop)]
+pub(crate) struct Values {
+    /// Of each remainder, the values of its keys.
+    pub(crate) maps: Vec<BTreeMap<u64, u64>>,
+    ghost all: { vec_len maps ≡ 1021 },
+}
+
+impl Values {
+    ghost use Rattle.history_check.specs.Remainders.{Have};
+
+    /// No key has a value.
+    pub(crate) fn new(alloc: Global) -> Result<Values, AllocError>
+        ensures { IfOk result (Have empty) }
+    {
+        let mut maps = Vec::with_capacity(alloc, MAPS as usize)?;
+        for _ in 0..MAPS {
+            maps.push(BTreeMap::new(alloc))?;
         }
-        Op::Take(key) => {
-            values.remove(&key);
+        Ok(Values { maps })
+    }
+
+    /// The value of a key. Costs the logarithm of the number of keys.
+    #[inline(always)]
+    pub(crate) fn get(&self, key: u64) -> Option<u64>
+        ensures { (m : Map) → Have m self.now → result ≡ get m key }
+    {
+        self.maps[(key % MAPS) as usize].get(&key).copied()
+    }
+
+    /// Gives a key a value. Costs the logarithm of the number of keys.
+    fn insert(&mut self, key: u64, value: u64) -> Result<(), AllocError>
+        ensures ok { OnOk result ((m : Map) → Have m self.old →
+            Have (set_at m key (Some value)) self.new) }
+        ensures err { OnErr result ((m : Map) → Have m self.old → Have m self.new) }
+    {
+        self.maps[(key % MAPS) as usize].insert(key, value)?;
+        Ok(())
+    }
+
+    /// Takes a key's value away. Costs the logarithm of the number of keys.
+    fn remove(&mut self, key: u64)
+        ensures { (m : Map) → Have m self.old → Have (set_at m key None) self.new }
+    {
+        self.maps[(key % MAPS) as usize].remove(&key);
+    }
+
+    /// Does an operation. Costs the logarithm of the number of keys.
+    #[inline(always)]
+    pub(crate) fn operate(&mut self, op: Op) -> Result<(), AllocError>
+        ensures ok { OnOk result ((m : Map) → Have m self.old → Have (after m op) self.new) }
+        ensures err { OnErr result ((m : Map) → Have m self.old → Have m self.new) }
+    {
+        match op {
+            Op::Put(key, value) => self.insert(key, value)?,
+            Op::Take(key) => self.remove(key),
+            Op::Get(_) => {}
+            Op::PutIf(key, expected, value) => {
+                if self.get(key) == expected {
+                    self.insert(key, value)?;
+                }
+            }
         }
-        Op::Get(_) => {}
-        Op::PutIf(key, expected, value) => {
-            if values.get(&key).copied() == expected {
-                values.insert(key, value)?;
+        Ok(())
+    }
+
+    /// Puts back what a key had. Costs the logarithm of the number of keys.
+    #[inline(always)]
+    pub(crate) fn restore(&mut self, key: u64, before: Option<u64>) -> Result<(), AllocError>
+        ensures ok { OnOk result ((m : Map) → Have m self.old →
+            Have (set_at m key before) self.new) }
+        ensures err { OnErr result ((m : Map) → Have m self.old → Have m self.new) }
+    {
+        match before {
+            Some(value) => self.insert(key, value),
+            None => {
+                self.remove(key);
+                Ok(())
             }
         }
     }
-    Ok(())
-}
-
-/// Puts back what a key had. Costs the logarithm of the number of keys.
-pub(crate) fn restore(
-    values: &mut BTreeMap<u64, u64>,
-    key: u64,
-    before: Option<u64>,
-) -> Result<(), AllocError>
-    ensures ok { OnOk result ((m : Map) → Has m values.old → Has (set_at m key before) values.new) }
-    ensures err { OnErr result ((m : Map) → Has m values.old → Has m values.new) }
-{
-    match before {
-        Some(value) => {
-            values.insert(key, value)?;
-        }
-        None => {
-            values.remove(&key);
-        }
-    }
-    Ok(())
 }

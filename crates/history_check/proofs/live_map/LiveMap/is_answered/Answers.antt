@@ -15,7 +15,7 @@ returns-in_default c holder stripes h legal entered shows shaped = answered_othe
 pub returns-in-Waiting : goal.returns-in-Waiting
 returns-in-Waiting c holder stripes h legal entered shows shaped =
     let there = c.phase.ensures h entered in
-    let found = c.copied.ensures ∙ c.get.ensures.value ∙ shows.values c.key.result ∙ ap (get (now h)) c.key.ensures in
+    let found = c.get.ensures (now h) shows.values ∙ ap (get (now h)) c.key.ensures in
     c.eq.ensures ∙ ap (option_eq nat_eq c.in-Did.reply) found
     ∙ sym (did_right stripes h legal c.in-Did.caller there.seat there.seat_is c.in-Waiting.op c.in-Did.reply (there.phase_is ∙ c.in-Waiting.is) (subst (λ e. is_shaped h e ≡ true) c.in-Did.is shaped))
     ∙ ap (λ e. replies_hold (h ++ e ∷ [])) (sym c.in-Did.is)

@@ -1,0 +1,18 @@
+-- The values of a checker, which lie in several sorted maps, and the map of the definitions.
+use Rattle.std.specs.Prelude.{◌≡◌, ℕ, ◌%◌, slice_get}
+use Rattle.std.specs.Option.{IfSome}
+use Rattle.std.specs.Ordering.{nat_cmp}
+use Rattle.std.specs.BTreeMap.{BTreeMap, get as value_at}
+use Rattle.txn_trace.specs.Map.{Map, get}
+use Rattle.history_check.specs.declared.values.Values.{Values}
+
+-- A sorted map has the same value at each key that has this remainder.
+abbrev pub HasOf : Map → ℕ → BTreeMap ℕ ℕ → Type 0
+HasOf m remainder values =
+    (key : ℕ) → key % 1021 ≡ remainder → value_at nat_cmp values key ≡ get m key
+
+-- Each of the sorted maps has the values of the keys of its remainder, so together they have those of
+-- all keys.
+abbrev pub Have : Map → Values → Type 0
+Have m values =
+    (remainder : ℕ) → IfSome (slice_get values.maps.items remainder) (HasOf m remainder)
