@@ -93,7 +93,7 @@ impl<S: Side> SidedCaller<S> {
         ensures levels { self.new.side.levels ≡ self.old.side.levels }
         ensures changes { OnOk result (self.new.side.changes ≡ self.old.side.changes + 1) }
         ensures kept { self.new.side.kept ≡ self.old.side.kept }
-        ensures err { OnErr result (self.new ≡ self.old) }
+        ensures err { OnErr result (self.new.side ≡ self.old.side) }
         ensures handed_back { IfErr result (λ refused. refused.value ≡ (change, job)) }
     {
         self.side.change(change, job)
@@ -116,7 +116,8 @@ impl<S: Side> SidedCaller<S> {
             self.new.caller) }
         ensures side { OnOk result (IsSettled S.words_of self.old.side self.new.side) }
         ensures err { IfErr result (λ stop. (stop ≡ Stop.Refused AlreadyOpen)
-            × (self.old.caller.is_open ≡ true) × (self.new ≡ self.old)) }
+            × (self.old.caller.is_open ≡ true) × (self.new.caller ≡ self.old.caller)
+            × (self.new.side ≡ self.old.side)) }
     {
         self.caller.begin()?;
         self.side.settle();
@@ -281,7 +282,8 @@ impl<S: Side> SidedCaller<S> {
             (if self.old.caller.is_open then NoSuchLevel else NotOpen)) }
         ensures above { OnErr result (self.old.caller.is_open ≡ true
             → levels self.old.caller < level) }
-        ensures unchanged { OnErr result (self.new ≡ self.old) }
+        ensures unchanged { OnErr result ((self.new.caller ≡ self.old.caller)
+            × (self.new.side ≡ self.old.side)) }
     {
         self.caller.back(level)?;
         self.side.back(level as usize);
@@ -307,7 +309,8 @@ impl<S: Side> SidedCaller<S> {
             × RunsAlone (number self.old.caller) place (seen self.new.caller)) }
         ensures side { OnOk result (IsSettled S.words_of self.old.side self.new.side) }
         ensures err { IfErr result (λ stop. (stop ≡ Stop.Refused NotOpen)
-            × (self.old.caller.is_open ≡ false) × (self.new ≡ self.old)) }
+            × (self.old.caller.is_open ≡ false) × (self.new.caller ≡ self.old.caller)
+            × (self.new.side ≡ self.old.side)) }
     {
         let place = self.caller.commit()?;
         self.side.settle();
@@ -332,7 +335,8 @@ impl<S: Side> SidedCaller<S> {
             (Aborted (number self.old.caller))) self.new.caller) }
         ensures side { OnOk result (IsBackAt S.words_of 0 self.old.side self.new.side) }
         ensures err { IfErr result (λ stop. (stop ≡ Stop.Refused NotOpen)
-            × (self.old.caller.is_open ≡ false) × (self.new ≡ self.old)) }
+            × (self.old.caller.is_open ≡ false) × (self.new.caller ≡ self.old.caller)
+            × (self.new.side ≡ self.old.side)) }
     {
         self.caller.abort()?;
         self.side.back(0);
