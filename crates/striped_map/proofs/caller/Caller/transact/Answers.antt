@@ -12,8 +12,7 @@ loop-done-preserved g c =
     let inv = c.loop-done.invariant in let a = c.loop-done.self in let b = c.attempt.new.self in
     let was : a.is_open ≡ false = is_closed a.is_open (λ is. absurd (cc (sym c.in-Err-Busy.field-0-is ∙ (c.in-Err-Busy.ensures.open is).0))) in
     let fails = fails_as a b _ _ c.in-Err-Busy.field-0-is (c.in-Err-Busy.ensures.err was) in
-    let once : suc (c.args.tries - c.loop-done.left) ≡ c.args.tries - (c.loop-done.left - 1) = omega arith in
-    (
+    let once : suc (c.args.tries - c.loop-done.left) ≡ c.args.tries - (c.loop-done.left - 1) = omega arith in (
       fails.closed ∙ sym was ∙ inv.0,
       since_then c.args.self.now a b inv.1 fails.since,
       (omega arith),
