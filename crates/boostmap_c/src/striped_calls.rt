@@ -63,7 +63,7 @@ pub extern "C" fn boostmap_striped_get(
 ///
 /// 3 if the handle has no caller; 2 if another caller held the key's stripe: then the transaction
 /// is aborted, with all its changes taken back, and the word is the holder. A refusal leaves the
-/// transaction unchanged: 19 (`NotOpen`), 30 (`NoMemory`), 32 (`StampsUsedUp`).
+/// transaction unchanged: 19 (`NotOpen`), 30 (`NoMemory`).
 ///
 /// # Cost
 ///
@@ -93,7 +93,7 @@ pub extern "C" fn boostmap_striped_put(
 ///
 /// 3 if the handle has no caller; 2 if another caller held the key's stripe: then the transaction
 /// is aborted, with all its changes taken back, and the word is the holder. A refusal leaves the
-/// transaction unchanged: 19 (`NotOpen`), 30 (`NoMemory`), 32 (`StampsUsedUp`).
+/// transaction unchanged: 19 (`NotOpen`), 30 (`NoMemory`).
 ///
 /// # Cost
 ///
@@ -123,7 +123,7 @@ pub extern "C" fn boostmap_striped_take(
 ///
 /// 3 if the handle has no caller; 2 if another caller held the key's stripe: then the transaction
 /// is aborted, with all its changes taken back, and the word is the holder. A refusal leaves the
-/// transaction unchanged: 19 (`NotOpen`), 30 (`NoMemory`), 32 (`StampsUsedUp`).
+/// transaction unchanged: 19 (`NotOpen`), 30 (`NoMemory`).
 ///
 /// # Cost
 ///
@@ -154,7 +154,7 @@ pub extern "C" fn boostmap_striped_put_if_absent(
 ///
 /// 3 if the handle has no caller; 2 if another caller held the key's stripe: then the transaction
 /// is aborted, with all its changes taken back, and the word is the holder. A refusal leaves the
-/// transaction unchanged: 19 (`NotOpen`), 30 (`NoMemory`), 32 (`StampsUsedUp`).
+/// transaction unchanged: 19 (`NotOpen`), 30 (`NoMemory`).
 ///
 /// # Cost
 ///
