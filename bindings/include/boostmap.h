@@ -25,37 +25,40 @@
  *     boostmap_striped_free(&mine);
  *
  * DESCRIPTION
- *     A map has 1 to 64 callers, by number. Each may have one transaction open; the calls of
- *     several callers may come in any order. Keys belong to stripes. An operation takes the stripe
- *     of its key, and its transaction keeps it to the end, so committed transactions have the
- *     replies of running one after another, in the order of their commits. A caller that finds a
- *     stripe held by another is told so (BOOSTMAP_BUSY), never waits, and can only abort.
+ *     A map has 1 to 64 callers, named by their numbers. Each may have one transaction open, and
+ *     the calls of several callers may be made in any order. Keys belong to stripes. An operation
+ *     takes the stripe of its key, and its transaction keeps it to the end, so committed
+ *     transactions have the replies of running one after another, in the order of their commits. A
+ *     caller that finds a stripe held by another is told so (BOOSTMAP_BUSY), never waits, and can
+ *     only abort.
  *
- *     A striped map is the same for threads: each of its 1 to 4096 callers is a handle of its own,
- *     a `boostmap_caller`, and callers run side by side with no lock. It grows by itself and keeps
- *     no history, so it may run for ever. A caller that finds a stripe held is told so, and its
- *     transaction is over: aborted already, with all its changes taken back.
+ *     A striped map is for threads: each of its 1 to 4096 callers has its own handle, a
+ *     `boostmap_caller`, and callers run in parallel without a lock. It grows by itself and keeps no
+ *     history, so it may run for ever. A caller that finds a stripe held is told so; its transaction
+ *     has then been aborted already, with all its changes taken back.
  *
- *     Every call returns a status. Most take a `word`: BOOSTMAP_DONE and BOOSTMAP_BUSY write it,
- *     and no other status does unless its call says so.
+ *     Every call returns a status. Most take a pointer `word`: BOOSTMAP_DONE and BOOSTMAP_BUSY write
+ *     a number there, and no other status does unless its call says so. The comment of a call ends
+ *     with the statuses that it may return.
  *
  * OWNERSHIP
- *     A `boostmap` is memory of the program's, 16 bytes, all zeros at first (BOOSTMAP_INIT).
- *     boostmap_new gives it a map, boostmap_free frees that and makes it all zeros again. It may be
- *     moved by copying its bytes, if only the copy is used from then on. Never read or write the
- *     fields. The same holds of a `boostmap_caller` and a `boostmap_judge`. A striped map goes with
- *     the last of its callers; a caller that is freed in a transaction aborts it.
+ *     A `boostmap` is a handle of 16 bytes in the program's memory, all zeros at first
+ *     (BOOSTMAP_INIT). boostmap_new gives it a map; boostmap_free frees the map and makes the handle
+ *     all zeros again. A handle may be moved by copying its bytes, if only the copy is used from
+ *     then on. Never read or write its fields. The same holds of a `boostmap_caller` and a
+ *     `boostmap_judge`. A striped map is freed with the last of its callers; a caller that is freed
+ *     in a transaction aborts it.
  *
  * THREADS
  *     One call at a time on one handle. Any thread may make the next call, if a mutex, a thread's
  *     start or join, or a seq_cst atomic puts it after the last one. Different handles may be in
- *     calls at the same time, callers of one striped map too. No call waits, takes a lock, starts a
- *     thread, or calls back.
+ *     calls at the same time, also those of callers of one striped map. No call waits, takes a lock,
+ *     starts a thread, or calls back.
  *
- * WHAT IS PROVED, AND WHAT ONLY RUNS
+ * WHAT IS PROVED, AND WHAT IS ONLY TESTED
  *     The archive is proved: each call, made as the next section says, is free of undefined
- *     behaviour, returns, and does what its contract in crates/boostmap_c states. This header, the
- *     other headers and the bindings are tested, and proved by nothing.
+ *     behaviour, returns, and does what its contract in crates/boostmap_c states. The headers and
+ *     the bindings are only tested.
  *
  * WHAT THE PROGRAM OWES (a break is undefined behaviour)
  *     1. A handle is all zeros or as these calls left it.            garbage is mostly answered 3
@@ -65,11 +68,11 @@
  *                                                                    boostmap_checked.h answers it
  *     4. A copy of a handle is not used after the other was freed.   use after free
  *     5. An array has as many elements as its count says, and is     reads or writes beyond it
- *        not null, for no element either.
+ *        not null, even if the count is 0.
  *     6. No call from a signal handler, or from the forked child of a process with threads.
  *     7. malloc, realloc and free come from one allocator and align to 16, as any C library's.
  *
- *     Everything else is answered by a status: an empty handle, also after boostmap_free, a caller,
+ *     Everything else is answered by a status: an empty handle (also after boostmap_free), a caller,
  *     a level or a limit out of range, calls out of order, and memory that is refused.
  *
  * SEE ALSO
@@ -86,7 +89,7 @@
 extern "C" {
 #endif
 
-/* A handle of a map: all zeros, or a map. The fields are not the program's. */
+/* A handle of a map: all zeros, or a map. The program does not touch the fields. */
 typedef struct boostmap {
     uint64_t tag;
     void *held;
@@ -145,14 +148,14 @@ static inline const char *boostmap_text(boostmap_status status) {
     }
 }
 
-/* Makes a map for 1 to 64 callers, 1 to 4096 stripes, and at most so many buckets: a power of two
- * from 2 to 65536.    0; 4; 38; 30 */
+/* Makes a map for 1 to 64 callers, with 1 to 4096 stripes and at most `buckets` buckets, a power of
+ * two from 2 to 65536.    0; 4; 38; 30 */
 boostmap_status boostmap_new(boostmap *map, uint64_t callers, uint64_t stripes, uint64_t buckets);
 
-/* Frees the map, whatever is open.    0; 3 */
+/* Frees the map, also if transactions are open.    0; 3 */
 boostmap_status boostmap_free(boostmap *map);
 
-/* *word: how many keys the map has now, the changes of open transactions included.    0; 3 */
+/* *word: the number of keys that the map has now, with the changes of open transactions.    0; 3 */
 boostmap_status boostmap_count(boostmap *map, uint64_t *word);
 
 /* A key and its value. */
@@ -161,13 +164,13 @@ typedef struct boostmap_pair {
     uint64_t value;
 } boostmap_pair;
 
-/* Writes the pairs of the map as it is now, the changes of open transactions included, to the front
- * of an array with this many places, in the order of reversed bits; *word: how many there are. After
- * 7 the array is unchanged, and *word the number of places that it needs.    0; 3; 7; 30 */
+/* Writes the pairs of the map as it is now, with the changes of open transactions, to the front of an
+ * array of `places` elements, in the order of the keys' reversed bits; *word: the number of pairs.
+ * After 7 the array is unchanged, and *word is the number of places that it needs.    0; 3; 7; 30 */
 boostmap_status boostmap_read(boostmap *map, boostmap_pair *pairs, size_t places, uint64_t *word);
 
-/* Doubles the table if it has more than two keys a bucket, and prepares the key's bucket. Nothing
- * else doubles the table: call it now and then beside puts, or it stays one long list.
+/* Doubles the table if it has more than two keys a bucket, and initialises the key's bucket. Nothing
+ * else doubles the table: call this now and then when you put keys, or the table stays one long list.
  * 0; 3; 28; 32; 30 */
 boostmap_status boostmap_help(boostmap *map, uint64_t caller, uint64_t key);
 
@@ -180,8 +183,8 @@ boostmap_status boostmap_commit(boostmap *map, uint64_t caller, uint64_t *word);
 /* Aborts: takes every change back, and gives the stripes back. It writes no word.    0; 3; 18; 19 */
 boostmap_status boostmap_abort(boostmap *map, uint64_t caller, uint64_t *word);
 
-/* Operations; *word: the value that the key had. Each may answer 0; 1; 2; 3; 18; 19; 22; 30, and
- * the puts also 32. */
+/* Operations; *word: the value that the key had. Each may answer 0; 1; 2; 3; 18; 19; 22; 30, and all
+ * but get also 32. */
 boostmap_status boostmap_get(boostmap *map, uint64_t caller, uint64_t key, uint64_t *word);
 boostmap_status boostmap_take(boostmap *map, uint64_t caller, uint64_t key, uint64_t *word);
 boostmap_status boostmap_put(boostmap *map, uint64_t caller, uint64_t key, uint64_t value, uint64_t *word);
@@ -202,25 +205,26 @@ boostmap_status boostmap_back(boostmap *map, uint64_t caller, uint64_t level, ui
 
 /* ---- the striped map ----------------------------------------------------------------------------
  *
- * One handle is one caller. Its calls need no lock: give each thread a caller of its own. A caller
- * may go to another thread between two calls, in a transaction too. */
+ * One handle is one caller. Its calls need no lock: give each thread its own caller. A caller may go
+ * to another thread between any two calls, also within a transaction. */
 
-/* A handle of a caller: all zeros, or a caller of a striped map. The fields are not the program's. */
+/* A handle of a caller: all zeros, or a caller of a striped map. The program does not touch the
+ * fields. */
 typedef struct boostmap_caller {
     uint64_t tag;
     void *held;
 } boostmap_caller;
 
-/* Opens a map with no keys, for 1 to 4096 callers and stripes, and gives its first caller; *word: the
- * caller's number, which is the number of callers. The others wait beside it.    0; 4; 38; 30 */
+/* Opens a map with no keys, for 1 to 4096 callers and with 1 to 4096 stripes, and makes `first` its
+ * first caller; *word: the caller's number, which is the number of callers. The others wait until
+ * they are joined.    0; 4; 38; 30 */
 boostmap_status boostmap_striped_open(boostmap_caller *first, uint64_t callers, uint64_t stripes, uint64_t *word);
 
-/* Gives the next caller that waits beside `first` a handle of its own; *word: its number, counted
- * down to 1. Both handles are in the call.    0; 3: `first` is empty; 4: `next` is in use; 18: nobody
- * waits; 30 */
+/* Makes `next` the handle of the next caller that waits; *word: its number, counted down to 1. Both
+ * handles are in this call.    0; 3: `first` is empty; 4: `next` is in use; 18: nobody waits; 30 */
 boostmap_status boostmap_striped_join(boostmap_caller *first, boostmap_caller *next, uint64_t *word);
 
-/* Gives the caller up, and whoever still waits beside it; a transaction that is open is aborted.
+/* Frees the caller, and those that still wait to be joined by it; an open transaction is aborted.
  * 0; 3 */
 boostmap_status boostmap_striped_free(boostmap_caller *caller);
 
@@ -234,7 +238,7 @@ boostmap_status boostmap_striped_commit(boostmap_caller *caller, uint64_t *word)
 boostmap_status boostmap_striped_abort(boostmap_caller *caller);
 
 /* Operations; *word: the value that the key had. Each may answer 0; 1; 2, after which the transaction
- * is over, and aborted; 3; 19; 30, and all but get also 32. */
+ * has been aborted; 3; 19; 30. */
 boostmap_status boostmap_striped_get(boostmap_caller *caller, uint64_t key, uint64_t *word);
 boostmap_status boostmap_striped_take(boostmap_caller *caller, uint64_t key, uint64_t *word);
 boostmap_status boostmap_striped_put(boostmap_caller *caller, uint64_t key, uint64_t value, uint64_t *word);
@@ -249,14 +253,14 @@ boostmap_status boostmap_striped_save(boostmap_caller *caller, uint64_t *word);
  * ones are dropped, the stripes stay held.    0; 3; 19; 25 */
 boostmap_status boostmap_striped_back(boostmap_caller *caller, uint64_t level);
 
-/* Takes every stripe, so that nobody else has any; *word: how many keys the map has, the
- * transaction's own changes included. The stripes stay held to the transaction's end.
- * 0; 2, after which the transaction is over, and aborted; 3; 19; 30 */
+/* Takes every stripe, so that nobody else has any; *word: the number of keys that the map has, with
+ * the transaction's own changes. The stripes stay held to the transaction's end.
+ * 0; 2, after which the transaction has been aborted; 3; 19; 30 */
 boostmap_status boostmap_striped_count(boostmap_caller *caller, uint64_t *word);
 
-/* Takes every stripe in the same way, and writes the pairs of the map to the front of an array with
- * this many places, by rising keys; *word: how many there are. After 7 the array is unchanged, and
- * *word the number of places that it needs.    0; 2; 3; 7; 19; 30 */
+/* Takes every stripe in the same way, and writes the pairs of the map, by rising keys, to the front of
+ * an array of `places` elements; *word: the number of pairs. After 7 the array is unchanged, and *word
+ * is the number of places that it needs.    0; 2; 3; 7; 19; 30 */
 boostmap_status boostmap_striped_read(boostmap_caller *caller, boostmap_pair *pairs, size_t places, uint64_t *word);
 
 /* ---- the judge of histories ---------------------------------------------------------------------
@@ -266,17 +270,17 @@ boostmap_status boostmap_striped_read(boostmap_caller *caller, boostmap_pair *pa
  * commits; if a stripe of keys (key modulo the number of stripes) belongs to one open transaction
  * at a time; and if each caller's entries follow the order of a transaction:
  *
- *     kind             numbers that it has
+ *     kind             its members, and what it says
  *     BEGAN            number: the transaction's, counted from 1 over all callers
  *     ASKED            operation, key, and value or expected: the key's stripe is the caller's now
- *     DID              has, value: the reply of the operation that was asked for
+ *     DID              has, value: the reply to the operation that was asked for
  *     SAVED            a savepoint, the caller's next level
  *     LEAVE            has, number: the caller goes back to a level, or aborts (has is 0)
  *     UNDONE           the newest change that stood is taken back
  *     RETURNED         number: the caller is back at the level
  *     COMMITTED        number: the place in the order of commits, from 1
- *     BUSY             operation, key, .. and number: another caller, which holds the key's stripe;
- *                      the transaction aborts
+ *     FOUND_BUSY       as ASKED, and number: the caller that holds the key's stripe; the
+ *                      transaction aborts
  *     ABORTED          all changes are taken back
  *
  * docs/JUDGE.md has the rules in full. Proved: the verdict says legal exactly if the history is. */
@@ -294,7 +298,7 @@ enum {
 
 enum { BOOSTMAP_PUT = 1, BOOSTMAP_PUT_IF = 2, BOOSTMAP_TAKE = 3, BOOSTMAP_GET = 4 };
 
-/* One entry. Numbers that its kind does not have may be anything. */
+/* One entry. Members that its kind does not have may be anything. */
 typedef struct boostmap_entry {
     uint32_t kind;
     uint32_t operation;
@@ -308,30 +312,33 @@ typedef struct boostmap_entry {
 
 typedef struct boostmap_verdict {
     uint64_t is_legal; /* 1 or 0 */
-    uint64_t commits;  /* if legal: how many transactions are committed, */
-    uint64_t running;  /* and how many callers are in one */
-    uint64_t entry;    /* if not: the index of the first entry that breaks a rule, from 0, */
+    uint64_t commits;  /* if legal: the number of committed transactions, */
+    uint64_t running;  /* and of callers that are in one */
+    uint64_t entry;    /* if not: the index, from 0, of the first entry that breaks a rule, */
     uint64_t rule;     /* and the rule: 1 replies, 2 locks, 3 shape */
 } boostmap_verdict;
 
-/* The rule. By locks: a BUSY entry may name a caller that holds the stripe at that moment, or, for
- * stores that note the entry later, one that has begun a transaction before. By the order of commits,
- * for stores whose readers share locks or read snapshots: each transaction that commits has the
- * replies of running alone on what the commits before it left; stripes, and the replies of others, are
- * not judged. Then the bad entry is a COMMITTED whose transaction had a wrong reply (rule 1), or is out
- * of the order of a transaction (3). */
+/* The rule by which a history is judged.
+ *
+ * By locks: a FOUND_BUSY entry may name a caller that holds the stripe at that moment (HOLDER_NOW), or,
+ * for stores that note the entry later, one that has begun a transaction before (HOLDER_BEGUN).
+ *
+ * By the order of commits, for stores whose readers share locks or read snapshots: each transaction
+ * that commits has the replies of running alone on what the commits before it left. Stripes, and the
+ * replies of transactions that do not commit, are not judged. A bad entry is then a COMMITTED whose
+ * transaction had a wrong reply (rule 1), or an entry out of the order of a transaction (rule 3). */
 enum { BOOSTMAP_HOLDER_NOW = 0, BOOSTMAP_HOLDER_BEGUN = 1, BOOSTMAP_BY_COMMITS = 2 };
 
-/* Begins to judge the history of a map with this many stripes (by commits: any number).
- * 0; 4; 38; 30 */
+/* Begins to judge the history of a map with `stripes` stripes; by the order of commits the number
+ * means nothing.    0; 4; 38; 30 */
 boostmap_status boostmap_judge_new(boostmap_judge *judge, uint64_t stripes, uint32_t rule);
 
-/* The next entry. It was not fed unless the answer is 0; after 30 it may be fed again. After the
- * first entry that breaks a rule no further one changes the verdict.    0; 3; 8; 30 */
+/* Feeds the next entry. It was fed only if the answer is 0; after 30 it may be fed again. After the
+ * first entry that breaks a rule, no further one changes the verdict.    0; 3; 8; 30 */
 boostmap_status boostmap_judge_feed(boostmap_judge *judge, const boostmap_entry *entry);
 
-/* The entries of an array, in their order, up to the first that is not fed; *word: how many were fed.
- * 0; 3, which writes no word; 8 and 30, of the entry with the index *word */
+/* Feeds the entries of an array, in their order, up to the first that cannot be fed; *word: the number
+ * of entries fed.    0; 3, which writes no word; 8 and 30, for the entry with the index *word */
 boostmap_status boostmap_judge_feed_all(boostmap_judge *judge, const boostmap_entry *entries, size_t count,
                                         uint64_t *word);
 

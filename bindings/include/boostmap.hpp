@@ -1,5 +1,5 @@
-// boostmap for C++17: handles as values that are moved and never copied, transactions that abort in
-// their destructor, and `transact` with a lambda. Proved by nothing; it adds no state of its own.
+// boostmap for C++17: handles as values that can be moved but not copied, transactions that abort in
+// their destructor, and `transact` with a lambda. This header is only tested; the archive is proved.
 //
 //     boostmap_cpp::map accounts(2, 64, 1024);
 //     accounts.transact(0, [](auto &t) {
@@ -8,9 +8,10 @@
 //     });                                  commits; an exception aborts
 //
 //     auto callers = boostmap_cpp::open_striped(4, 64);      one for each of four threads
-//     callers[0].transact(100, [](auto &t) { t.put(1, 10); });   tries again if busy, 100 times
+//     callers[0].transact(100, [](auto &t) { t.put(1, 10); });   if busy, tries up to 100 times more
 //
-// Threads: as boostmap.h says, one call at a time on one map, one caller or one judge.
+// Threads: as boostmap.h says, one call at a time on one map, one caller or one judge. Every call
+// that is not done throws `error`, or `busy`.
 #ifndef BOOSTMAP_HPP
 #define BOOSTMAP_HPP
 
@@ -26,23 +27,23 @@
 
 namespace boostmap_cpp {
 
-// What a call throws that is not done.
+// Thrown by a call that is not done, with its status.
 struct error : std::runtime_error {
     boostmap_status status;
     explicit error(boostmap_status s) : std::runtime_error(boostmap_text(s)), status(s) {}
 };
 
-// Another caller holds the key's stripe: the transaction can only abort, or, of a striped map, is
-// aborted.
+// Thrown if another caller holds the key's stripe. The transaction can then only abort; on a striped
+// map it has been aborted.
 struct busy : error {
     std::uint64_t holder;
     explicit busy(std::uint64_t caller) : error(BOOSTMAP_BUSY), holder(caller) {}
 };
 
-// A value that a key has or had, or none.
+// The value of a key, or none.
 using value = std::optional<std::uint64_t>;
 
-// What a call answers: a value, none, or an exception.
+// The answer of a call: a value, none, or an exception.
 inline value told(boostmap_status status, std::uint64_t word) {
     switch (status) {
     case BOOSTMAP_DONE: return word;
@@ -75,10 +76,10 @@ public:
     }
     void help(std::uint64_t caller, std::uint64_t key) { told(boostmap_help(&handle_, caller, key), 0); }
 
-    // Begins a transaction, which aborts when it is destroyed uncommitted.
+    // Begins a transaction, which aborts if it is destroyed before it is committed.
     transaction begin(std::uint64_t caller);
 
-    // Runs a job in a transaction: commits, or aborts if the job throws. Gives what the job gives.
+    // Runs a job in a transaction: commits, or aborts if the job throws. Returns the job's result.
     template <class Job> auto transact(std::uint64_t caller, Job &&job);
 
 private:
@@ -86,7 +87,7 @@ private:
     boostmap handle_ = BOOSTMAP_INIT;
 };
 
-// An open transaction of one caller. It must not outlive its map, nor the map's being moved.
+// An open transaction of one caller. The map must not be destroyed or moved while it is open.
 class transaction {
 public:
     transaction(transaction &&other) noexcept
@@ -111,7 +112,7 @@ public:
     std::uint64_t save() { return *call(boostmap_save); }
     void back(std::uint64_t level) { call(boostmap_back, level); }
 
-    // Commits, and gives the place in the order of commits. The transaction is over then.
+    // Commits, and returns the place in the order of commits. The transaction is over then.
     std::uint64_t commit() {
         std::uint64_t number = *call(boostmap_commit);
         map_ = nullptr;
@@ -157,7 +158,7 @@ template <class Job> auto map::transact(std::uint64_t caller, Job &&job) {
 
 class caller_transaction;
 
-// A caller of a striped map: a thread's own. Callers of one map may be in calls at the same time.
+// A caller of a striped map, for one thread. Callers of one map may be in calls at the same time.
 class caller {
 public:
     caller(caller &&other) noexcept : number_(other.number_) { std::swap(handle_, other.handle_); }
@@ -172,11 +173,11 @@ public:
 
     std::uint64_t number() const { return number_; }
 
-    // Begins a transaction, which aborts when it is destroyed uncommitted.
+    // Begins a transaction, which aborts if it is destroyed before it is committed.
     caller_transaction begin();
 
-    // Runs a job in a transaction: commits, or aborts if the job throws. If a stripe was busy it
-    // begins anew, at most `tries` times more. Gives what the job gives.
+    // Runs a job in a transaction: commits, or aborts if the job throws. If a stripe is busy it
+    // begins again, at most `tries` times. Returns the job's result.
     template <class Job> auto transact(std::uint64_t tries, Job &&job);
 
 private:
@@ -187,7 +188,8 @@ private:
     std::uint64_t number_ = 0;
 };
 
-// Opens a striped map with no keys, for 1 to 4096 callers and stripes, and gives its callers.
+// Opens a striped map with no keys, for 1 to 4096 callers and with 1 to 4096 stripes, and returns its
+// callers.
 inline std::vector<caller> open_striped(std::uint64_t callers, std::uint64_t stripes) {
     std::vector<caller> all;
     caller first;
@@ -202,8 +204,8 @@ inline std::vector<caller> open_striped(std::uint64_t callers, std::uint64_t str
     return all;
 }
 
-// An open transaction of a caller. It must not outlive its caller, nor the caller's being moved. Once
-// a call was busy it is over.
+// An open transaction of a caller. The caller must not be destroyed or moved while it is open. A busy
+// call ends it.
 class caller_transaction {
 public:
     caller_transaction(caller_transaction &&other) noexcept : caller_(std::exchange(other.caller_, nullptr)) {}
@@ -224,7 +226,7 @@ public:
     std::uint64_t save() { return *call(boostmap_striped_save); }
     void back(std::uint64_t level) { told(boostmap_striped_back(handle(), level), 0); }
 
-    // How many keys the map has, and its pairs, by rising keys: every stripe is taken.
+    // The number of keys of the map, and its pairs by rising keys. Both take every stripe.
     std::uint64_t count() { return *call(boostmap_striped_count); }
     std::vector<boostmap_pair> pairs() {
         std::vector<boostmap_pair> all(count() + 1);
@@ -233,7 +235,7 @@ public:
         return all;
     }
 
-    // Commits, and gives the place in the order of commits. The transaction is over then.
+    // Commits, and returns the place in the order of commits. The transaction is over then.
     std::uint64_t commit() {
         std::uint64_t place = *call(boostmap_striped_commit);
         caller_ = nullptr;
@@ -301,7 +303,7 @@ public:
 
     void feed(const boostmap_entry &entry) { told(boostmap_judge_feed(&handle_, &entry), 0); }
 
-    // Feeds entries that lie in memory; what throws has fed those before.
+    // Feeds entries in their order. If one throws, those before it are fed.
     void feed(const std::vector<boostmap_entry> &entries) {
         std::uint64_t count = 0;
         if (entries.empty()) return;
@@ -358,7 +360,7 @@ inline boostmap_entry returned(std::uint64_t caller, std::uint64_t level) { retu
 inline boostmap_entry committed(std::uint64_t caller, std::uint64_t place) {
     return of(BOOSTMAP_COMMITTED, caller, place);
 }
-// The operation's stripe is found in the hands of `holder`.
+// The stripe of the operation that was asked for is held by `holder`.
 inline boostmap_entry found_busy(const boostmap_entry &asked, std::uint64_t holder) {
     boostmap_entry entry = asked;
     entry.kind = BOOSTMAP_FOUND_BUSY;

@@ -1,8 +1,7 @@
-/* The calls of boostmap.h behind a door: a null pointer is answered BOOSTMAP_NULL, and a handle that
- * is in another call BOOSTMAP_IN_CALL, in place of undefined behaviour. So any thread may call at
- * any time: the door is a seq_cst exchange, which also orders the calls. A null word is allowed, if
- * the caller does not want it. Needs C11; proved by nothing, and short enough to read. It costs
- * about 20 ns a call.
+/* The calls of boostmap.h behind a door: instead of undefined behaviour, a null handle is answered
+ * BOOSTMAP_NULL, and a handle that is in another call BOOSTMAP_IN_CALL. So any thread may call at any
+ * time: the door is a seq_cst exchange, which also orders the calls. `word` may be null if the number
+ * is not needed. Needs C11. This header is only tested. A door costs about 20 ns a call.
  *
  *     boostmap_door map = BOOSTMAP_DOOR_INIT;
  *     boostmap_checked_new(&map, 2, 64, 1024);
@@ -33,7 +32,7 @@ typedef struct boostmap_door {
         return status;                                                                             \
     }
 
-/* The same for a call with a word, which may be null here. */
+/* Defines boostmap_checked_NAME for a call with a word, which may be null here. */
 #define BOOSTMAP_CHECKED_WORD(NAME, PARAMETERS, CALL)                                               \
     static inline boostmap_status boostmap_checked_##NAME PARAMETERS {                             \
         boostmap_status status;                                                                    \
@@ -75,7 +74,7 @@ BOOSTMAP_CHECKED_WORD(save, (boostmap_door *door, uint64_t caller, uint64_t *wor
 BOOSTMAP_CHECKED_WORD(back, (boostmap_door *door, uint64_t caller, uint64_t level, uint64_t *word),
                       boostmap_back(&door->map, caller, level, word))
 
-/* A caller of a striped map behind a door of its own. */
+/* A caller of a striped map behind its own door. */
 typedef struct boostmap_caller_door {
     boostmap_caller caller;
     atomic_uint is_in_call;

@@ -1,21 +1,21 @@
 """boostmap: transactional maps from 64-bit keys to 64-bit values, over a proved library.
 
-    from boostmap import Map
+    from boostmap import Map, open_striped
 
     accounts = Map(callers=2, stripes=64, buckets=1024)
     with accounts.transaction() as t:        # commits at the end, aborts at an exception
         t.put(1, 100)
         t.put(2, t.get(2) or 0)
 
-A striped map is for threads: each has a caller of its own, and callers run side by side.
+A striped map is for threads: each thread has its own caller, and callers run in parallel.
 
-    callers = boostmap.open_striped(callers=4, stripes=64)
+    callers = open_striped(callers=4, stripes=64)
     with callers[0].transaction() as t:      # Busy if another caller has the key's stripe
         t.put(1, 100)
 
-The library is libboostmap.so, beside this file or where BOOSTMAP_SO names it; `install.sh` of the
-repository makes it. It is proved; this module is only tested. Threads may share a map, a caller or a
-judge: each call holds its lock, and the interpreter's is released meanwhile.
+The library is libboostmap.so, beside this file or at the path in BOOSTMAP_SO; `bindings/install.sh` of
+the repository builds it. It is proved; this module is only tested. Threads may share a map, a caller
+or a judge: each call holds that object's lock, and releases the interpreter's lock meanwhile.
 """
 import collections
 import ctypes
@@ -50,7 +50,7 @@ class _Verdict(ctypes.Structure):
 
 _HANDLE, _WORD = ctypes.POINTER(_Handle), ctypes.POINTER(_U64)
 
-# The calls of boostmap.h: how many numbers stand between the handle and the word, and whether there
+# The calls of boostmap.h: the number of arguments between the handle and the word, and whether there
 # is a word.
 _CALLS = {
     "new": (3, False), "free": (0, False), "count": (0, True), "help": (2, False),
@@ -100,8 +100,8 @@ class Error(Exception):
 
 
 class Busy(Error):
-    """Another caller, `holder`, holds the key's stripe: the transaction can only abort, or, of a striped map, is
-    aborted."""
+    """Another caller, `holder`, holds the key's stripe. The transaction can then only abort; on a striped map it has
+    been aborted."""
 
     def __init__(self, holder):
         super().__init__(f"caller {holder} holds the key's stripe")
@@ -109,7 +109,7 @@ class Busy(Error):
 
 
 class Refused(Error):
-    """The call was refused by `status`, and nothing has changed."""
+    """The call was refused with `status`, and nothing has changed."""
 
     def __init__(self, status):
         super().__init__(_REASONS.get(status, f"status {status}"))
@@ -145,7 +145,7 @@ class _Owned:
         return _told(status, word)
 
     def close(self):
-        """Frees it; a transaction that is open is gone."""
+        """Frees the handle; an open transaction is lost with it."""
         with self._lock:
             getattr(_library, "boostmap_" + self._free)(self._handle)
 
@@ -161,7 +161,7 @@ class _Owned:
 
 
 class Map(_Owned):
-    """A map for 1 to 64 callers, 1 to 4096 stripes, and at most `buckets`, a power of two to 65536."""
+    """A map for 1 to 64 callers, with 1 to 4096 stripes and at most `buckets` buckets (a power of two, 2 to 65536)."""
 
     _free = "free"
 
@@ -173,7 +173,7 @@ class Map(_Owned):
         return self._call("count")
 
     def items(self):
-        """A dictionary of the map as it is now, the changes of open transactions included."""
+        """A dictionary of the map as it is now, with the changes of open transactions."""
         places, word = 0, _U64(0)
         while True:
             pairs = (_Pair * places)()
@@ -186,7 +186,7 @@ class Map(_Owned):
             places = word.value
 
     def help(self, key, caller=0):
-        """Doubles the table if it has more than two keys a bucket, and prepares the key's bucket."""
+        """Doubles the table if it has more than two keys a bucket, and initialises the key's bucket."""
         self._call("help", caller, key)
 
     def transaction(self, caller=0):
@@ -224,7 +224,7 @@ class Transaction:
         return self._map._call("put", self._caller, key, value)
 
     def put_if(self, key, expected, value):
-        """Puts the value if the key has the expected one, or None; gives what the key had."""
+        """Puts the value if the key has the expected one, or None if it is absent; returns the value before."""
         if expected is None:
             return self._map._call("put_if_absent", self._caller, key, value)
         return self._map._call("put_if_equal", self._caller, key, expected, value)
@@ -237,8 +237,8 @@ class Transaction:
 
 
 def open_striped(callers=1, stripes=64):
-    """Opens a striped map with no keys, for 1 to 4096 callers and stripes, and gives its callers, by their numbers
-    from 1. The map goes with the last of them."""
+    """Opens a striped map with no keys, for 1 to 4096 callers and with 1 to 4096 stripes, and returns its callers, by
+    their numbers from 1. The map is freed with the last of them."""
     first = Caller()
     first.number = first._call("striped_open", callers, stripes)
     others = []
@@ -251,7 +251,7 @@ def open_striped(callers=1, stripes=64):
 
 
 class Caller(_Owned):
-    """A caller of a striped map, by `open_striped`: one for each thread. Closed in a transaction, it aborts it."""
+    """A caller of a striped map, made by `open_striped`: one for each thread. Closing it aborts an open transaction."""
 
     _free = "striped_free"
     number = None
@@ -261,8 +261,8 @@ class Caller(_Owned):
         return CallerTransaction(self)
 
     def transact(self, job, tries=100):
-        """Runs a job, which is given the transaction, and commits; where a stripe was busy it begins anew, at most
-        `tries` times more. Gives what the job gives."""
+        """Runs a job, which is given the transaction, and commits. If a stripe is busy it begins again, at most `tries`
+        times. Returns the job's result."""
         while True:
             try:
                 with self.transaction() as t:
@@ -275,7 +275,7 @@ class Caller(_Owned):
 
 
 class CallerTransaction:
-    """A caller's transaction. A key without a value has None. After Busy it is over: each call is refused."""
+    """A caller's transaction. A key without a value has None. After Busy it is over: each further call is refused."""
 
     def __init__(self, of):
         self._caller, self.commit_number, self._is_open = of, None, False
@@ -311,7 +311,7 @@ class CallerTransaction:
         return self._call("striped_put", key, value)
 
     def put_if(self, key, expected, value):
-        """Puts the value if the key has the expected one, or None; gives what the key had."""
+        """Puts the value if the key has the expected one, or None if it is absent; returns the value before."""
         if expected is None:
             return self._call("striped_put_if_absent", key, value)
         return self._call("striped_put_if_equal", key, expected, value)
@@ -342,9 +342,9 @@ _OPERATIONS = {"put": 1, "put_if": 2, "take": 3, "get": 4}
 
 
 class Entry(collections.namedtuple("Entry", "kind caller operation key value expected number")):
-    """An entry of a history: its kind, one of began, asked, did, saved, leave, undone, returned, committed, busy and
-    aborted; its caller, below 64; and what its kind has: an operation (put, put_if, take or get), a key, a value or
-    reply, an expected value, a number (the transaction, level, place or holder). What is not there is None."""
+    """An entry of a history: its kind (began, asked, did, saved, leave, undone, returned, committed, busy or aborted);
+    its caller, below 64; and, if its kind has them, an operation (put, put_if, take or get), a key, a value or reply,
+    an expected value, and a number (of the transaction, level, place or holder). The others are None."""
 
     def __new__(cls, kind, caller, operation=None, key=None, value=None, expected=None, number=None):
         return super().__new__(cls, kind, caller, operation, key, value, expected, number)
@@ -356,14 +356,14 @@ class Entry(collections.namedtuple("Entry", "kind caller operation key value exp
 
 
 Verdict = collections.namedtuple("Verdict", "is_legal commits running entry rule")
-Verdict.__doc__ = """What the judge says: if legal, how many transactions are committed and how many callers are in
+Verdict.__doc__ = """What the judge says. If legal, the number of committed transactions, and of callers that are in
 one; if not, the index of the first bad entry, from 0, and its rule: "replies", "locks" or "shape"."""
 
 
 class Judge(_Owned):
-    """The judge of the history of a map with this many stripes. A busy entry may name a caller that holds the stripe
-    at that moment, or, by `begun=True`, one that has begun a transaction before. By `by_commits=True` it judges by
-    the order of commits, for stores whose readers share locks or read snapshots; stripes are not judged then."""
+    """The judge of the history of a map with `stripes` stripes. A busy entry may name a caller that holds the stripe
+    at that moment, or, with `begun=True`, one that has begun a transaction before. With `by_commits=True` it judges
+    by the order of commits, for stores whose readers share locks or read snapshots, and judges no stripes."""
 
     _free = "judge_free"
 
@@ -373,14 +373,14 @@ class Judge(_Owned):
         _told(_library.boostmap_judge_new(self._handle, _number(stripes), rule), _U64(0))
 
     def feed(self, entry):
-        """Feeds the next entry; what raises has fed nothing."""
+        """Feeds the next entry. If it raises, nothing was fed."""
         entry = entry._to_c()
         with self._lock:
             status = _library.boostmap_judge_feed(self._handle, entry)
         _told(status, _U64(0))
 
     def feed_all(self, entries):
-        """Feeds entries in their order; where one raises, those before it are fed."""
+        """Feeds entries in their order. If one raises, those before it are fed."""
         entries, word = [entry._to_c() for entry in entries], _U64(0)
         array = (_Entry * max(len(entries), 1))(*entries)
         with self._lock:

@@ -1,10 +1,10 @@
-//! Callers of a striped map: each thread has its own, and no call takes a lock or waits.
+//! The striped map, for threads: each thread has its own caller, and no call takes a lock or waits.
 use crate::sys::{self, Handle};
 use crate::{answer, Error, Result};
 use std::thread;
 
-/// Opens a striped map with no keys, for 1 to 4096 callers and stripes, and gives its callers, by
-/// their numbers from 1. The map goes with the last of them.
+/// Opens a striped map with no keys, for 1 to 4096 callers and with 1 to 4096 stripes, and returns its
+/// callers, by their numbers from 1. The map is freed with the last of them.
 ///
 /// ```
 /// use std::thread;
@@ -44,7 +44,7 @@ pub fn open_striped(callers: u64, stripes: u64) -> Result<Vec<Caller>> {
     Ok(all)
 }
 
-/// A caller of a striped map. Dropped in a transaction, it aborts it.
+/// A caller of a striped map, for one thread. Its drop aborts an open transaction.
 pub struct Caller {
     handle: Handle,
     number: u64,
@@ -60,23 +60,23 @@ impl Caller {
         self.number
     }
 
-    /// Begins a transaction, which aborts when it is dropped uncommitted.
+    /// Begins a transaction, which aborts if it is dropped before it is committed.
     ///
     /// # Errors
     ///
-    /// `AlreadyOpen`, after a transaction that was leaked.
+    /// `AlreadyOpen`, if an earlier transaction was leaked.
     pub fn begin(&mut self) -> Result<CallerTransaction<'_>> {
-        // SAFETY: as of `call`.
+        // SAFETY: see `call`.
         self.call(|at, _| unsafe { sys::boostmap_striped_begin(at) })?;
         Ok(CallerTransaction { caller: self, is_open: true })
     }
 
-    /// Runs a job in a transaction: commits, or aborts if the job fails or panics. If a stripe was
-    /// busy it begins anew, at most `tries` times more.
+    /// Runs a job in a transaction: commits, or aborts if the job fails or panics. If a stripe is busy
+    /// it begins again, at most `tries` times.
     ///
     /// # Errors
     ///
-    /// The job's, and `NotOpen` if it went on after `Busy`.
+    /// The job's; `NotOpen` if the job returned `Ok` although a call was `Busy`.
     pub fn transact<T>(
         &mut self,
         tries: u64,
@@ -113,8 +113,8 @@ impl Drop for Caller {
     }
 }
 
-/// An open transaction of a caller, which aborts when it is dropped uncommitted. Once a call was
-/// `Busy` it is over, and every further one `NotOpen`.
+/// An open transaction of a caller, which aborts if it is dropped before it is committed. Once a call
+/// was `Busy` it is over, and every further call returns `NotOpen`.
 pub struct CallerTransaction<'a> {
     caller: &'a mut Caller,
     is_open: bool,
@@ -122,22 +122,38 @@ pub struct CallerTransaction<'a> {
 
 impl CallerTransaction<'_> {
     /// The value at a key.
+    ///
+    /// # Errors
+    ///
+    /// `Busy`, `NotOpen` and `NoMemory`.
     pub fn get(&mut self, key: u64) -> Result<Option<u64>> {
         self.call(|at, word| unsafe { sys::boostmap_striped_get(at, key, word) })
     }
 
-    /// Takes a key out, and gives the value that it had.
+    /// Takes a key out, and returns the value that it had.
+    ///
+    /// # Errors
+    ///
+    /// Those of `get`.
     pub fn take(&mut self, key: u64) -> Result<Option<u64>> {
         self.call(|at, word| unsafe { sys::boostmap_striped_take(at, key, word) })
     }
 
-    /// Puts a value, and gives the one before.
+    /// Puts a value at a key, and returns the one before.
+    ///
+    /// # Errors
+    ///
+    /// Those of `get`.
     pub fn put(&mut self, key: u64, value: u64) -> Result<Option<u64>> {
         self.call(|at, word| unsafe { sys::boostmap_striped_put(at, key, value, word) })
     }
 
-    /// Puts a value if the key has the expected one, or none; gives the value before. It was put
-    /// exactly if that is what was expected.
+    /// Puts a value if the key has the expected one (`None`: if it is absent), and returns the value
+    /// before. The value was put exactly if that is the expected one.
+    ///
+    /// # Errors
+    ///
+    /// Those of `get`.
     pub fn put_if(&mut self, key: u64, expected: Option<u64>, value: u64) -> Result<Option<u64>> {
         self.call(|at, word| unsafe {
             match expected {
@@ -147,31 +163,52 @@ impl CallerTransaction<'_> {
         })
     }
 
-    /// Sets a savepoint, and gives its level.
+    /// Sets a savepoint, and returns its level.
+    ///
+    /// # Errors
+    ///
+    /// `NotOpen` and `NoMemory`.
     pub fn save(&mut self) -> Result<u64> {
         self.call(|at, word| unsafe { sys::boostmap_striped_save(at, word) }).map(Option::unwrap_or_default)
     }
 
-    /// Takes back every change since the level was set; 0 is the beginning.
+    /// Takes back every change since the level was set; 0 is the beginning of the transaction.
+    ///
+    /// # Errors
+    ///
+    /// `NotOpen` and `NoSuchLevel`.
     pub fn back(&mut self, level: u64) -> Result<()> {
         self.call(|at, _| unsafe { sys::boostmap_striped_back(at, level) }).map(drop)
     }
 
-    /// How many keys the map has, with the transaction's own changes: every stripe is taken.
+    /// The number of keys of the map, with the transaction's own changes. Takes every stripe.
+    ///
+    /// # Errors
+    ///
+    /// Those of `get`.
     pub fn count(&mut self) -> Result<u64> {
         self.call(|at, word| unsafe { sys::boostmap_striped_count(at, word) }).map(Option::unwrap_or_default)
     }
 
-    /// The pairs of the map, by rising keys, with the transaction's own changes: every stripe is taken.
+    /// The pairs of the map, by rising keys, with the transaction's own changes. Takes every stripe.
+    ///
+    /// # Errors
+    ///
+    /// Those of `get`.
     pub fn pairs(&mut self) -> Result<Vec<(u64, u64)>> {
         let mut pairs = vec![sys::Pair { key: 0, value: 0 }; self.count()? as usize];
         let (start, places) = (pairs.as_mut_ptr(), pairs.len());
-        // The array has the places that its length says, one for each key; nobody else has a stripe.
+        // SAFETY: the array has as many places as its length says, one for each key: nobody else has a
+        // stripe.
         self.call(|at, word| unsafe { sys::boostmap_striped_read(at, start, places, word) })?;
         Ok(pairs.iter().map(|pair| (pair.key, pair.value)).collect())
     }
 
-    /// Commits, and gives the place in the order of commits.
+    /// Commits, and returns the place in the order of commits.
+    ///
+    /// # Errors
+    ///
+    /// `NotOpen`.
     pub fn commit(mut self) -> Result<u64> {
         let place = self.call(|at, word| unsafe { sys::boostmap_striped_commit(at, word) })?;
         self.is_open = false;
@@ -193,7 +230,7 @@ impl CallerTransaction<'_> {
 impl Drop for CallerTransaction<'_> {
     fn drop(&mut self) {
         if self.is_open {
-            // SAFETY: as of `Caller::call`.
+            // SAFETY: see `Caller::call`.
             let _ = self.caller.call(|at, _| unsafe { sys::boostmap_striped_abort(at) });
         }
     }

@@ -1,4 +1,4 @@
-//! The judge of histories, fed entry by entry.
+//! The judge of histories, which is fed entry by entry.
 use crate::sys::{self, Handle};
 use crate::{Error, Result};
 
@@ -15,16 +15,16 @@ pub enum Operation {
     Get { key: u64 },
 }
 
-/// An entry of a history, of this map or of your own store. Each names its caller, below 64, first.
+/// An entry of a history, of this map or of your own store. Its first member is its caller, below 64.
 #[derive(Clone, Copy, Debug, PartialEq, Eq)]
 pub enum Entry {
     /// A transaction began, with its number, counted from 1 over all callers.
     Began(u64, u64),
     /// An operation was asked for: the key's stripe is the caller's now.
     Asked(u64, Operation),
-    /// The reply of the operation that was asked for.
+    /// The reply to the operation that was asked for.
     Did(u64, Option<u64>),
-    /// A savepoint was set, of the caller's next level.
+    /// A savepoint was set: the caller's next level.
     Saved(u64),
     /// The caller goes back to a level, or, without one, aborts.
     Leave(u64, Option<u64>),
@@ -34,7 +34,7 @@ pub enum Entry {
     Returned(u64, u64),
     /// The transaction committed, with its place in the order of commits, from 1.
     Committed(u64, u64),
-    /// Another caller, named last, holds the key's stripe; the transaction aborts.
+    /// The caller named last holds the key's stripe; the transaction aborts.
     Busy(u64, Operation, u64),
     /// All changes are taken back.
     Aborted(u64),
@@ -80,7 +80,7 @@ impl Operation {
     }
 }
 
-/// Whom a `Busy` entry may name.
+/// The caller that a `Busy` entry may name.
 #[derive(Clone, Copy, Debug, PartialEq, Eq)]
 pub enum Holder {
     /// A caller that holds the stripe at that moment.
@@ -95,18 +95,18 @@ const BY_COMMITS: u32 = 2;
 /// The rule that an entry breaks.
 #[derive(Clone, Copy, Debug, PartialEq, Eq)]
 pub enum Rule {
-    /// A reply is not that of running alone after the commits before.
+    /// A reply is not the one of running alone after the commits before.
     Replies,
-    /// A stripe is in two hands.
+    /// Two transactions hold a stripe, or a `Busy` entry names a caller that it may not name.
     Locks,
     /// A caller's entries do not follow the order of a transaction.
     Shape,
 }
 
-/// What the judge says of the entries so far.
+/// The judge's verdict on the entries so far.
 #[derive(Clone, Copy, Debug, PartialEq, Eq)]
 pub enum Verdict {
-    /// No entry breaks a rule: so many transactions are committed, and callers are in one.
+    /// No entry breaks a rule. The number of committed transactions, and of callers that are in one.
     Legal { commits: u64, running: u64 },
     /// The first entry that breaks a rule, counted from 0.
     Illegal { entry: u64, rule: Rule },
@@ -132,7 +132,7 @@ pub struct Judge(Handle);
 unsafe impl Send for Judge {}
 
 impl Judge {
-    /// Begins to judge the history of a map with this many stripes, by locks.
+    /// Begins to judge the history of a map with `stripes` stripes, by locks.
     ///
     /// # Errors
     ///
@@ -161,12 +161,12 @@ impl Judge {
         }
     }
 
-    /// Feeds the next entry. After the first that breaks a rule no further one changes the verdict.
+    /// Feeds the next entry. After the first that breaks a rule, no further one changes the verdict.
     ///
     /// # Errors
     ///
-    /// Nothing was fed: `NoEntry` of a caller that is not below 64; `NoMemory`, after which the entry
-    /// may be fed again.
+    /// `NoEntry` if the caller is not below 64, and `NoMemory`. Nothing was fed then, and after
+    /// `NoMemory` the entry may be fed again.
     pub fn feed(&mut self, entry: Entry) -> Result<()> {
         // SAFETY: the handle is live, and both pointers are borrows.
         match unsafe { sys::boostmap_judge_feed(&mut self.0, &entry.to_c()) } {
@@ -175,11 +175,11 @@ impl Judge {
         }
     }
 
-    /// Feeds entries in their order, up to the first that is not fed.
+    /// Feeds entries in their order, up to the first that cannot be fed.
     ///
     /// # Errors
     ///
-    /// Those of `feed`; the entries before that one are fed.
+    /// Those of [`Judge::feed`]; the entries before that one are fed.
     pub fn feed_all(&mut self, entries: &[Entry]) -> Result<()> {
         let entries: Vec<sys::Entry> = entries.iter().map(|entry| entry.to_c()).collect();
         let mut fed = 0;

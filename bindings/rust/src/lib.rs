@@ -1,5 +1,5 @@
-//! Transactional maps from `u64` to `u64` over the proved static library `boostmap_c`: one with one
-//! owner ([`Map`]), one for threads ([`open_striped`]), and the judge of their histories ([`Judge`]).
+//! Transactional maps from `u64` to `u64`, over the proved static library `boostmap_c`: a map with one
+//! owner ([`Map`]), a map for threads ([`open_striped`]), and a judge of histories ([`Judge`]).
 //!
 //! ```
 //! use boostmap::Map;
@@ -20,11 +20,12 @@
 //! # Ok::<(), boostmap::Error>(())
 //! ```
 //!
-//! Safe: `&mut self` is the rule "one call at a time on a handle", `Drop` frees what a handle owns,
-//! and no call of the archive asks for more than its types. The archive is proved; this crate, with
-//! its declarations of the archive's calls, is only tested. A map, a caller and a judge may change
-//! threads, since what their handles own is `Send` (proved: `sends_core`, `sends_member`,
-//! `sends_referee`), and a map may be shared behind a `Mutex`.
+//! The interface is safe: `&mut self` allows one call at a time on a handle, `Drop` frees what a handle
+//! owns, and the calls of the archive require nothing beyond their types. The archive is proved; this
+//! crate, with its declarations of the archive's calls, is only tested.
+//!
+//! A map, a caller and a judge may move to another thread, since what their handles own is `Send`
+//! (proved: `sends_core`, `sends_member`, `sends_referee`). A map may be shared behind a `Mutex`.
 
 use std::error;
 use std::fmt;
@@ -141,8 +142,8 @@ mod sys {
 /// Why a call was not done.
 #[derive(Clone, Copy, Debug, PartialEq, Eq)]
 pub enum Error {
-    /// Another caller, of this number, holds the key's stripe: the transaction can only abort, or, of
-    /// a striped map, is aborted.
+    /// The caller with this number holds the key's stripe. The transaction can then only abort; on a
+    /// striped map it has been aborted.
     Busy(u64),
     /// The caller's number is out of range.
     NoSuchCaller,
@@ -160,9 +161,9 @@ pub enum Error {
     StampsUsedUp,
     /// A limit is out of range.
     Limit,
-    /// An entry is of a caller that is not below 64.
+    /// An entry's caller is not below 64.
     NoEntry,
-    /// A status that no call of this crate can be answered.
+    /// A status that no call of this crate can return.
     Other(u32),
 }
 
@@ -204,10 +205,11 @@ impl fmt::Display for Error {
 
 impl error::Error for Error {}
 
-/// What a call gives.
+/// The result of a call.
 pub type Result<T> = std::result::Result<T, Error>;
 
-/// A transactional map.
+/// A transactional map with one owner, for up to 64 callers whose transactions may be open at the same
+/// time.
 pub struct Map(sys::Handle);
 
 // SAFETY: `sends_core` of the archive proves `Send` of what a handle owns, and `&mut self` puts the
@@ -215,8 +217,8 @@ pub struct Map(sys::Handle);
 unsafe impl Send for Map {}
 
 impl Map {
-    /// A map in which nothing has happened, for 1 to 64 callers, 1 to 4096 stripes and at most so
-    /// many buckets, a power of two from 2 to 65536.
+    /// An empty map for 1 to 64 callers, with 1 to 4096 stripes and at most `buckets` buckets, a power
+    /// of two from 2 to 65536.
     ///
     /// # Errors
     ///
@@ -230,13 +232,12 @@ impl Map {
         }
     }
 
-    /// How many keys the map has, the changes of open transactions included.
+    /// The number of keys of the map, with the changes of open transactions. Never an error.
     pub fn count(&mut self) -> Result<u64> {
         self.call(|map, word| unsafe { sys::boostmap_count(map, word) }).map(Option::unwrap_or_default)
     }
 
-    /// The pairs of the map as it is now, the changes of open transactions included, in no useful
-    /// order.
+    /// The pairs of the map, with the changes of open transactions, in no particular order.
     ///
     /// # Errors
     ///
@@ -244,12 +245,13 @@ impl Map {
     pub fn pairs(&mut self) -> Result<Vec<(u64, u64)>> {
         let mut pairs = vec![sys::Pair { key: 0, value: 0 }; self.count()? as usize];
         let (start, places) = (pairs.as_mut_ptr(), pairs.len());
-        // The array has the places that its length says, one for each key.
+        // SAFETY: the array has as many places as its length says, one for each key.
         self.call(|map, word| unsafe { sys::boostmap_read(map, start, places, word) })?;
         Ok(pairs.iter().map(|pair| (pair.key, pair.value)).collect())
     }
 
-    /// Doubles the table if it has more than two keys a bucket, and prepares the key's bucket.
+    /// Doubles the table if it has more than two keys a bucket, and initialises the key's bucket.
+    /// Nothing else doubles the table, so call this now and then when you put keys.
     ///
     /// # Errors
     ///
@@ -258,8 +260,9 @@ impl Map {
         self.call(|map, _| unsafe { sys::boostmap_help(map, caller, key) }).map(drop)
     }
 
-    /// Begins a transaction of a caller, which aborts when it is dropped uncommitted. Meanwhile it
-    /// borrows the map; to have several open at once, use the calls by number, as `begin_caller`.
+    /// Begins a transaction of a caller, which aborts if it is dropped before it is committed. It
+    /// borrows the map; to have several open at once, use the calls that take the caller's number, such
+    /// as [`Map::begin_caller`].
     ///
     /// # Errors
     ///
@@ -281,38 +284,67 @@ impl Map {
         Ok(value)
     }
 
-    /// Begins a transaction, and gives its number. The caller commits or aborts it by number.
+    /// Begins a caller's transaction, and returns its number. It stays open until
+    /// [`Map::commit_caller`] or [`Map::abort_caller`].
+    ///
+    /// # Errors
+    ///
+    /// `NoSuchCaller`, `AlreadyOpen` and `NoMemory`.
     pub fn begin_caller(&mut self, caller: u64) -> Result<u64> {
         self.call(|map, word| unsafe { sys::boostmap_begin(map, caller, word) }).map(Option::unwrap_or_default)
     }
 
-    /// Commits a caller's transaction, and gives its place in the order of commits.
+    /// Commits a caller's transaction, and returns its place in the order of commits.
+    ///
+    /// # Errors
+    ///
+    /// `NoSuchCaller`, `NotOpen` and `Leaving`.
     pub fn commit_caller(&mut self, caller: u64) -> Result<u64> {
         self.call(|map, word| unsafe { sys::boostmap_commit(map, caller, word) }).map(Option::unwrap_or_default)
     }
 
-    /// Aborts a caller's transaction.
+    /// Aborts a caller's transaction: takes all its changes back.
+    ///
+    /// # Errors
+    ///
+    /// `NoSuchCaller` and `NotOpen`.
     pub fn abort_caller(&mut self, caller: u64) -> Result<()> {
         self.call(|map, word| unsafe { sys::boostmap_abort(map, caller, word) }).map(drop)
     }
 
     /// The value at a key, in the caller's transaction.
+    ///
+    /// # Errors
+    ///
+    /// `Busy`, `NoSuchCaller`, `NotOpen`, `Leaving` and `NoMemory`.
     pub fn get(&mut self, caller: u64, key: u64) -> Result<Option<u64>> {
         self.call(|map, word| unsafe { sys::boostmap_get(map, caller, key, word) })
     }
 
-    /// Takes a key out, and gives the value that it had.
+    /// Takes a key out, and returns the value that it had.
+    ///
+    /// # Errors
+    ///
+    /// Those of `get`, and `StampsUsedUp`.
     pub fn take(&mut self, caller: u64, key: u64) -> Result<Option<u64>> {
         self.call(|map, word| unsafe { sys::boostmap_take(map, caller, key, word) })
     }
 
-    /// Puts a value, and gives the one before.
+    /// Puts a value at a key, and returns the one before.
+    ///
+    /// # Errors
+    ///
+    /// Those of `take`.
     pub fn put(&mut self, caller: u64, key: u64, value: u64) -> Result<Option<u64>> {
         self.call(|map, word| unsafe { sys::boostmap_put(map, caller, key, value, word) })
     }
 
-    /// Puts a value if the key has the expected one, or none; gives the value before. It was put
-    /// exactly if that is what was expected.
+    /// Puts a value if the key has the expected one (`None`: if it is absent), and returns the value
+    /// before. The value was put exactly if that is the expected one.
+    ///
+    /// # Errors
+    ///
+    /// Those of `take`.
     pub fn put_if(&mut self, caller: u64, key: u64, expected: Option<u64>, value: u64) -> Result<Option<u64>> {
         self.call(|map, word| unsafe {
             match expected {
@@ -322,12 +354,20 @@ impl Map {
         })
     }
 
-    /// Sets a savepoint, and gives its level.
+    /// Sets a savepoint, and returns its level.
+    ///
+    /// # Errors
+    ///
+    /// `NoSuchCaller`, `NotOpen`, `Leaving` and `NoMemory`.
     pub fn save(&mut self, caller: u64) -> Result<u64> {
         self.call(|map, word| unsafe { sys::boostmap_save(map, caller, word) }).map(Option::unwrap_or_default)
     }
 
-    /// Takes back every change since the level was set; 0 is the beginning.
+    /// Takes back every change since the level was set; 0 is the beginning of the transaction.
+    ///
+    /// # Errors
+    ///
+    /// Those of `save`, and `NoSuchLevel`.
     pub fn back(&mut self, caller: u64, level: u64) -> Result<()> {
         self.call(|map, word| unsafe { sys::boostmap_back(map, caller, level, word) }).map(drop)
     }
@@ -339,7 +379,7 @@ impl Map {
     }
 }
 
-// Makes a call with a word, and tells its answer.
+// Makes a call that may write a word, and turns its status into a result.
 fn answer(handle: &mut sys::Handle, job: impl FnOnce(*mut sys::Handle, *mut u64) -> u32) -> Result<Option<u64>> {
     let mut word = 0;
     match job(handle, &mut word) {
@@ -356,7 +396,7 @@ impl Drop for Map {
     }
 }
 
-/// An open transaction, which aborts when it is dropped uncommitted.
+/// An open transaction, which aborts if it is dropped before it is committed.
 pub struct Transaction<'a> {
     map: &'a mut Map,
     caller: u64,
@@ -371,36 +411,65 @@ impl Transaction<'_> {
     }
 
     /// The value at a key.
+    ///
+    /// # Errors
+    ///
+    /// Those of [`Map::get`].
     pub fn get(&mut self, key: u64) -> Result<Option<u64>> {
         self.map.get(self.caller, key)
     }
 
-    /// Takes a key out, and gives the value that it had.
+    /// Takes a key out, and returns the value that it had.
+    ///
+    /// # Errors
+    ///
+    /// Those of [`Map::take`].
     pub fn take(&mut self, key: u64) -> Result<Option<u64>> {
         self.map.take(self.caller, key)
     }
 
-    /// Puts a value, and gives the one before.
+    /// Puts a value at a key, and returns the one before.
+    ///
+    /// # Errors
+    ///
+    /// Those of [`Map::take`].
     pub fn put(&mut self, key: u64, value: u64) -> Result<Option<u64>> {
         self.map.put(self.caller, key, value)
     }
 
-    /// Puts a value if the key has the expected one, or none; gives the value before.
+    /// Puts a value if the key has the expected one (`None`: if it is absent), and returns the value
+    /// before.
+    ///
+    /// # Errors
+    ///
+    /// Those of [`Map::take`].
     pub fn put_if(&mut self, key: u64, expected: Option<u64>, value: u64) -> Result<Option<u64>> {
         self.map.put_if(self.caller, key, expected, value)
     }
 
-    /// Sets a savepoint, and gives its level.
+    /// Sets a savepoint, and returns its level.
+    ///
+    /// # Errors
+    ///
+    /// Those of [`Map::save`].
     pub fn save(&mut self) -> Result<u64> {
         self.map.save(self.caller)
     }
 
-    /// Takes back every change since the level was set; 0 is the beginning.
+    /// Takes back every change since the level was set; 0 is the beginning of the transaction.
+    ///
+    /// # Errors
+    ///
+    /// Those of [`Map::back`].
     pub fn back(&mut self, level: u64) -> Result<()> {
         self.map.back(self.caller, level)
     }
 
-    /// Commits, and gives the place in the order of commits.
+    /// Commits, and returns the place in the order of commits.
+    ///
+    /// # Errors
+    ///
+    /// `Leaving`, after a call was `Busy`.
     pub fn commit(mut self) -> Result<u64> {
         let number = self.map.commit_caller(self.caller)?;
         self.is_open = false;
