@@ -2,12 +2,12 @@
 use Rattle.std.specs.Prelude.{ℕ, ◌≡◌, ◌≢◌, ◌+◌, unwrap_or}
 use Rattle.txn_trace.specs.Map.{Map, get}
 
--- What an account has: 0 where its key is not there.
+-- The balance of an account: 0 if its key is not there.
 abbrev pub balance : Map → ℕ → ℕ
 balance m account = unwrap_or (get m account) 0
 
--- A sum went from one account to the other. Both together have what they had, and so has every
--- other account.
+-- A sum went from one account to the other. Both together have what they had, and every other
+-- account is unchanged.
 pub record IsTransfer (from to sum : ℕ) (old new : Map) : Type 0 where
   pub both : balance new from + balance new to ≡ balance old from + balance old to
   pub to_more : balance new to ≡ balance old to + sum

@@ -1,4 +1,4 @@
-//! A bank in a transactional map: a key is an account, its value what the account has.
+//! A bank in a transactional map: a key is an account, and its value is the account's balance.
 //!
 //! An example of a caller of `owned_map`. Proved: a transfer moves a sum between two accounts and
 //! touches no other, or leaves the map unchanged; and no other caller's transaction is touched.
@@ -12,7 +12,7 @@ ghost use Rattle.bank.specs.Transfers.{IsTransfer, balance};
 
 use owned_map::{OwnedMap, Stop, Transaction};
 
-/// Why nothing was moved.
+/// The reason why nothing was moved.
 #[derive(Clone, Copy, Debug, PartialEq, Eq)]
 pub enum NotMoved {
     /// The first account has too little.
@@ -29,17 +29,20 @@ impl From<Stop> for NotMoved {
     }
 }
 
-/// Moves a sum from one account to another, in a transaction of its own. An account without a key
-/// has 0.
+/// Moves a sum from one account to another, in one transaction. An account without a key has 0.
 ///
 /// # Errors
 ///
-/// Then nothing is moved and the map is unchanged: `TooLittle`, `TooMuch`, or `Stopped` with what
-/// stopped a call, as `Busy` if another caller holds one of the stripes (try again later).
+/// Nothing is moved, and the map is unchanged.
+///
+/// - `TooLittle` if the first account has less than the sum.
+/// - `TooMuch` if the second account would have 2^64 or more.
+/// - `Stopped` with the reason if a call was not done: for instance `Busy` if another caller holds
+///   one of the stripes, after which the transfer may be tried again.
 ///
 /// # Cost
 ///
-/// A begin, two `get`s, two `put`s and a commit, or an abort if it does not get so far.
+/// A begin, two `get`s, two `put`s and a commit; or an abort if one of these is not done.
 pub fn transfer(
     accounts: &mut OwnedMap,
     caller: u64,
@@ -85,7 +88,7 @@ fn move_sum(t: &mut Transaction<'_>, from: u64, to: u64, sum: u64) -> Result<(),
     Ok(())
 }
 
-/// What an account has.
+/// The balance of an account.
 fn read(t: &mut Transaction<'_>, account: u64) -> Result<u64, Stop>
     ensures keeps { Keeps t.old t.new }
     ensures has { IfOk result (λ has. has ≡ balance (now t.old.map.now.core.history) account) }

@@ -17,7 +17,7 @@ status_of Read = 4
 status_of Write = 4
 status_of OutOfStep = 4
 
--- What is printed of a fault.
+-- The text of a fault on standard error.
 abbrev pub message_of : Fault → List ℕ
 message_of Usage = USAGE.now
 message_of (Input fault) = codes "refused " ++ words_of fault
@@ -27,7 +27,7 @@ message_of Read = codes "read failed"
 message_of Write = codes "write failed"
 message_of OutOfStep = codes "out of step"
 
--- A fault of a file, where want of memory is none of the file's.
+-- The fault that a fault of a file becomes. Lack of memory is not the file's fault.
 abbrev pub of_file : FileFault → Fault
 of_file files.NoMemory = NoMemory
 of_file files.NotJson = Input files.NotJson
@@ -35,7 +35,7 @@ of_file files.Member = Input files.Member
 of_file (files.Piece part i) = Input (files.Piece part i)
 of_file files.Limit = Input files.Limit
 
--- What reading may fail with.
+-- The faults of reading.
 abbrev pub IsReadFault : Fault → Type 0
 IsReadFault Read = Unit {0}
 IsReadFault NoMemory = Unit {0}

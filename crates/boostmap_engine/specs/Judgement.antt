@@ -16,17 +16,17 @@ verdict_line (Legal commits running) =
 verdict_line (Illegal entry rule) =
     line (codes "illegal entry " ++ (decimal entry ++ (codes " rule " ++ decimal rule)))
 
--- Whether a verdict is that the history is legal.
+-- Whether a verdict says that the history is legal.
 abbrev pub says_legal : Verdict → Bool
 says_legal (Legal commits running) = true
 says_legal (Illegal entry rule) = false
 
--- Whom a Busy may name in a history file of this version: in versions 1 and 2 a caller that holds
--- the stripe, after them one that has begun a transaction.
+-- The caller that a Busy may name in a history file of this version: in versions 1 and 2 one that
+-- holds the stripe, in later ones one that has begun a transaction.
 abbrev pub holder_in : ℕ → Holder
 holder_in version = if nat_le version 2 then Now else Begun
 
--- The verdict on the history that the bytes are, which says legal exactly where the history is.
+-- The verdict on the history that the bytes are, which is legal exactly if the history is.
 pub record IsJudged (bytes : List ℕ) (outcome : Verdict) : Type 0 where
   pub stripes : ℕ
   pub history : List Entry
@@ -35,7 +35,7 @@ pub record IsJudged (bytes : List ℕ) (outcome : Verdict) : Type 0 where
   pub right : outcome ≡ verdict (holder_in version) stripes history
   pub sound : IsTrue (says_legal outcome) ↔ IsLegal (holder_in version) stripes history
 
--- The line of the verdict on the history that the bytes are, and whether that is legal.
+-- The line of the verdict on the history that the bytes are, and whether the verdict is legal.
 abbrev pub IsJudgement : Bool → List ℕ → List ℕ → Type 0
 IsJudgement legal bytes text =
     (outcome : Verdict) × IsJudged bytes outcome × (legal ≡ says_legal outcome)

@@ -13,9 +13,9 @@ use Rattle.boost_core.specs.State.{State}
 use Rattle.script_mix.specs.Crews.{IsMixed}
 use Rattle.boostmap_engine.specs.Report.{line}
 
--- A core on which the workers took turns as this seed draws them; its history, which is legal, of
--- these workers, and in which each worker's committed transactions play scripts of its own, their
--- numbers rising; and the history's text, of the version of the scripts.
+-- There is a core on which the workers took turns as this seed draws them. Its history is legal and
+-- of these workers, each worker's committed transactions play its scripts, in rising order, and the
+-- text is that of the history, of the version of the scripts.
 pub record IsMixture (work : Work) (seed : ℕ) (text : List ℕ) : Type 0 where
   pub core : State
   pub mixed : IsMixed work seed core
@@ -24,7 +24,7 @@ pub record IsMixture (work : Work) (seed : ℕ) (text : List ℕ) : Type 0 where
   pub plays : PlayScripts work.sizes.callers work.scripts core.history
   pub whole : text ≡ line (text_of_history work.version work.sizes.stripes core.history)
 
--- The same of the scripts that the bytes are.
+-- A mixture of the scripts that the bytes are.
 abbrev pub IsMixtureOf : ℕ → List ℕ → List ℕ → Type 0
 IsMixtureOf seed bytes text =
     (work : Work) × (scripts_of bytes ≡ Ok work) × IsMixture work seed text

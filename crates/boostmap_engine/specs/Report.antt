@@ -16,7 +16,7 @@ use Rattle.boost_core.specs.Machine.{State, Run}
 abbrev pub line : List ℕ → List ℕ
 line text = text ++ 10 ∷ []
 
--- The answers, one a line.
+-- The answers, one on each line.
 abbrev pub answers_text : List Answer → List ℕ
 answers_text answers = flat_map (λ answer. line (text_of answer)) answers
 
@@ -24,7 +24,7 @@ answers_text answers = flat_map (λ answer. line (text_of answer)) answers
 abbrev pub size_text : ℕ → ℕ → List ℕ
 size_text size count = line (codes "size " ++ (decimal size ++ (codes " count " ++ decimal count)))
 
--- Keys and values, a pair a line.
+-- Keys and values, one pair on each line.
 abbrev pub pairs_text : List (ℕ × ℕ) → List ℕ
 pairs_text pairs = flat_map (λ pair. line (decimal pair.0 ++ (codes " " ++ decimal pair.1))) pairs
 
@@ -34,7 +34,7 @@ last_text last =
     size_text last.size (count_of (now last.history))
     ++ pairs_text (ordered (now last.history))
 
--- The answers of a run, then what its last state has.
+-- The answers of a run, then the end of the report, from its last state.
 abbrev pub report : List Answer → State → List ℕ
 report answers last = answers_text answers ++ last_text last
 

@@ -1,4 +1,4 @@
--- What an engine reads and writes, whatever its text is of.
+-- The reading and writing of an engine, whatever its text says.
 use Rattle.std.specs.Prelude.{◌≡◌, ℕ, ◌<◌, List, length, take, Option, IfSome}
 use Rattle.std.specs.Io.KnownBytes.{Appends, Keeps}
 use Rattle.txn_files.specs.FileFault.{FileFault}
@@ -9,15 +9,15 @@ use Rattle.boostmap_engine.specs.declared.fault.Fault.TheVariants as faults
 abbrev pub max_read : ℕ
 max_read = 16777217
 
--- The bytes that a reader had left, or the first of them, one more than a file may have.
+-- The bytes that a reader had left, but at most one more than a file may have.
 abbrev pub IsRead : Option (List ℕ) → List ℕ → Type 0
 IsRead remaining bytes = IfSome remaining (λ all. bytes ≡ take max_read all)
 
--- Known bytes grow by a beginning of the text that is not all of it.
+-- Known bytes grow by a proper beginning of the text.
 abbrev pub AppendsPart : Option (List ℕ) → Option (List ℕ) → List ℕ → Type 0
 AppendsPart old new text = (n : ℕ) × (n < length text) × Appends old new (take n text)
 
--- Why bytes have no text: they are refused as a file, or memory was refused.
+-- The reason why bytes have no text: they are refused as a file, or memory was refused.
 abbrev pub HasNone : (List ℕ → FileFault → Type 0) → List ℕ → Fault → Type 0
 HasNone IsRefused bytes (faults.Input fault) = IsRefused bytes fault
 HasNone IsRefused bytes faults.NoMemory = Unit {0}
@@ -27,15 +27,15 @@ HasNone IsRefused bytes faults.Read = ⊥
 HasNone IsRefused bytes faults.Write = ⊥
 HasNone IsRefused bytes faults.OutOfStep = ⊥
 
--- What was written is a text of the bytes that were read.
+-- A text of the bytes that were read was written.
 abbrev pub Writes : (List ℕ → List ℕ → Type 0) → Option (List ℕ) → Option (List ℕ)
     → Option (List ℕ) → Type 0
 Writes IsTextOf remaining old new =
     (bytes : List ℕ) × (text : List ℕ) × IsRead remaining bytes × IsTextOf bytes text
     × Appends old new text
 
--- What was written at a fault: a part of a text of the bytes that were read where a write failed,
--- else nothing.
+-- The output at a fault: if a write failed, a proper beginning of a text of the bytes that were
+-- read; otherwise nothing was written.
 abbrev pub Leaves : (List ℕ → List ℕ → Type 0) → (List ℕ → FileFault → Type 0) → Option (List ℕ)
     → Option (List ℕ) → Option (List ℕ) → Fault → Type 0
 Leaves IsTextOf IsRefused remaining old new (faults.Input fault) =

@@ -1,5 +1,5 @@
-//! Three commands over a reader and a writer. Each reads its whole input, makes its whole text,
-//! and only then writes: so a fault before the writing leaves the output unchanged.
+//! The engines of three commands, over a reader and a writer. Each reads its whole input, makes its
+//! whole text, and only then writes. So a fault before the first write leaves the output unchanged.
 ghost use Rattle.std.specs.Prelude.{OnOk, IfOk, IfErr};
 ghost use Rattle.boostmap_engine.specs.Written.{Writes, Leaves};
 ghost use Rattle.boostmap_engine.specs.Report.{IsReportOf, IsNoStepFile};
@@ -16,16 +16,16 @@ use std::alloc::Global;
 use std::io::{Read, Write};
 
 /// Reads a step file to its end, runs its steps one after the other on a new core, and writes the
-/// report: the answers, one a line, then `size S count C` with the numbers of buckets and of keys,
-/// then a line `key value` for each pair of the map, in list order. Every line ends with a line
-/// feed, and nothing else is written.
+/// report: the answers, one on each line, then `size S count C` with the numbers of buckets and of
+/// keys, then a line `key value` for each pair of the map, in list order. Every line ends with a
+/// line feed.
 ///
-/// At most 16,777,217 bytes are read, and no call of the reader or the writer is made again after
-/// it failed.
+/// At most 16,777,217 bytes are read. No call of the reader or the writer is repeated after it
+/// failed.
 ///
 /// # Errors
 ///
-/// At each of them but `Write` nothing is written.
+/// Nothing is written, except before `Write`.
 ///
 /// - `Read` if a read fails.
 /// - `Input` if the file is refused.
@@ -35,7 +35,7 @@ use std::io::{Read, Write};
 ///
 /// # Cost
 ///
-/// What the steps cost, and time and memory in proportion to the file and the report.
+/// That of the steps, and time and memory in proportion to the file and the report.
 pub fn replay<R: Read, W: Write>(alloc: Global, input: &mut R, output: &mut W) -> Result<(), Fault>
     ensures reports { OnOk result (Writes IsReportOf (R.remaining input.old)
         (W.contents output.old) (W.contents output.new)) }
@@ -47,18 +47,18 @@ pub fn replay<R: Read, W: Write>(alloc: Global, input: &mut R, output: &mut W) -
     write_text(output, text.as_bytes())
 }
 
-/// Reads a history file to its end, judges the history, and writes the verdict as one line that
-/// ends with a line feed, and nothing else: `legal C commits O open` with the numbers of commits
-/// and of callers that are in a transaction at the end, or `illegal entry I rule R` with the index,
-/// from 0, of the first entry that breaks a rule, and the rule: 1 replies, 2 locks, 3 shape. The
-/// answer is whether the history is legal.
+/// Reads a history file to its end, judges the history, writes the verdict as one line that ends
+/// with a line feed, and answers whether the history is legal. The line is `legal C commits O open`
+/// with the numbers of commits and of callers that are in a transaction at the end, or `illegal
+/// entry I rule R` with the index, from 0, of the first entry that breaks a rule, and the rule: 1
+/// replies, 2 locks, 3 shape.
 ///
-/// At most 16,777,217 bytes are read, and no call of the reader or the writer is made again after
-/// it failed.
+/// At most 16,777,217 bytes are read. No call of the reader or the writer is repeated after it
+/// failed.
 ///
 /// # Errors
 ///
-/// At each of them but `Write` nothing is written.
+/// Nothing is written, except before `Write`.
 ///
 /// - `Read` if a read fails.
 /// - `Input` if the file is refused.
@@ -82,19 +82,18 @@ pub fn check<R: Read, W: Write>(alloc: Global, input: &mut R, output: &mut W) ->
 }
 
 /// Reads a script file to its end, runs its scripts on a new core with the workers' turns mixed as
-/// the seed says, and writes the history as one line of compact JSON, which ends with a line feed,
-/// and nothing else.
+/// the seed says, and writes the history as one line of compact JSON, which ends with a line feed.
 ///
-/// Before each turn the generator `Pcg32` of this seed gives its next word, also where only one
-/// worker still has a step to take. Modulo the number of such workers, this word is the place, from
-/// 0 in rising order, of the one that takes its next turn. So the same seed gives the same bytes.
+/// Before each turn the generator `Pcg32` of this seed draws its next word, even if only one worker
+/// still has a step to take. The word modulo the number of such workers is the place, from 0 in
+/// rising order, of the one that takes its next turn. So the same seed gives the same bytes.
 ///
-/// At most 16,777,217 bytes are read, and no call of the reader or the writer is made again after
-/// it failed.
+/// At most 16,777,217 bytes are read. No call of the reader or the writer is repeated after it
+/// failed.
 ///
 /// # Errors
 ///
-/// At each of them but `Write` nothing is written.
+/// Nothing is written, except before `Write`.
 ///
 /// - `Read` if a read fails.
 /// - `Input` if the file is refused.
@@ -104,8 +103,8 @@ pub fn check<R: Read, W: Write>(alloc: Global, input: &mut R, output: &mut W) ->
 ///
 /// # Cost
 ///
-/// What the steps cost and a look at each worker for each turn, and time and memory in proportion
-/// to the file and the history.
+/// That of the steps and a look at each worker for each turn, and time and memory in proportion to
+/// the file and the history.
 pub fn mix<R: Read, W: Write>(
     alloc: Global,
     seed: u64,

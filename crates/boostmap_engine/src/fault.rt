@@ -1,5 +1,5 @@
-//! Why the program gives up, the exit status and the line of each fault, and the usage. It stands
-//! apart since all commands and the command line share it.
+//! The faults of the program, with the exit status and the line of each, and the usage. All commands
+//! and the command line share them.
 ghost use Rattle.std.specs.Prelude.{◌≡◌};
 ghost use Rattle.boostmap_engine.specs.Faults.{status_of, message_of, of_file};
 ghost use Rattle.boostmap_engine.specs.declared.fault.Fault.TheVariants as faults;
@@ -9,7 +9,7 @@ use std::fmt;
 use thiserror::Error;
 use txn_files::FileFault;
 
-/// What is printed of words that are none of the program's: its usage.
+/// The usage, which is printed if the words of the call are no call of the program.
 const USAGE: &str = "usage: boostmap replay FILE | boostmap run FILE
        boostmap mix --seed N FILE | boostmap check FILE
 
@@ -27,13 +27,13 @@ From 3 on one line on standard error says which.
 
 Example: boostmap check examples/checked.json";
 
-/// Why the program gives up.
+/// The reason why the program gives up.
 #[derive(Debug, Drop, Error)]
 #[error("{}", Message {fault: self})]
 pub enum Fault {
-    /// The words of the call are none that the program has.
+    /// The words are no call of the program.
     Usage,
-    /// The input was refused, for a fault of the file.
+    /// The input was refused as a file, for this fault.
     Input(FileFault),
     /// Memory was refused.
     NoMemory,
@@ -41,14 +41,14 @@ pub enum Fault {
     NoThread,
     /// A read failed, or the file could not be opened.
     Read,
-    /// A write failed, or took nothing of the bytes that there were.
+    /// A write failed, or took none of the bytes.
     Write,
     /// The history of a run in threads is not what its workers saw.
     OutOfStep,
 }
 
-/// What standard error shows of a fault: one line without its line feed, but the whole usage for
-/// `Usage`.
+/// The text of a fault on standard error: one line without its line feed, but for `Usage` the whole
+/// usage.
 #[derive(Clone, Copy, Debug)]
 pub struct Message<'a> {
     fault: &'a Fault,
@@ -73,7 +73,11 @@ impl fmt::Display for Message<'_> {
 }
 
 impl Fault {
-    /// What standard error shows of the fault. Constant time.
+    /// The text of the fault on standard error.
+    ///
+    /// # Cost
+    ///
+    /// Constant time; takes no memory.
     pub fn message(&self) -> Message<'_>
         ensures { result.fault.now ≡ self.now }
     {

@@ -1,5 +1,5 @@
-//! The bytes of the input, up to one more than a file may have, so that a file that is too long is
-//! known to be without reading all of it. A reader is not called again after it failed.
+//! Reading the input, up to one byte more than a file may have: so a file that is too long is found
+//! without reading all of it. A reader is not called again after it failed.
 ghost use Rattle.std.specs.Prelude.{◌≡◌, length, IfOk, IfErr};
 ghost use Rattle.boostmap_engine.specs.Written.{IsRead};
 ghost use Rattle.piece_files.specs.Faults.{Gives};
@@ -14,10 +14,10 @@ use txn_files::{FileFault, Scripts, read_scripts};
 /// One byte more than a file may have.
 const MAX_READ: usize = 16_777_217;
 
-/// How many bytes a read is asked for at most.
+/// The most bytes that one read asks for.
 const CHUNK: usize = 65_536;
 
-/// So many zero bytes.
+/// This many zero bytes.
 fn zeros(alloc: Global, count: usize) -> Result<Vec<u8>, AllocError>
     ensures { IfOk result (λ zeros. length zeros.items ≡ count) }
 {

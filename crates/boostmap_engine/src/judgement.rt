@@ -1,5 +1,5 @@
-//! What `check` prints: the verdict on the entries of a history file, by the rule of locks of the
-//! file's version.
+//! The line that `check` prints: the verdict on the entries of a history file, by the rule of locks
+//! that the file's version has.
 ghost use Rattle.std.specs.Prelude.{◌≡◌, IfOk, IfErr, string_bytes};
 ghost use Rattle.piece_files.specs.Faults.{Gives};
 ghost use Rattle.txn_files.specs.HistoryFile.{history_of};
@@ -16,7 +16,7 @@ use txn_trace::{Holder, PackedEntry};
 /// The last version of history files in which a Busy names a caller that holds the stripe.
 const LAST_OF_NOW: u64 = 2;
 
-/// Whom a Busy may name in a history file of this version. Constant time.
+/// The caller that a Busy may name in a history file of this version.
 fn holder_in(version: u64) -> Holder
     ensures { result ≡ holder_in version }
 {
@@ -27,8 +27,8 @@ fn holder_in(version: u64) -> Holder
     }
 }
 
-/// The stripes, the entries and the version of the history file that the bytes are, with no bytes
-/// left.
+/// The stripes, the entries and the version of the history file that the bytes are. The bytes are
+/// dropped.
 fn history_in(alloc: Global, bytes: Vec<u8>) -> Result<(u32, Vec<PackedEntry>, u64), FileFault>
     ensures { Gives (λ file. (file.0, file.1.items, file.2)) result (history_of bytes.items) }
 {
@@ -78,7 +78,7 @@ pub fn line_of(alloc: Global, verdict: Verdict) -> Result<String, AllocError>
     Ok(line)
 }
 
-/// Whether a verdict is that the history is legal.
+/// Whether a verdict says that the history is legal.
 ///
 /// # Cost
 ///

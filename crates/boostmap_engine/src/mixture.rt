@@ -1,5 +1,5 @@
-//! What `mix` prints: the history of a core on which the scripts were mixed. The scripts are given
-//! back before the text is made, since both are large.
+//! The text that `mix` prints: the history of a core on which the scripts were mixed. The scripts are
+//! dropped before the text is made, since both are large.
 ghost use Rattle.std.specs.Prelude.{IfOk, IfErr, string_bytes};
 ghost use Rattle.boostmap_engine.specs.Mixture.{IsMixtureOf, IsNoScriptFile};
 ghost use Rattle.boostmap_engine.specs.Written.{HasNone};
@@ -10,8 +10,8 @@ use script_mix::mix_scripts;
 use std::alloc::Global;
 use txn_files::history_text;
 
-/// The text of a history of the scripts that the bytes are, the workers' turns mixed as the seed
-/// says, with its line feed. The history has its script file's version.
+/// The text, with its line feed, of a history of the scripts that the bytes are, with the workers'
+/// turns mixed as the seed says. The history has the version of its script file.
 ///
 /// # Errors
 ///
@@ -19,8 +19,8 @@ use txn_files::history_text;
 ///
 /// # Cost
 ///
-/// What the steps cost and a look at each worker for each turn, and time and memory in proportion
-/// to the bytes and the text.
+/// That of the steps and a look at each worker for each turn, and time and memory in proportion to
+/// the bytes and the text.
 pub fn mixture(alloc: Global, seed: u64, bytes: Vec<u8>) -> Result<String, Fault>
     ensures ok { IfOk result (λ text. IsMixtureOf seed bytes.items (string_bytes text)) }
     ensures err { IfErr result (HasNone IsNoScriptFile bytes.items) }

@@ -1,5 +1,6 @@
-//! What `replay` prints: the answer of each step as it is taken, then the size, the count and the
-//! pairs of the core after the last step.
+//! The report that `replay` prints: the answer to each step, then the size, the count and the pairs
+//! of the core after the last step. Each answer is written to the text when its step is taken, so no
+//! list of answers is kept.
 ghost use Rattle.std.specs.Prelude.{◌≡◌, ◌++◌, false, List, OnOk, IfOk, IfErr, string_bytes};
 ghost use Rattle.txn_trace.specs.declared.answer.Answer.{Answer};
 ghost use Rattle.boost_core.specs.Machine.{Moves};
@@ -12,11 +13,11 @@ use std::alloc::{AllocError, Global};
 use txn_files::read_steps;
 use txn_trace::{Limits, Step};
 
-/// About how many bytes the line of an answer has, for which room is made at once.
+/// About how many bytes the line of an answer has. Room for all lines is made at once.
 const ANSWER: usize = 8;
 
-/// Takes the steps one after the other on an ordinary core, and puts the answer of each to the
-/// text, one a line.
+/// Takes the steps one after the other on a core whose stripes are not words, and appends the answer
+/// to each to the text, one on each line.
 fn put_answers(text: &mut String, core: &mut Core, steps: &[Step]) -> Result<(), AllocError>
     requires { core.old.words ≡ false }
     ensures { OnOk result ((answers : List Answer) × Moves core.old steps.now answers core.new
@@ -29,14 +30,14 @@ fn put_answers(text: &mut String, core: &mut Core, steps: &[Step]) -> Result<(),
     Ok(())
 }
 
-/// Puts the line of the size and the count to the text.
+/// Appends the line of the size and the count to the text.
 fn put_size(text: &mut String, size: u32, count: u64) -> Result<(), AllocError>
     ensures { OnOk result (string_bytes text.new ≡ string_bytes text.old ++ size_text size count) }
 {
     writeln!(text, "size {size} count {count}")
 }
 
-/// Puts the pairs to the text, one a line.
+/// Appends the pairs to the text, one on each line.
 fn put_pairs(text: &mut String, pairs: &[(u64, u64)]) -> Result<(), AllocError>
     ensures { OnOk result (string_bytes text.new ≡ string_bytes text.old ++ pairs_text pairs.now) }
 {
@@ -46,7 +47,7 @@ fn put_pairs(text: &mut String, pairs: &[(u64, u64)]) -> Result<(), AllocError>
     Ok(())
 }
 
-/// Puts what a core has after its last step to the text.
+/// Appends the size, the count and the pairs of a core to the text.
 fn put_last(text: &mut String, alloc: Global, core: &Core) -> Result<(), AllocError>
     ensures { OnOk result (string_bytes text.new ≡ string_bytes text.old ++ last_text core.now) }
 {
@@ -55,7 +56,8 @@ fn put_last(text: &mut String, alloc: Global, core: &Core) -> Result<(), AllocEr
     put_pairs(text, &pairs)
 }
 
-/// The report of a run of these steps on a new core, with no steps left when its end is written.
+/// The report of a run of these steps on a new core. The steps are dropped before the end of the
+/// report is written.
 fn text_of_run(alloc: Global, limits: Limits, steps: Vec<Step>) -> Result<String, AllocError>
     ensures { IfOk result (λ text. IsReport limits steps.items (string_bytes text)) }
 {
@@ -69,8 +71,8 @@ fn text_of_run(alloc: Global, limits: Limits, steps: Vec<Step>) -> Result<String
     Ok(text)
 }
 
-/// The report of the steps that the bytes are, run on a new core, which takes half keys alone where
-/// the file is of version 1. No bytes are left when the first step is taken.
+/// The report of the steps that the bytes are, run on a new core, which takes only half keys if the
+/// file is of version 1. The bytes are dropped before the first step is taken.
 ///
 /// # Errors
 ///
@@ -78,7 +80,7 @@ fn text_of_run(alloc: Global, limits: Limits, steps: Vec<Step>) -> Result<String
 ///
 /// # Cost
 ///
-/// What the steps cost, and time and memory in proportion to the bytes and the report.
+/// That of the steps, and time and memory in proportion to the bytes and the report.
 pub fn report(alloc: Global, bytes: Vec<u8>) -> Result<String, Fault>
     ensures ok { IfOk result (λ text. IsReportOf bytes.items (string_bytes text)) }
     ensures err { IfErr result (HasNone IsNoStepFile bytes.items) }

@@ -1,5 +1,5 @@
-//! The program `judge`. What it does with its words, its input and its outputs, and the status that
-//! it ends with, is all decided by `judge_line::run`; nothing is decided here.
+//! The program `judge`. `judge_line::run` decides what it does with its words, its input and its
+//! outputs, and its exit status; nothing is decided here.
 #![tactic(auto)]
 
 use judge_line::{Host, run};
