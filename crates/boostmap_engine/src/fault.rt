@@ -1,5 +1,5 @@
-//! The faults of the program, with the exit status and the line of each, and the usage. All commands
-//! and the command line share them.
+//! The faults of the program, with the exit status and the line of each, and the usage. All
+//! commands and the command line share them.
 ghost use Rattle.std.specs.Prelude.{◌≡◌};
 ghost use Rattle.boostmap_engine.specs.Faults.{status_of, message_of, of_file};
 ghost use Rattle.boostmap_engine.specs.declared.fault.Fault.TheVariants as faults;

@@ -1,5 +1,5 @@
-//! The text that `mix` prints: the history of a core on which the scripts were mixed. The scripts are
-//! dropped before the text is made, since both are large.
+//! The text that `mix` prints: the history of a core on which the scripts were mixed. The scripts
+//! are dropped before the text is made, since both are large.
 ghost use Rattle.std.specs.Prelude.{IfOk, IfErr, string_bytes};
 ghost use Rattle.boostmap_engine.specs.Mixture.{IsMixtureOf, IsNoScriptFile};
 ghost use Rattle.boostmap_engine.specs.Written.{HasNone};

@@ -1,6 +1,6 @@
 //! The report that `replay` prints: the answer to each step, then the size, the count and the pairs
-//! of the core after the last step. Each answer is written to the text when its step is taken, so no
-//! list of answers is kept.
+//! of the core after the last step. Each answer is written to the text when its step is taken, so
+//! no list of answers is kept.
 ghost use Rattle.std.specs.Prelude.{◌≡◌, ◌++◌, false, List, OnOk, IfOk, IfErr, string_bytes};
 ghost use Rattle.txn_trace.specs.declared.answer.Answer.{Answer};
 ghost use Rattle.boost_core.specs.Machine.{Moves};
@@ -16,8 +16,8 @@ use txn_trace::{Limits, Step};
 /// About how many bytes the line of an answer has. Room for all lines is made at once.
 const ANSWER: usize = 8;
 
-/// Takes the steps one after the other on a core whose stripes are not words, and appends the answer
-/// to each to the text, one on each line.
+/// Takes the steps one after the other on a core whose stripes are not words, and appends the
+/// answer to each to the text, one on each line.
 fn put_answers(text: &mut String, core: &mut Core, steps: &[Step]) -> Result<(), AllocError>
     requires { core.old.words ≡ false }
     ensures { OnOk result ((answers : List Answer) × Moves core.old steps.now answers core.new

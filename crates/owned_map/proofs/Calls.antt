@@ -1,4 +1,4 @@
--- What the calls of a transaction keep, in the words of their contracts.
+-- What the calls of a transaction keep, as their contracts say it.
 use Rattle.std.proofs.Common.{◌≡◌, ℕ, Bool, ◌++◌, ◌∷◌, [], refl, sym, ap, subst, ◌∙◌, Option}
 use Rattle.std.specs.Prelude.{Result, Ok, Err, OnErr}
 use mathlib.Core.Logic.{inl, inr}
@@ -41,7 +41,7 @@ grew c old new is = record {
     moved base (inl stands) = inl (standing base _ stands)
     moved base (inr stands) = inr (standing base _ stands)
 
--- The same of transactions.
+-- `Keeps` of transactions: a call that changes nothing, and two calls one after the other.
 pub keeps_stay : (t : Transaction) → Keeps t t
 keeps_stay t = record { same_map = refl; same_caller = refl; goes_on = stays t.caller t.map.now.core }
 
@@ -53,18 +53,18 @@ keeps_on old between new first second = record {
       (subst (λ c. GoesOn c between.map.now.core new.map.now.core) first.same_caller second.goes_on);
 }
 
--- A call that leaves the map's reference and the caller.
+-- A call that leaves the map's reference and the caller unchanged.
 pub keeps_by : (old new : Transaction) → new.map.ghost_name ≡ old.map.ghost_name → new.caller ≡ old.caller → GoesOn old.caller old.map.now.core new.map.now.core → Keeps old new
 keeps_by old new same_map same_caller goes_on = record { same_map = same_map; same_caller = same_caller; goes_on = goes_on }
 
--- A transaction that went on is taken back with what came before.
+-- If a transaction that went on is taken back, so is what it did before.
 pub back_on : (c : ℕ) (old between new : State) → GoesOn c old between → IsTakenBack c between new → IsTakenBack c old new
 back_on c old between new goes_on back = record {
   back = λ base can. back.back base (goes_on.back base can);
   beside = only.after c old between new goes_on.beside back.beside;
 }
 
--- What an operation did stands where the table grew after it.
+-- What an operation did still holds after the table has grown.
 pub grew_done : (op : Op) (x : Option ℕ) (old between new : State) → HasDone op x old between → IsGrown between new → HasDone op x old new
 grew_done op x old between new done is = record { replied = done.replied; changed = ap now is.history ∙ done.changed }
 

@@ -43,7 +43,7 @@ use Rattle.owned_map.proofs.Histories.{seat_there}
 use Rattle.owned_map.proofs.Only as only
 use Rattle.owned_map.proofs.Steps.{begins, does, based, phase_in}
 
--- There is a caller 0.
+-- Caller 0 exists.
 some_caller : (callers stripes buckets : ℕ) → are_limits callers stripes buckets ≡ true → 0 < callers
 some_caller callers stripes buckets are = grind arith
 
@@ -53,7 +53,7 @@ caller_there here callers stripes buckets are same = subst (λ c. 0 < c) same (s
 within_of : (s : State) → 0 < s.limits.callers → nat_le s.limits.callers 0 ≡ false
 within_of s there = lt-leb s.limits.callers 0 there
 
--- Where caller 0 is open, it stands in its transaction.
+-- If caller 0 is open, it is in its transaction.
 at_open : (s : State) → IsLegal (holder_by s.words) s.limits.stripes s.history → nat_le s.limits.callers 0 ≡ false → (seat_in s.history 0).phase ≡ Opened → IsAt 0 (based 0 s) Opened s
 at_open s legal within opened =
     let seat = seat_there 0 s.history legal.shape in
@@ -72,7 +72,7 @@ opened_at s base stands = ap (λ (seat : Seat). seat.phase) (phase_in 0 base Ope
 others : (old new : State) → ((d : ℕ) → d ≢ 0 → own d old.history ≡ []) → IsBeside 0 old new → (d : ℕ) → d ≢ 0 → own d new.history ≡ []
 others old new none beside d apart = beside.only d apart ∙ none d apart
 
--- It begins where nothing has happened.
+-- A new core is the beginning of a filling.
 pub begun : (old new : State) (t : ℕ) → old.history ≡ [] → 0 < old.limits.callers → IsLegal (holder_by old.words) old.limits.stripes old.history → Move old (Begin 0) (answers.Began t) new → IsFilling new
 begun old new t blank there legal move = record {
   there = subst (λ (l : Sizes). 0 < l.callers) (sym (ap (λ (s : State). s.limits) move.state)) there;
@@ -103,7 +103,7 @@ begin_free s blank within =
 pub begin_lacks : (old new : State) (refusal : Refusal) → old.history ≡ [] → 0 < old.limits.callers → Move old (Begin 0) (answers.Refused refusal) new → IsLack refusal
 begin_lacks old new refusal blank there move = lacks_begin old refusal (lacked old (Begin 0) refusal (begin_free old blank (within_of old there)) move.allowed)
 
--- An open caller of a number that is there is ready.
+-- An open caller whose number is in range is ready.
 ready_for : (s : State) (rest : Option Refusal) → nat_le s.limits.callers 0 ≡ false → (seat_in s.history 0).phase ≡ Opened
     → cond (nat_le s.limits.callers 0) (Some refusals.NoSuchCaller)
     (cond (is_closed (seat_in s.history 0).phase) (Some refusals.NotOpen)
@@ -124,7 +124,7 @@ put_lacks old new k v refusal filling taken event = lacks_ask old (Put k v) refu
     free : refusal_of old (Ask 0 (Put k v)) ≡ None
     free = ready_for old (cond (is_bad_key old.limits.half k) (Some refusals.BadKey) None) (within_of old filling.there) filling.opened ∙ ap (λ b. cond b (Some refusals.BadKey) None) taken
 
--- Nobody else is there to hold a stripe.
+-- No other caller holds a stripe.
 never_busy : (old new : State) (op : Op) (x : ℕ) → IsFilling old → old.words ≡ false → IsLegal (holder_by old.words) old.limits.stripes old.history → Operates old 0 op (answers.Busy x) new → ⊥
 never_busy old new op x filling ordinary legal event =
     let stripe : ℕ = stripe_of old.limits.stripes (key_of op) in

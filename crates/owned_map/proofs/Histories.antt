@@ -1,4 +1,4 @@
--- What each entry of a transaction that nothing comes between makes of it, by the laws of histories.
+-- What each entry of a transaction that no other caller interrupts does to it, by the laws of histories.
 use Rattle.std.proofs.Common.{◌≡◌, ℕ, ◌+◌, ◌<◌, Bool, true, false, cond, List, [], ◌∷◌, ◌++◌, length, Option, Some, None, is_some, refl, sym, ap, subst, ◌∙◌, arith}
 use Rattle.std.specs.Prelude.{nat_le}
 use Rattle.std.proofs.lemmas.Bool.{false≢true, and_parts, cases_eq, ne_eqb}
@@ -25,7 +25,7 @@ use Rattle.txn_trace.proofs.Entries as laws
 use Rattle.boost_core.proofs.Due.{set_at-after}
 use Rattle.owned_map.specs.Within.{taken_back, Stands}
 
--- Where every entry has the right shape, every caller has a seat.
+-- If every entry has the right shape, every caller has a seat.
 seated_on : (c : ℕ) (g rest : List Entry) → is_some (seat_after (own c g)) ≡ true → IsShaped (g ++ rest)
     → is_some (seat_after (own c (g ++ rest))) ≡ true
 seated_on c g [] there shaped = subst (λ h. is_some (seat_after (own c h)) ≡ true) (sym (append-nil g)) there
@@ -47,7 +47,7 @@ seat_there c h shaped = the_seat (seat_after (own c h)) (seated_on c [] h refl s
     the_seat None there = absurd (false≢true there)
     the_seat (Some seat) there = (seat, refl)
 
--- What an operation notes takes back what it did.
+-- The change that an operation notes takes back what it did.
 noted : (op : Op) (x : Option ℕ) (jobs : List (ℕ × Option ℕ)) (m : Map) → x ≡ reply_of m op
     → taken_back (cond (changes op x) ((key_of op, x) ∷ jobs) jobs) (after m op) ≡ taken_back jobs m
 noted op x jobs m right = subst (λ y. taken_back (cond (changes op y) ((key_of op, y) ∷ jobs) jobs) (after m op) ≡ taken_back jobs m) (sym right) (at (changes op (reply_of m op)) refl)
@@ -58,7 +58,7 @@ noted op x jobs m right = subst (λ y. taken_back (cond (changes op y) ((key_of 
         ∙ ap (taken_back jobs) (after_unchanged m op (sym (changes-reply m op) ∙ is))
 
 module _ {rule : Holder} (limits : Sizes) (c : ℕ) (base : Map) (h : List Entry) where
-  -- What a law says of one entry more.
+  -- The law of one entry more.
   pub stands_after : (e : Entry) → caller_of e ≡ c → nat_le limits.callers c ≡ false → (seat : Seat) (log : List (ℕ × Option ℕ)) (committed current : Map) (holder : ℕ → Option ℕ)
       → Next rule limits.stripes h e seat log committed current holder → taken_back log current ≡ base → Stands rule limits c base seat.phase (h ++ e ∷ [])
   stands_after e mine within seat log committed current holder next back = record {

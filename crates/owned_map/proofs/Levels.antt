@@ -1,4 +1,4 @@
--- Savepoints: what a save and a return make of a transaction that nothing comes between.
+-- Savepoints: what a save and a return do to a transaction that no other caller interrupts.
 use Rattle.std.proofs.Common.{◌≡◌, ℕ, ◌<◌, ◌==◌, zero, suc, Bool, true, false, cond, List, [], ◌∷◌, ◌++◌, length, Option, Some, None, is_some, slice_index, refl, sym, ap, subst, ◌∙◌, arith}
 use Rattle.std.specs.Prelude.{nat_le, nat_lt, ◌&&◌}
 use Rattle.std.specs.Option.{option_and_then}
@@ -95,7 +95,7 @@ backwards old new c base n (suc changes) steps others stands moves =
     let (between, there, (s1, seek, (s2, act, rest))) = backwards old new c base n changes (Seek c ∷ Act c ∷ steps) (answers.Placed ∷ answers.Undone ∷ others) stands moves in
     (s2, one_back between s1 s2 c base n there seek.move act.move, rest)
 
--- Where a Returned has the right shape, just the changes of its level stand.
+-- If a Returned has the right shape, exactly the changes of its level stand.
 pub reached_at : (c n m : ℕ) (h : List Entry) (seat : Seat) → seat_after (own c h) ≡ Some seat → seat.phase ≡ LeavingTo n → IsShaped (h ++ entry.Returned c m ∷ []) → (n ≡ m) × (slice_index seat.kept n ≡ seat.standing)
 reached_at c n m h seat seat_is leaving shaped =
     let e : Entry = entry.Returned c m in
@@ -110,7 +110,7 @@ reached_at c n m h seat seat_is leaving shaped =
     tested true s there = refl
     tested false s there = absurd (false≢true there)
 
--- A caller that is not refused as unready may be refused otherwise.
+-- If no test refuses a step, none of those after the tests of readiness does.
 pub past : (s : State) (c : ℕ) (rest : Option Refusal) → unready s c rest ≡ None → rest ≡ None
 past s c rest free =
     let q : Phase = (seat_in s.history c).phase in

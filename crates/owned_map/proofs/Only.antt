@@ -1,4 +1,4 @@
--- What a caller's own steps and plain calls add is its own, and only a commit commits.
+-- A caller's steps and plain calls add only entries of this caller, and only a commit commits.
 use Rattle.std.proofs.Common.{◌≡◌, ◌≢◌, ℕ, zero, suc, true, false, Bool, List, [], ◌∷◌, ◌++◌, Some, refl, sym, ap, ◌∙◌}
 use Rattle.std.specs.List.{AllByRecursion}
 use Rattle.std.proofs.lemmas.Bool.{ne_eqb, false≢true}
@@ -86,7 +86,7 @@ moved c old new step answer by move = record {
   commits = ap (λ (s : State). commits_of s.history) move.state ∙ commits_after old.history step answer by.quiet;
 }
 
--- A commit commits, and nobody else did anything.
+-- A commit adds its Committed entry, and no other caller did anything.
 pub committed : (c p : ℕ) (old new : State) → Move old (Commit c) (answers.Committed p) new
     → OnlyDid c old new × (commits_of new.history ≡ commits_of old.history ++ Committed c p ∷ [])
 committed c p old new move = (

@@ -1,4 +1,4 @@
--- The maps at the levels of a transaction: which entries keep them, and that a return comes back to one.
+-- The maps at the levels of a transaction: which entries keep them, and that a return restores one.
 use Rattle.std.proofs.Common.{◌≡◌, ℕ, ◌+◌, ◌-◌, ◌<◌, ◌≤◌, zero, suc, Bool, true, false, cond, List, [], ◌∷◌, ◌++◌, length, take, get_or, slice_index, Option, Some, None, refl, sym, ap, subst, ◌∙◌, arith}
 use Rattle.std.specs.Prelude.{nat_le, nat_lt, ◌||◌, unwrap_or}
 use Rattle.std.proofs.lemmas.Bool.{and_parts, ltb-true, leb-false}
@@ -45,7 +45,7 @@ level_map n seat log m = taken_back (take (seat.standing - slice_index seat.kept
 abbrev SameLevels : ℕ → ℕ → List Entry → List Entry → Type 0
 SameLevels levels c g h = (n : ℕ) → n < levels → map_at c n h ≡ map_at c n g
 
--- Where a caller stands, by its seat.
+-- A caller's standing in its transaction, by its seat.
 module _ {rule : Holder} {limits : Sizes} {c : ℕ} {base : Map} {q : Phase} (h : List Entry) (stands : Stands rule limits c base q h) where
   the_seat : seat_in h c ≡ stands.seat
   the_seat = ap (λ (o : Option Seat). unwrap_or o closed_seat) stands.seat_is
@@ -59,7 +59,7 @@ module _ {rule : Holder} {limits : Sizes} {c : ℕ} {base : Map} {q : Phase} (h 
   leveled : Leveled stands.seat
   leveled = seat_leveled (own c h) stands.seat stands.seat_is
 
--- One entry more, by what its law says.
+-- One entry more, by its law.
 module _ {rule : Holder} {stripes c : ℕ} (h : List Entry) (e : Entry) (mine : caller_of e ≡ c) {seat : Seat} {log : List (ℕ × Option ℕ)} {committed current : Map} {holder : ℕ → Option ℕ} (next : Next rule stripes h e seat log committed current holder) where
   seat_next : seat_in (h ++ e ∷ []) c ≡ seat
   seat_next = ap (λ (o : Option Seat). unwrap_or o closed_seat) (subst (λ d. seat_after (own d (h ++ e ∷ [])) ≡ Some seat) mine next.seat_is)
@@ -187,7 +187,7 @@ module _ {rule : Holder} (limits : Sizes) (c : ℕ) (base : Map) (h : List Entry
             ∙ sym (map_is h stands n),
       )
 
--- The same where a state is another.
+-- States with equal histories have the same savepoints.
 abbrev history_of : State → List Entry
 history_of s = s.history
 

@@ -1,4 +1,4 @@
--- What a step or a plain call makes of a transaction that nothing comes between.
+-- What a step or a plain call does to a transaction that no other caller interrupts.
 use Rattle.std.proofs.Common.{◌≡◌, ℕ, zero, suc, Bool, true, false, cond, List, [], ◌∷◌, ◌++◌, Option, Some, None, refl, sym, ap, subst, ◌∙◌, arith}
 use Rattle.std.specs.Prelude.{nat_le, nat_lt, not, ◌||◌, unwrap_or}
 use Rattle.std.proofs.lemmas.Bool.{false≢true, and_parts, ltb-true, lt-ltb}
@@ -28,7 +28,7 @@ use Rattle.owned_map.specs.Within.{taken_back, Stands, IsAt, CanAbort, IsIdle, G
 use Rattle.owned_map.proofs.Histories.{seat_there, began_now, asked_now, busy_now, did_now, left_now, undone_now, aborted_now, committed_now}
 use Rattle.owned_map.proofs.Only as only
 
--- What is moved to another state that is the same.
+-- Facts of a state, moved to an equal one.
 pub to_state : (c : ℕ) (base : Map) (q : Phase) (s t : State) → t ≡ s → IsAt c base q s → IsAt c base q t
 to_state c base q s t same = subst (IsAt c base q) (sym same)
 
@@ -61,7 +61,7 @@ closed_is (Waiting op) is = absurd (false≢true is)
 closed_is (LeavingTo n) is = absurd (false≢true is)
 closed_is LeavingToEnd is = absurd (false≢true is)
 
--- A closed seat is that of a caller without a transaction.
+-- A caller with a closed seat has no transaction.
 idle_after : (c : ℕ) (s t : State) → t ≡ s → seat_after (own c s.history) ≡ Some closed_seat → IsIdle c t
 idle_after c s t is closed = subst (IsIdle c) (sym is) (ap (λ (o : Option Seat). is_closed (unwrap_or o closed_seat).phase) closed)
 
@@ -117,7 +117,7 @@ does old new c base op x stands (s1, ask, (s2, seek, (s3, did, last))) =
       },
     )
 
--- A caller that is not refused as unready has a transaction that can go on.
+-- A ready caller has a transaction that can go on.
 open_phase : (q : Phase) → is_closed q ≡ false → is_leaving q ≡ false → is_waiting q ≡ false → q ≡ Opened
 open_phase Opened a b c = refl
 open_phase Closed a b c = absurd (false≢true (sym a))
@@ -152,7 +152,7 @@ ready s c rest legal free =
       back = refl;
     }
 
--- A caller that leaves to the end is refused so.
+-- A caller that is leaving to the end is refused as Leaving.
 pub leaves_on : (s : State) (c : ℕ) (base : Map) (rest : Option Refusal) → IsAt c base LeavingToEnd s → unready s c rest ≡ None → ⊥
 leaves_on s c base rest stands free =
     let within = first_none (nat_le s.limits.callers c) _ _ free in
@@ -251,7 +251,7 @@ ends old new c base stands (changes, moves) =
     no_more zero is = refl
     no_more (suc n) is = absurd (false≢true (sym (ap not (lt-ltb 0 (suc n) (omega arith))) ∙ is))
 
--- A caller with such a transaction aborts, and the map is as it was before.
+-- A caller with such a transaction aborts, and the map is the one before it.
 aborts_all : (old new : State) (c : ℕ) (base : Map) → CanAbort c base old → Aborts old c answers.Aborted new → (now new.history ≡ base) × IsIdle c new
 aborts_all old new c base (inl stands) (left, leaves, ended) =
     let leave : Event old (Abort c) answers.Leaving left = subst (λ b. Leaves b old c left) (phase_of old c base Opened stands is_at_end) leaves in

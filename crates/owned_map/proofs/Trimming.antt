@@ -1,4 +1,4 @@
--- What the first transaction of a new history makes of a map: the pairs that it puts.
+-- The map after the first transaction of a new history has the pairs that it puts.
 use Rattle.std.proofs.Common.{◌≡◌, ◌≢◌, ℕ, ◌+◌, ◌<◌, ◌≤◌, ◌==◌, ◌&&◌, zero, suc, Bool, true, false, cond, T, List, [], ◌∷◌, ◌++◌, length, take, drop, slice_index_or, Option, Some, None, refl, sym, ap, subst, ◌∙◌, arith}
 use Rattle.std.specs.Prelude.{unwrap_or, Result, Ok, Err, OnOk}
 use Rattle.std.specs.List.{flat_map, sum_by, range_with_len, filter}
@@ -105,7 +105,7 @@ one_more q k v (pair ∷ front) none = elim (cases_eq k pair.0) [
     some_none : {A : Type 0} {x : A} → Some x ≡ None → ⊥
     some_none is = cc is
 
--- After so many of the pairs: the history, and the map.
+-- The history and the map after this many of the pairs.
 pub record HasPut (pairs : List (ℕ × ℕ)) (h : List Entry) : Type 0 where
   pub history : h ≡ Began 0 1 ∷ flat_map put_new pairs
   pub values : (q : ℕ) → get (now h) q ≡ value_at q pairs
@@ -206,7 +206,7 @@ some_open s owes =
     let (c, within, some) = some_owes (λ d. owed_by (seat_after (own d s.history))) s.limits.callers 0 owes in
     (c, omega (arith, within), open_by (seat_after (own c s.history)) some)
 
--- What follows where a call is done.
+-- What follows if a call is done.
 pub on_ok : {T E P Q : Type 0} (result : Result T E) → (P → Q) → OnOk result P → OnOk result Q
 on_ok (Ok value) follows holds = follows holds
 on_ok (Err e) follows holds = tt

@@ -1,4 +1,4 @@
--- What every call within a transaction keeps, so also every work that is made of such calls.
+-- What every call of a transaction keeps, and so every work that is made of such calls.
 use Rattle.std.specs.Prelude.{◌≡◌}
 use Rattle.owned_map.specs.declared.transaction.Transaction.{Transaction}
 use Rattle.owned_map.specs.Within.{GoesOn}

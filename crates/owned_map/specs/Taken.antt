@@ -5,16 +5,16 @@ use Rattle.txn_trace.specs.declared.entry.Entry.TheVariants.{Asked}
 use Rattle.txn_trace.specs.Map.{Map, key_of, get}
 use Rattle.txn_trace.specs.Sizes.{is_bad_key}
 
--- Whether an entry asks for no key that is refused, where only half keys are taken or all.
+-- Whether an entry asks for no key that is refused, if only half keys are taken.
 abbrev pub is_well : Bool → Entry → Bool
 is_well half (Asked c op) = not (is_bad_key half (key_of op))
 is_well half e = true
 
--- Whether no entry of a history does.
+-- Whether no entry of a history asks for a key that is refused.
 abbrev pub asks_well : Bool → List Entry → Bool
 asks_well half [] = true
 asks_well half (e ∷ es) = is_well half e && asks_well half es
 
--- A map has no key that is refused.
+-- The map has no key that is refused.
 abbrev pub HasTakenKeys : Bool → Map → Type 0
 HasTakenKeys half m = (k : ℕ) → is_bad_key half k ≡ true → get m k ≡ None

@@ -1,4 +1,4 @@
--- A history that was cut off: what the map that goes on begins with.
+-- A history that was cut off, and the beginning of the new one.
 use Rattle.std.specs.Prelude.{ℕ, ◌≡◌, ◌≢◌, ◌<◌, false, List, [], ◌∷◌, ◌++◌, None}
 use Rattle.std.specs.List.{flat_map}
 use Rattle.txn_trace.specs.declared.op.Op.TheVariants.{Put}
@@ -15,7 +15,7 @@ use Rattle.txn_trace.specs.Shape.{own}
 use Rattle.boost_core.specs.State.{State, seat_in}
 use Rattle.owned_map.specs.Within.{IsIdle}
 
--- Caller 0 puts a pair of a key that is not there.
+-- The entries by which caller 0 puts a pair whose key is absent.
 abbrev pub put_new : ℕ × ℕ → List Entry
 put_new pair = Asked 0 (Put pair.0 pair.1) ∷ Did 0 None ∷ []
 
@@ -23,7 +23,7 @@ put_new pair = Asked 0 (Put pair.0 pair.1) ∷ Did 0 None ∷ []
 abbrev pub filling : List (ℕ × ℕ) → List Entry
 filling pairs = (Began 0 1 ∷ flat_map put_new pairs) ++ Committed 0 1 ∷ []
 
--- Caller 0 is there and has a transaction, and no other caller has done anything.
+-- Caller 0 exists and has a transaction, and no other caller has done anything.
 pub record IsFilling (state : State) : Type 0 where
   pub there : 0 < state.limits.callers
   pub opened : (seat_in state.history 0).phase ≡ Opened
@@ -33,15 +33,16 @@ pub record IsFilling (state : State) : Type 0 where
 abbrev pub IsAtRest : State → Type 0
 IsAtRest state = (c : ℕ) → c < state.limits.callers → IsIdle c state
 
--- The history was cut off where no caller had a transaction: the new one is one transaction, which
--- puts the pairs of the map, and the map is unchanged.
+-- The history was cut off when no caller had a transaction. The new history is one transaction,
+-- which puts the pairs of the map, and the map is unchanged.
 pub record IsTrimmed (old new : State) : Type 0 where
   pub rest : IsAtRest old
   pub history : new.history ≡ filling (ordered (now old.history))
   pub same : now new.history ≡ now old.history
   pub limits : new.limits ≡ old.limits
 
--- Why a history is not cut off: a caller has a transaction, or memory or stamps are missing.
+-- The reason why a history is not cut off: a caller has a transaction, or memory or stamps are
+-- missing.
 abbrev pub IsNotTrimmed : State → Refusal → Type 0
 IsNotTrimmed state AlreadyOpen =
     (c : ℕ) × (c < state.limits.callers) × (is_closed (seat_in state.history c).phase ≡ false)

@@ -1,4 +1,5 @@
--- A transaction of one caller that no step of another comes between: what its calls leave.
+-- A transaction of one caller, between whose calls no other caller takes a step: what its calls
+-- leave.
 use Rattle.std.specs.Prelude.{ℕ, ◌+◌, ◌-◌, ◌<◌, ◌≡◌, ◌≢◌, ◌⊎◌, Bool, true, List, [], ◌∷◌, ◌++◌, length, take, slice_index, Option, Some, nat_le, false}
 use Rattle.std.specs.List.{filter}
 use Rattle.txn_trace.specs.declared.op.Op.{Op}
@@ -19,8 +20,8 @@ use Rattle.txn_trace.specs.Shape.{Seat, seat_after, own}
 use Rattle.txn_trace.specs.Legal.{IsLegal}
 use Rattle.boost_core.specs.State.{State, holder_by, seat_in}
 
--- The map after these changes are taken back, the first of them first: of each its key and the
--- value before it.
+-- The map after these changes are taken back, in their order. Each is a key and the value before
+-- it.
 abbrev pub taken_back : List (ℕ × Option ℕ) → Map → Map
 taken_back [] m = m
 taken_back (job ∷ jobs) m = taken_back jobs (set_at m job.0 job.1)
@@ -50,21 +51,21 @@ map_at c level h =
     taken_back (take ((seat_in h c).standing - slice_index (seat_in h c).kept level) (log_of c h))
     (now h)
 
--- How many levels a caller has.
+-- The number of levels of a caller.
 abbrev pub levels_of : ℕ → List Entry → ℕ
 levels_of c h = length (seat_in h c).kept
 
--- The first levels of a caller, this many, have the map that they had.
+-- This many first levels of a caller have the same maps as before.
 abbrev pub KeepsLevels : ℕ → ℕ → State → State → Type 0
 KeepsLevels levels c old new =
     (level : ℕ) → level < levels → map_at c level new.history ≡ map_at c level old.history
 
--- A caller has the same levels, each with the same map.
+-- A caller has the same levels as before, each with the same map.
 pub record KeepsSavepoints (c : ℕ) (old new : State) : Type 0 where
   pub levels : levels_of c new.history ≡ levels_of c old.history
   pub maps : KeepsLevels (levels_of c old.history) c old new
 
--- A caller set a savepoint of this number at the map that is there, above those that it had.
+-- A caller set a savepoint of this number at the present map, above those that it had.
 pub record IsSaved (c level : ℕ) (old new : State) : Type 0 where
   pub number : level ≡ levels_of c old.history
   pub levels : levels_of c new.history ≡ level + 1
@@ -81,7 +82,7 @@ pub record IsBackAt (c level : ℕ) (old new : State) : Type 0 where
 abbrev pub IsIdle : ℕ → State → Type 0
 IsIdle c state = is_closed (seat_in state.history c).phase ≡ true
 
--- Only this caller did anything: the entries of every other are unchanged.
+-- Only this caller did anything: the entries of every other caller are unchanged.
 abbrev pub OnlyDid : ℕ → State → State → Type 0
 OnlyDid c old new = (d : ℕ) → d ≢ c → own d new.history ≡ own d old.history
 
@@ -111,7 +112,7 @@ pub record IsTakenBack (c : ℕ) (old new : State) : Type 0 where
   pub back : (base : Map) → CanAbort c base old → (now new.history ≡ base) × IsIdle c new
   pub beside : IsBeside c old new
 
--- A caller's transaction was committed, at this place: the map is unchanged by that, no other
+-- A caller's transaction was committed with this commit number: the map is unchanged, no other
 -- caller did anything, and no other commit was made.
 pub record IsCommitted (c place : ℕ) (old new : State) : Type 0 where
   pub same : now new.history ≡ now old.history
@@ -124,8 +125,8 @@ pub record IsSameMap (c : ℕ) (old new : State) : Type 0 where
   pub same : now new.history ≡ now old.history
   pub beside : IsBeside c old new
 
--- A caller began a transaction on the map of `old`, was at `begun` then, had done its work at
--- `done`, and committed it: the one Committed entry more is its own, and the map is the one that
+-- A caller began a transaction on the map of `old`, which led to `begun`; its work led to `done`;
+-- and it committed. There is one Committed entry more, the caller's, and the map is the one that
 -- the work made.
 pub record IsRun (c : ℕ) (old begun done new : State) : Type 0 where
   pub began : now begun.history ≡ now old.history
@@ -141,7 +142,7 @@ is_grown (InitStore h) = true
 is_grown (Double n) = true
 is_grown step = false
 
--- The table grew, or not: the history is unchanged, so the map and every transaction is.
+-- The table may have grown. The history is unchanged, and so are the map and every transaction.
 pub record IsGrown (old new : State) : Type 0 where
   pub history : new.history ≡ old.history
   pub limits : new.limits ≡ old.limits

@@ -1,7 +1,8 @@
-//! The map: a core and how far its table has grown, and the calls that need both.
+//! The map: a core, how far its table has grown, and the calls that need both.
 //!
-//! The calls of a transaction are made here for a caller, in the words of states; `Transaction` has
-//! them in its own. Every bucket below `grown` is initialised, unless memory was refused.
+//! The calls of a transaction are made here for a caller, with contracts about states; those of
+//! `Transaction` are over them. Every bucket below `grown` is initialised, unless memory was
+//! refused.
 ghost use Rattle.std.specs.Prelude.{◌≡◌, ◌==◌, true, false, IfOk, IfErr, OnOk, OnErr, Ok};
 ghost use Rattle.txn_trace.specs.Map.{count_of};
 ghost use Rattle.txn_trace.specs.Now.{now};
@@ -17,12 +18,12 @@ use map_answers::Stop;
 use std::alloc::Global;
 use txn_trace::{Answer, Limits, Op, Refusal, Reply, Step};
 
-/// A transactional map from `u64` to `u64` that has one owner, who makes every call, for whichever
-/// caller. Contracts see its core.
+/// A transactional map from `u64` to `u64` with one owner, who makes every call, for any of its
+/// callers. Contracts see its core.
 #[derive(Drop)]
 pub struct OwnedMap {
     pub(crate) core: Core,
-    // The next bucket to initialise: all below it are.
+    // The next bucket to initialise: all below it are initialised.
     grown: u64,
     ghost ordinary: { core.words ≡ false },
     // No operation has asked for a key that the limits refuse.
@@ -32,7 +33,7 @@ pub struct OwnedMap {
 impl OwnedMap {
     ghost use Rattle.owned_map.specs.Keeps.{Keeps};
 
-    /// A map without keys, in which nothing has happened.
+    /// A new map, without keys.
     ///
     /// # Errors
     ///
@@ -49,7 +50,7 @@ impl OwnedMap {
         Ok(OwnedMap { core, grown: 1 })
     }
 
-    /// How many keys the map has, with the changes of open transactions. Constant time.
+    /// The number of keys of the map, with the changes of open transactions. Constant time.
     pub fn len(&self) -> u64
         ensures { result ≡ count_of (now self.now.core.history) }
     {
@@ -63,14 +64,14 @@ impl OwnedMap {
         self.core.count() == 0
     }
 
-    /// How many buckets the table has, which is not how many keys are in it. Constant time.
+    /// The number of buckets of the table. Constant time.
     pub fn buckets(&self) -> u32
         ensures { result ≡ self.now.core.size }
     {
         self.core.size()
     }
 
-    /// The core, whose calls by reference read the history, the map and the list. Constant time.
+    /// The core, to read the history, the map and the list. Constant time.
     pub fn core(&self) -> &Core
         ensures { result.now ≡ self.now.core }
     {
@@ -99,7 +100,7 @@ impl OwnedMap {
         }
     }
 
-    /// Does an operation, and grows the table by a step where it put a new key.
+    /// Does an operation, and grows the table by a step if it put a new key.
     #[tactic(auto, using(crate::proofs::Savepoints::keeps_operated, crate::proofs::Savepoints::keeps_grown))]
     pub(crate) fn operate(&mut self, caller: u64, op: Op) -> Result<Reply, Stop>
         ensures goes_on { GoesOn caller self.old.core self.new.core }
@@ -148,7 +149,7 @@ impl OwnedMap {
         }
     }
 
-    /// Takes a caller's changes back to a level.
+    /// Takes back a caller's changes since a level was set.
     #[tactic(auto, using(crate::proofs::Taken::returned))]
     pub(crate) fn back(&mut self, caller: u64, level: u64) -> Result<(), Stop>
         ensures goes_on { GoesOn caller self.old.core self.new.core }
@@ -165,7 +166,7 @@ impl OwnedMap {
         }
     }
 
-    /// Commits a caller's transaction, and answers its place among the commits.
+    /// Commits a caller's transaction, and answers its commit number.
     pub(crate) fn commit(&mut self, caller: u64) -> Result<u64, Stop>
         ensures ok { IfOk result (λ place. IsCommitted caller place self.old.core self.new.core) }
         ensures err { OnErr result (GoesOn caller self.old.core self.new.core) }
@@ -222,16 +223,18 @@ impl OwnedMap {
         self.core.step(step)
     }
 
-    /// Runs the work in a transaction of a caller, and commits it. If the work answers an error, the
-    /// transaction is aborted and the error is handed on: so an error of the work's own, as of an
-    /// account with too little, takes everything back.
+    /// Runs the work in a transaction of a caller, and commits it. If the work answers an error,
+    /// the transaction is aborted and the error is returned. So the work can take everything back
+    /// by an error of its own type.
     ///
     /// # Errors
     ///
     /// The map is unchanged and nothing was committed.
-    /// - What the work answers.
-    /// - `Stop`, as the work's error: `Refused` with `NoSuchCaller`, with `AlreadyOpen` if the caller
-    ///   has a transaction, with `NoMemory`, or with `Leaving` if the work went on after a `Busy`.
+    ///
+    /// - The work's error.
+    /// - A `Stop`, as the work's error type: `Refused` with `NoSuchCaller`, with `AlreadyOpen` if
+    ///   the caller has a transaction, with `NoMemory`, or with `Leaving` if the work went on after
+    ///   a `Busy`.
     ///
     /// # Cost
     ///

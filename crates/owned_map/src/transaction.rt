@@ -1,7 +1,7 @@
 //! A transaction as a value: its operations, and its end.
 //!
-//! It stands apart from the map so that no other call can be made on the map while it is open. Each
-//! operation keeps `Keeps`, by which a work of several operations keeps it too.
+//! It borrows the map, so no other call can be made on the map while it is open. Each operation
+//! promises `Keeps`, and so does a work of several operations.
 ghost use Rattle.std.specs.Prelude.{◌≡◌, ◌==◌, nat_eq, is_some, IfOk, OnErr, OnOk};
 ghost use Rattle.std.specs.Option.{option_eq};
 ghost use Rattle.txn_trace.specs.Map.{after, count_of, get as value_at};
@@ -12,9 +12,9 @@ use crate::owned_map::OwnedMap;
 use map_answers::{Stop, Swapped};
 use txn_trace::{Op, Reply};
 
-/// An open transaction of a caller on a map, which it borrows. Dropped before it is committed, it is
-/// aborted: at every `?` and every early return its changes are taken back, and no stripe stays
-/// held.
+/// An open transaction of a caller on a map, which it borrows. If it is dropped before it is
+/// committed, it is aborted: at every `?` and every early return its changes are taken back, and no
+/// stripe stays held.
 pub struct Transaction<'a> {
     pub(crate) map: &'a mut OwnedMap,
     pub(crate) caller: u64,
@@ -23,11 +23,12 @@ pub struct Transaction<'a> {
 impl Transaction<'_> {
     ghost use Rattle.owned_map.specs.Keeps.{Keeps};
 
-    /// Gets the value at a key, if the key is there.
+    /// Answers the value at a key, if the key is there.
     ///
     /// # Errors
     ///
     /// The map is unchanged.
+    ///
     /// - `Busy` if another caller's open transaction holds the key's stripe. This transaction can
     ///   then only be aborted: every further operation is refused as `Leaving`.
     /// - `Refused` with `BadKey` if the limits have half keys and the key is 2^63 or more, with
@@ -78,7 +79,7 @@ impl Transaction<'_> {
     ///
     /// # Cost
     ///
-    /// That of `get`, and up to four steps of the table for a new key; may take memory also for a
+    /// That of `get`, and up to four steps of the table for a new key; may also take memory for a
     /// node and for the log.
     pub fn put(&mut self, key: u64, value: u64) -> Result<Reply, Stop>
         ensures keeps { Keeps self.old self.new }
@@ -92,15 +93,15 @@ impl Transaction<'_> {
         self.operate(Op::Put(key, value))
     }
 
-    /// Takes a key out, and answers the value it had, if it was there.
+    /// Takes a key out, and answers the value that it had, if it was there.
     ///
     /// # Errors
     ///
-    /// Those of `get`.
+    /// Those of `put`.
     ///
     /// # Cost
     ///
-    /// That of `get`; may take memory also for the log.
+    /// That of `get`; may also take memory for a node and for the log.
     pub fn take(&mut self, key: u64) -> Result<Reply, Stop>
         ensures keeps { Keeps self.old self.new }
         ensures savepoints { KeepsSavepoints self.old.caller
@@ -113,8 +114,9 @@ impl Transaction<'_> {
         self.operate(Op::Take(key))
     }
 
-    /// Puts a value at a key exactly if the key has what is expected, a value or none: the reply
-    /// is what it had, so the value was put exactly if that is what was expected.
+    /// Puts a value at a key if the key has the expected value, or, if none is expected, if the key
+    /// is absent. Answers the value before: the new one was put exactly if that is the expected
+    /// one.
     ///
     /// # Errors
     ///
@@ -135,8 +137,8 @@ impl Transaction<'_> {
         self.operate(Op::PutIf(key, expected, value))
     }
 
-    /// Puts a value at a key exactly if the key has what is expected, a value or none, and answers
-    /// whether it did. It is `put_if` for who need not know what the key had.
+    /// Puts a value at a key as `put_if` does, and answers whether it did. For callers that need
+    /// not know the value before.
     ///
     /// # Errors
     ///
@@ -160,7 +162,7 @@ impl Transaction<'_> {
         Ok(Swapped(had == expected))
     }
 
-    /// How many keys the map has, with the changes of open transactions. Constant time.
+    /// The number of keys of the map, with the changes of open transactions. Constant time.
     pub fn len(&self) -> u64
         ensures { result ≡ count_of (now self.now.map.now.core.history) }
     {
@@ -174,14 +176,14 @@ impl Transaction<'_> {
         self.map.is_empty()
     }
 
-    /// How many buckets the table has, which is not how many keys are in it. Constant time.
+    /// The number of buckets of the table. Constant time.
     pub fn buckets(&self) -> u32
         ensures { result ≡ self.now.map.now.core.size }
     {
         self.map.buckets()
     }
 
-    /// Sets a savepoint at the map that is there, and answers its level, from 1.
+    /// Sets a savepoint at the present map, and answers its level, from 1.
     ///
     /// # Errors
     ///
@@ -201,8 +203,9 @@ impl Transaction<'_> {
         self.map.save(caller)
     }
 
-    /// Takes every change since a savepoint back, newest first: the map is the one of that savepoint,
-    /// which is kept, and the later ones are gone. Level 0 is the beginning. Stripes stay held.
+    /// Takes back every change since a savepoint, newest first: the map is the savepoint's again.
+    /// That savepoint is kept, later ones are dropped, and stripes stay held. Level 0 is the
+    /// beginning of the transaction.
     ///
     /// # Errors
     ///
@@ -224,7 +227,7 @@ impl Transaction<'_> {
         self.map.back(caller, level)
     }
 
-    /// Does an operation.
+    /// Does an operation, as `OwnedMap::operate` says.
     #[tactic(auto, using(crate::proofs::Calls::keeps_by))]
     fn operate(&mut self, op: Op) -> Result<Reply, Stop>
         ensures keeps { Keeps self.old self.new }
@@ -239,11 +242,11 @@ impl Transaction<'_> {
         self.map.operate(caller, op)
     }
 
-    /// Commits, and answers the place among all commits, from 1.
+    /// Commits, and answers the commit number, from 1.
     ///
     /// # Errors
     ///
-    /// `Refused` with `Leaving` if an operation was `Busy`: the transaction is aborted then.
+    /// `Refused` with `Leaving` if an operation was `Busy`; the transaction is then aborted.
     ///
     /// # Cost
     ///

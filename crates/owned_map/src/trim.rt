@@ -1,7 +1,7 @@
 //! Cutting a history off, so that a map can be used without end in bounded memory.
 //!
-//! It stands apart since it makes a second core, which goes on in the place of the first. The new
-//! history begins with one transaction, which puts all pairs.
+//! A trim makes a second core, which takes the place of the first. The new history begins with one
+//! transaction, which puts all pairs.
 ghost use Rattle.std.specs.Prelude.{◌≡◌, ◌+◌, ◌++◌, [], ◌∷◌, None, false, IfOk, IfErr, OnOk, OnErr};
 ghost use Rattle.txn_trace.specs.declared.entry.Entry.TheVariants as entries;
 ghost use Rattle.txn_trace.specs.History.{is_commit};
@@ -22,13 +22,14 @@ use txn_trace::{Answer, Op, Refusal, Step};
 impl OwnedMap {
     /// Cuts the history off: hands out the core so far, whose history is legal, and goes on with a
     /// new core of the same limits and the same map. The new history begins with one committed
-    /// transaction, in which caller 0 puts the pairs of the map, in the order of the list: so it
-    /// is legal by itself, and the map after its first transaction is the one that the old history
-    /// leaves. Numbers and places of transactions begin anew at 1.
+    /// transaction, in which caller 0 puts the pairs of the map, in the order of the list. So it is
+    /// legal by itself, and the map after its first transaction is the one that the old history
+    /// leaves. Transactions and commits are again numbered from 1.
     ///
     /// # Errors
     ///
     /// Nothing is changed.
+    ///
     /// - `AlreadyOpen` if a caller has a transaction.
     /// - `NoMemory` if memory is refused.
     /// - `StampsUsedUp` if the map has more keys than there are stamps.
@@ -52,7 +53,7 @@ impl OwnedMap {
         Ok(mem::replace(self, fresh).into_core())
     }
 
-    /// Puts pairs into a map in which nothing has happened, in one transaction.
+    /// Puts pairs into a new map, in one transaction.
     fn fill(&mut self, pairs: &[(u64, u64)]) -> Result<(), Refusal>
         requires blank { self.old.core.history ≡ [] }
         requires listed { (m : Map) × (pairs.now ≡ ordered m)
@@ -71,7 +72,8 @@ impl OwnedMap {
         Ok(())
     }
 
-    /// Begins the first transaction. Caller 0 is there and has none, so only memory can be refused.
+    /// Begins the first transaction. Caller 0 exists and has no transaction, so only memory can be
+    /// refused.
     fn begin_first(&mut self) -> Result<(), Refusal>
         requires blank { self.old.core.history ≡ [] }
         ensures ok { OnOk result (self.new.core.history ≡ entries.Began 0 1 ∷ []) }
