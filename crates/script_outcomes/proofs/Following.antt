@@ -21,7 +21,7 @@ use Rattle.script_outcomes.specs.Outcomes.{grown, last_of, Commits, Aborts, HasC
 use Rattle.script_outcomes.specs.Ways.{IsFirstPlayed, GoesOn, Counts, CountsAt, Goes}
 use Rattle.script_outcomes.proofs.Strides.{stride}
 
--- One outcome is written, the others stay.
+-- One outcome is written, and the others are unchanged.
 pub get-set_same : {X : Type 0} (xs : List X) (i : ℕ) (x : X) → i < length xs → slice_get (set xs i x) i ≡ Some x
 get-set_same [] i x within = absurd (omega arith)
 get-set_same (y ∷ ys) zero x within = refl
@@ -34,7 +34,7 @@ get-set_other (y ∷ ys) zero (suc j) x apart = refl
 get-set_other (y ∷ ys) (suc i) zero x apart = refl
 get-set_other (y ∷ ys) (suc i) (suc j) x apart = get-set_other ys i j x (λ e. apart (ap suc e))
 
--- The scripts of the outcomes that are known lie before where the worker is.
+-- The scripts with a known outcome are before the worker's position.
 abbrev pub IsPast : ℕ → ℕ → ℕ → ℕ → Outcome → Type 0
 IsPast next turn fed n (Committed place entry) = (n < next) × (entry < fed)
 IsPast next turn fed n (Aborted entry) = (n < turn) × (entry < fed)
@@ -45,7 +45,7 @@ past_later next turn fed next' turn' fed' n (Committed place entry) a b d past =
 past_later next turn fed next' turn' fed' n (Aborted entry) a b d past = let x = past.0 in let y = past.1 in (omega arith, omega arith)
 past_later next turn fed next' turn' fed' n GivenUp a b d past = tt
 
--- Scripts from a lower number on are looked at.
+-- Transactions that play scripts from `low` on also play scripts from a lower number on.
 pub play_lower : (w : ℕ) (scripts : List (List Action)) (c low low' : ℕ) (parts : List (List Entry)) → ((n : ℕ) → low ≤ n → n % w ≡ c → low' ≤ n)
     → PlayInOrder w scripts c low parts → PlayInOrder w scripts c low' parts
 play_lower w scripts c low low' [] less play = tt
@@ -57,7 +57,7 @@ pub record Known (w : ℕ) (scripts : List (List Action)) (h : List Entry) (c ne
   pub past : (n : ℕ) (o : Outcome) → n % w ≡ c → slice_get os n ≡ Some o → IsPast next turn fed n o
   pub ordered : (n m : ℕ) (o later : Outcome) → n < m → n % w ≡ c → m % w ≡ c → slice_get os n ≡ Some o → slice_get os m ≡ Some later → AreInOrder o later
 
--- The same outcomes, of which the caller's are read.
+-- `Known` of outcomes that are equal at the caller's scripts.
 pub known_on : (w : ℕ) (scripts : List (List Action)) (h : List Entry) (c next turn fed next' turn' fed' : ℕ) (os os' : List Outcome)
     → ((n : ℕ) → n % w ≡ c → slice_get os' n ≡ slice_get os n) → next ≤ next' → turn ≤ turn' → fed ≤ fed'
     → Known w scripts h c next turn fed os → Known w scripts h c next' turn' fed' os'
@@ -67,7 +67,7 @@ known_on w scripts h c next turn fed next' turn' fed' os os' agree a b d known =
   ordered = λ n m o later less mn mm tn tm. known.ordered n m o later less mn mm (sym (agree n mn) ∙ tn) (sym (agree m mm) ∙ tm);
 }
 
--- The element that there is.
+-- The element of an option, or a default.
 abbrev pub the_one : {X : Type 0} → X → Option X → X
 the_one d None = d
 the_one d (Some x) = x
@@ -178,7 +178,7 @@ module _ (w : ℕ) (scripts : List (List Action)) (h : List Entry) (c fed : ℕ)
         (n, mine, is ∙ ap (λ k. Some (Committed place k)) (sym now))
   ]
 
-  -- An entry of another caller leaves it all.
+  -- An entry of another caller changes nothing.
   pub other_follows : (os os' : List Outcome) (way : Way) → (caller_of e == c) ≡ false → ((n : ℕ) → n % w ≡ c → slice_get os' n ≡ slice_get os n)
       → Follows w scripts h c fed os way → Follows w scripts h c (fed + 1) os' way
   other_follows os os' way other agree f = record {
@@ -221,7 +221,7 @@ module _ (w : ℕ) (scripts : List (List Action)) (h : List Entry) (c fed : ℕ)
       );
     }
 
-    -- What was counted before an outcome is written, at a script that is not passed, stays counted.
+    -- A commit that was counted stays counted if an outcome is written at a later script.
     kept : (number : ℕ) (x : Outcome) → os' ≡ set os number x → old.next ≤ number → (n place entry : ℕ) → n % w ≡ c → slice_get os n ≡ Some (Committed place entry) → slice_get os' n ≡ Some (Committed place entry)
     kept number x is low n place entry m there =
         let before = (f.known.past n (Committed place entry) m there).0 in
@@ -252,7 +252,7 @@ module _ (w : ℕ) (scripts : List (List Action)) (h : List Entry) (c fed : ℕ)
     commit_play place ends play =
         subst (PlayInOrder w scripts c old.next) (taken_in old.part.items mine ∙ ap (λ b. cond b (grown old.part.items e ∷ committed_from c (grown old.part.items e) (drop (fed + 1) h)) (committed_from c (grown old.part.items e) (drop (fed + 1) h))) (ap is_commit ends)) play
 
-    -- The first script that is played comes no later than any other that is.
+    -- The first script that is played is no later than any other that is played.
     no_later : (number : ℕ) → IsFirstPlayed w scripts new.part.items old.next number → (parts : List (List Entry)) → (play : PlayInOrder w scripts c old.next (grown old.part.items e ∷ parts)) → number ≤ play.0
     no_later number first parts play = elim (cases_lt play.0 number) [
       | inl early ↦ absurd (first.passed play.0 play.1 play.2 early (play.3.mine ∙ sym f.next) play.3.there (subst (IsPlayed play.1) (sym grows) play.4))
@@ -292,7 +292,7 @@ module _ (w : ℕ) (scripts : List (List Action)) (h : List Entry) (c fed : ℕ)
         place_of : (p q : ℕ) → entries.Committed c p ≡ entries.Committed c q → p ≡ q
         place_of p q is = ap place_in is
 
-    -- A commit that plays no script any more.
+    -- A commit that plays no script from there on.
     lost_follows : (place : ℕ) → e ≡ entries.Committed c place → (number : ℕ) → IsFirstPlayed w scripts new.part.items old.next number → length scripts ≤ number → os' ≡ os → Follows w scripts h c (fed + 1) os' new
     lost_follows place ends number first past same = record {
       part = part_is;

@@ -1,4 +1,4 @@
--- What is called committed plays the script, as the transaction of its number.
+-- The transaction that is called committed plays the script, by its number.
 use Rattle.std.proofs.Common.{◌≡◌, ℕ, ◌+◌, true, List, [], ◌∷◌, ◌++◌, take, drop, Some, refl, sym, ap, subst, ◌∙◌, not, append-nil}
 use Rattle.std.specs.Prelude.{slice_get}
 use Rattle.std.specs.List.{fold}

@@ -8,7 +8,7 @@ use Rattle.txn_trace.specs.Plays.{ArePlayed, IsPlayed}
 use Rattle.script_outcomes.specs.Matches.{Does, ReachAbort, AbortsItself}
 use Rattle.script_outcomes.specs.Ways.{HasBegun, IsLoneCommit, IsLeft}
 
--- What follows an action's entries is played where the whole is, and the other way round.
+-- If the whole is played, so is the rest after the first action's entries, and the other way round.
 pub played_rest : (a : Action) (script : List Action) (es rest : List Entry) → Does a es rest → ArePlayed (a ∷ script) es → ArePlayed script rest
 played_rest (actions.Op op) script (Asked c asked ∷ Did d reply ∷ es) rest does played = subst (ArePlayed script) does.1 played.1
 played_rest actions.Save script (Saved c ∷ es) rest does played = subst (ArePlayed script) does played

@@ -1,4 +1,4 @@
--- What the committed transactions of a caller are, each as its entries: those that are counted.
+-- The committed transactions of a caller, each as its entries, are those that are counted.
 use Rattle.std.proofs.Common.{◌≡◌, ℕ, ◌<◌, ◌==◌, ◌&&◌, Bool, true, false, cond, List, [], ◌∷◌, ◌++◌, length, map, not, Some, None, if◌then◌else◌, refl, sym, ap, subst, ◌∙◌}
 use Prim.Native.Nat.{suc}
 use Rattle.std.specs.List.{AllByRecursion, cons_option, fold}

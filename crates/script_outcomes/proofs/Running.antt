@@ -1,4 +1,4 @@
--- One entry more of a history.
+-- A history with one more entry: the outcomes and the ways follow it.
 use Rattle.std.proofs.Common.{◌≡◌, ◌≢◌, ℕ, zero, suc, ◌+◌, ◌%◌, ◌<◌, ◌≤◌, ◌⊎◌, ◌==◌, Bool, true, false, List, [], ◌∷◌, ◌++◌, length, take, drop, set, Some, None, Option, refl, sym, ap, subst, ◌∙◌, inl, inr, arith, length-set}
 use Rattle.std.specs.Prelude.{slice_get}
 use Rattle.std.proofs.lemmas.Bool.{cases_order, eqb-true, cases_Bool}
@@ -16,7 +16,7 @@ use Rattle.script_outcomes.proofs.Following.{Follows, AllFollow, own_follows, ot
 apart : (n m : ℕ) → n ≢ m → (n == m) ≡ false
 apart n m not = elim (cases_Bool (n == m)) [ inl is ↦ absurd (not (eqb-true n m is)) | inr is ↦ is ]
 
--- An outcome is written at most at a script of the entry's caller.
+-- An outcome is written only at a script of the entry's caller.
 abbrev pub WritesOwn : ℕ → List (List Action) → Entry → List Outcome → List Outcome → Type 0
 WritesOwn w scripts e os os' = (os' ≡ os) ⊎ ((number : ℕ) × (o : Outcome) × (number % w ≡ caller_of e) × (os' ≡ set os number o))
 
@@ -37,7 +37,7 @@ module _ (w : ℕ) (scripts : List (List Action)) (h : List Entry) (fed : ℕ) (
       let size = all.size in
       record { some = omega arith; one_each = all.one_each; order = f.order; mine = f.next ∙ sym f.turn }
 
-  -- The entry is of no worker.
+  -- The entry is not of a worker.
   pub all_skip : length ways ≤ caller_of e → AllFollow w scripts h (fed + 1) os ways
   all_skip past = record {
     size = all.size;
@@ -84,7 +84,7 @@ module _ (w : ℕ) (scripts : List (List Action)) (h : List Entry) (fed : ℕ) (
             | inr wrote ↦ ap (λ ys. slice_get ys n) wrote.3 ∙ get-set_other os wrote.0 n wrote.1 (λ same. not (sym mine ∙ ap (λ k. k % w) same ∙ wrote.2))
           ]
 
--- The same under equal names.
+-- `MayCount` and `Goes` of equal arguments.
 pub may_same : (w w' : ℕ) (ss ss' : List (List Action)) (way : Way) (os os' : List Outcome) → w' ≡ w → ss' ≡ ss → os' ≡ os → MayCount w ss way os → MayCount w' ss' way os'
 may_same w w' ss ss' way os os' a b d may =
     subst (λ k. MayCount k ss' way os') (sym a) (subst (λ k. MayCount w k way os') (sym b) (subst (MayCount w ss way) (sym d) may))

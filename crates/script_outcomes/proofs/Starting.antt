@@ -13,7 +13,7 @@ use Rattle.script_outcomes.specs.Outcomes.{HasCome, AreInOrder, PlayInOrder, Are
 use Rattle.script_outcomes.specs.Ways.{AreFresh, AreNone}
 use Rattle.script_outcomes.proofs.Following.{IsPast, Known, Follows, AllFollow, the_one}
 
--- The last element of a list with one more, and those before.
+-- An element of a list to which one was added is that one, or one of the list.
 pub read_push : {X : Type 0} (xs : List X) (x y : X) (n : ℕ) → slice_get (xs ++ x ∷ []) n ≡ Some y → ((n ≡ length xs) × (y ≡ x)) ⊎ (slice_get xs n ≡ Some y)
 read_push [] x y zero there = inl (refl, sym (ap (the_one x) there))
 read_push [] x y (suc n) there = absurd (cc (there))

@@ -1,10 +1,10 @@
--- Numbers that are so far apart.
+-- Numbers with one remainder are at least the modulus apart.
 use Rattle.std.proofs.Common.{◌≡◌, ℕ, suc, ◌+◌, ◌*◌, ◌/◌, ◌%◌, ◌<◌, ◌≤◌, inl, inr, arith}
 use Rattle.std.proofs.Math.Nat.{suc-mul, mul-le-mul_right}
 use Rattle.std.proofs.lemmas.Nat.{div-add-mod'}
 use Rattle.std.proofs.lemmas.Bool.{cases_lt}
 
--- Of two numbers with one remainder the greater is the modulus at least above the other.
+-- The greater of two such numbers is above the other by the modulus at least.
 pub stride : (w a b : ℕ) → a % w ≡ b % w → a < b → a + w ≤ b
 stride w a b same less =
     let one : a / w * w + a % w ≡ a = div-add-mod' a w in

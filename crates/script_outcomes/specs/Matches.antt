@@ -1,11 +1,12 @@
--- Which script the entries of a transaction are those of, where changes taken back are left out.
+-- Whether the entries of a transaction are those of a script. Entries that take changes back are
+-- left out.
 use Rattle.std.specs.Prelude.{◌≡◌, ℕ, Some, None, List, [], ◌∷◌}
 use Rattle.txn_trace.specs.declared.action.Action.{Action}
 use Rattle.txn_trace.specs.declared.action.Action.TheVariants as actions
 use Rattle.txn_trace.specs.declared.entry.Entry.{Entry}
 use Rattle.txn_trace.specs.declared.entry.Entry.TheVariants.{Began, Asked, Did, Saved, Leave, Returned, Aborted}
 
--- The entries are those of an action, in order, and then the rest. An abort is not done so: it ends
+-- The entries are those of an action, in order, and then the rest. An abort has no rest: it ends
 -- its transaction.
 abbrev pub Does : Action → List Entry → List Entry → Type 0
 Does (actions.Op op) (Asked c asked ∷ Did d reply ∷ es) rest = (asked ≡ op) × (es ≡ rest)

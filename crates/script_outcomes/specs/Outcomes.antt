@@ -1,4 +1,4 @@
--- What became of each script in a history.
+-- The outcome of each script in a history.
 use Rattle.std.specs.Prelude.{◌≡◌, ℕ, ◌+◌, ◌%◌, ◌<◌, ◌≤◌, ◌==◌, Bool, Option, Some, List, [], ◌∷◌, ◌++◌, length, take, slice_get, if◌then◌else◌}
 use Prim.Native.Nat.{suc}
 use Rattle.std.specs.List.{fold}
@@ -12,12 +12,12 @@ use Rattle.script_outcomes.specs.declared.outcome.Outcome.{Outcome}
 use Rattle.script_outcomes.specs.declared.outcome.Outcome.TheVariants.{Committed, Aborted, GivenUp}
 use Rattle.script_outcomes.specs.Matches.{AbortsItself}
 
--- The entries of a caller's transaction after one entry more of the caller: Began begins it anew,
--- and an entry that takes a change back is left out.
+-- The entries of a caller's transaction after one more entry of the caller: a Began starts a new
+-- one, and an entry that takes a change back is left out.
 abbrev pub grown : List Entry → Entry → List Entry
 grown part e = if is_began e then e ∷ [] else if is_undone e then part else part ++ e ∷ []
 
--- A caller's entries from its last Began on, but those that take changes back.
+-- A caller's entries from its last Began on, without those that take changes back.
 abbrev pub last_of : ℕ → List Entry → List Entry
 last_of c h = fold grown [] (own c h)
 
@@ -45,8 +45,8 @@ AreInOrder (Committed place entry) (Committed later_place later) = entry < later
 AreInOrder (Aborted entry) (Aborted later) = entry < later
 AreInOrder outcome other = Unit {0}
 
--- The caller's transactions that commit, each as its entries, where those of the first one so far
--- are these.
+-- The caller's transactions that commit, each as its entries; the first one has these entries
+-- already.
 abbrev pub committed_from : ℕ → List Entry → List Entry → List (List Entry)
 committed_from c part [] = []
 committed_from c part (e ∷ h) =
@@ -67,16 +67,16 @@ PlayInOrder callers scripts c low (part ∷ parts) =
     (n : ℕ) × (script : List Action) × (low ≤ n) × IsScriptOf callers scripts c n script
     × IsPlayed script part × PlayInOrder callers scripts c (suc n) parts
 
--- Each of the caller's commits among the first entries is that of a script of the caller's.
+-- Each of the caller's commits among the first entries is that of one of the caller's scripts.
 abbrev pub AreCounted : ℕ → ℕ → ℕ → List Entry → List Outcome → Type 0
 AreCounted callers c fed h outcomes =
     (entry place : ℕ) → entry < fed → slice_get h entry ≡ Some (entries.Committed c place)
     → (n : ℕ) × (n % callers ≡ c) × (slice_get outcomes n ≡ Some (Committed place entry))
 
--- The outcomes of a caller's scripts in a history. What each says is so; commits stand in the order
--- of the scripts, and so do aborts, so that each transaction is counted for one script at most; and
--- where the caller's transactions that commit play scripts of its own in order, in whatever way,
--- each of them is counted.
+-- The outcomes of a caller's scripts in a history. Each is true of the history. Commits stand in
+-- the order of the scripts, and so do aborts, so each transaction is counted for at most one
+-- script. If the caller's transactions that commit play its scripts in order, each of them is
+-- counted.
 pub record AreOutcomesOf (callers : ℕ) (scripts : List (List Action)) (h : List Entry)
     (outcomes : List Outcome) (c : ℕ) : Type 0 where
   pub each : (n : ℕ) (script : List Action) (outcome : Outcome)
@@ -89,8 +89,8 @@ pub record AreOutcomesOf (callers : ℕ) (scripts : List (List Action)) (h : Lis
   pub all : PlayInOrder callers scripts c 0 (committed_by c h)
       → AreCounted callers c (length h) h outcomes
 
--- What became of each script in a history, where every `callers`-th script is a caller's, beginning
--- with that of the caller's own number.
+-- The outcomes of all scripts in a history. Every `callers`-th script is a caller's, beginning with
+-- the one that has the caller's number.
 pub record AreOutcomes (callers : ℕ) (scripts : List (List Action)) (h : List Entry)
     (outcomes : List Outcome) : Type 0 where
   pub one_each : length outcomes ≡ length scripts

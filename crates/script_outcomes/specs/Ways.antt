@@ -1,4 +1,4 @@
--- Where a worker is on its way through its scripts.
+-- The position of a worker on its way through its scripts.
 use Rattle.std.specs.Prelude.{◌≡◌, ◌⊎◌, ℕ, ◌+◌, ◌%◌, ◌<◌, ◌≤◌, Bool, true, Some, None, List, [], ◌∷◌, length, slice_get, slice_set}
 use Rattle.txn_trace.specs.declared.action.Action.{Action}
 use Rattle.txn_trace.specs.declared.entry.Entry.{Entry}
@@ -28,7 +28,7 @@ abbrev pub IsLeft : List Entry → Type 0
 IsLeft (Leave c None ∷ entries.Aborted d ∷ []) = Unit {0}
 IsLeft es = ⊥
 
--- A comparison says that a transaction aborts itself only where this holds.
+-- A comparison says that a transaction aborts itself only if this holds.
 abbrev pub SaysItself : Fit → Type 0 → Type 0
 SaysItself Itself P = P
 SaysItself Refused P = Unit {0}
@@ -45,8 +45,8 @@ pub record IsFirstPlayed (workers : ℕ) (scripts : List (List Action)) (part : 
   pub plays : (script : List Action) → slice_get scripts number ≡ Some script
       → IsPlayed script part
 
--- The number is one of the numbers that are `workers` apart, from `low` on; and where the
--- transaction has reached an abort, it is that of the script there.
+-- The number is one of the numbers that are `workers` apart, from `low` on; and if the transaction
+-- has reached an abort, it is that of the script with this number.
 pub record IsFirstLeft (workers : ℕ) (scripts : List (List Action)) (part : List Entry)
     (low number : ℕ) (reached : Bool) : Type 0 where
   pub from : low ≤ number
@@ -54,7 +54,8 @@ pub record IsFirstLeft (workers : ℕ) (scripts : List (List Action)) (part : Li
   pub reaches : (script : List Action) → reached ≡ true → slice_get scripts number ≡ Some script
       → AbortsItself script part
 
--- There are workers, an outcome for each script, and `next` is no later than `turn`, of one worker.
+-- There are workers, and an outcome for each script; `next` and `turn` are of one worker, and
+-- `next` is no later.
 pub record MayCount (workers : ℕ) (scripts : List (List Action)) (way : Way)
     (outcomes : List Outcome) : Type 0 where
   pub some : 0 < workers
@@ -62,7 +63,7 @@ pub record MayCount (workers : ℕ) (scripts : List (List Action)) (way : Way)
   pub order : way.next ≤ way.turn
   pub mine : way.next % workers ≡ way.turn % workers
 
--- The worker goes on: no script comes back, and its numbers stay those of the worker.
+-- The worker goes on: its numbers do not fall, and stay those of the worker.
 pub record GoesOn (workers : ℕ) (old new : Way) : Type 0 where
   pub next : old.next ≤ new.next
   pub turn : old.turn ≤ new.turn
@@ -89,8 +90,7 @@ pub record Commits (workers : ℕ) (scripts : List (List Action)) (place entry :
       × (new.next ≡ number + workers))
       ⊎ ((length scripts ≤ number) × (outcomes' ≡ outcomes))
 
--- An abort is counted for a script from `turn` on of which the transaction reached the abort, or
--- for none.
+-- An abort is counted for a script from `turn` on whose abort the transaction reached, or for none.
 pub record Aborts (workers : ℕ) (scripts : List (List Action)) (entry : ℕ) (old new : Way)
     (outcomes outcomes' : List Outcome) : Type 0 where
   pub part : new.part.items ≡ old.part.items
@@ -104,7 +104,7 @@ pub record Aborts (workers : ℕ) (scripts : List (List Action)) (entry : ℕ) (
       → AbortsItself script old.part.items))
       ⊎ (outcomes' ≡ outcomes)
 
--- What an entry of this index makes of the outcomes, after which the transaction is this part.
+-- What an entry with this index changes in the outcomes, if the transaction is this part after it.
 abbrev pub CountsAt : ℕ → List (List Action) → Entry → ℕ → List Entry → Way → Way
     → List Outcome → List Outcome → Type 0
 CountsAt workers scripts (entries.Committed c place) entry part old new outcomes outcomes' =
@@ -122,20 +122,20 @@ CountsAt workers scripts (entries.Aborted c) entry part old new outcomes outcome
 CountsAt workers scripts e entry part old new outcomes outcomes' =
     (new.next ≡ old.next) × (outcomes' ≡ outcomes)
 
--- The worker has taken in an entry of this index.
+-- The worker has taken in an entry with this index.
 pub record Goes (workers : ℕ) (scripts : List (List Action)) (e : Entry) (entry : ℕ)
     (old new : Way) (outcomes outcomes' : List Outcome) : Type 0 where
   pub part : new.part.items ≡ grown old.part.items e
   pub on : GoesOn workers old new
   pub counts : CountsAt workers scripts e entry new.part.items old new outcomes outcomes'
 
--- The ways of so many workers before the first entry.
+-- The ways of this many workers before the first entry.
 pub record AreFresh (workers : ℕ) (ways : List Way) : Type 0 where
   pub size : length ways ≡ workers
   pub each : (c : ℕ) (way : Way) → slice_get ways c ≡ Some way
       → (way.part.items ≡ []) × (way.next ≡ c) × (way.turn ≡ c)
 
--- So many outcomes, each of a script that is given up.
+-- This many outcomes, each of a script that is given up.
 pub record AreNone (scripts : ℕ) (outcomes : List Outcome) : Type 0 where
   pub size : length outcomes ≡ scripts
   pub each : (n : ℕ) (outcome : Outcome) → slice_get outcomes n ≡ Some outcome → outcome ≡ GivenUp

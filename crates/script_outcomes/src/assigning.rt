@@ -1,4 +1,5 @@
-//! The outcomes of scripts in a history.
+//! The run over a history: each entry is passed to the way of its caller's worker, which writes the
+//! outcomes. Holds one way for each worker and one outcome for each script.
 ghost use Rattle.std.specs.Prelude.{◌≡◌, ℕ, ◌<◌, List, IfOk, length};
 ghost use Rattle.script_outcomes.specs.Outcomes.{AreOutcomes};
 ghost use Rattle.script_outcomes.specs.Ways.{AreFresh, AreNone};
@@ -8,7 +9,7 @@ use crate::way::{Way, Work};
 use std::alloc::{AllocError, Global};
 use txn_trace::{PackedEntry, Scripts};
 
-/// The ways of so many workers before the first entry.
+/// The ways of this many workers before the first entry.
 fn new_ways(alloc: Global, workers: usize) -> Result<Vec<Way>, AllocError>
     ensures { IfOk result (λ ways. AreFresh workers ways.items) }
 {
@@ -19,7 +20,7 @@ fn new_ways(alloc: Global, workers: usize) -> Result<Vec<Way>, AllocError>
     Ok(ways)
 }
 
-/// The outcomes of so many scripts of which no transaction is known yet.
+/// The outcomes of this many scripts before the first entry: each is given up.
 fn none_yet(alloc: Global, scripts: usize) -> Result<Vec<Outcome>, AllocError>
     ensures { IfOk result (λ outcomes. AreNone scripts outcomes.items) }
 {
@@ -30,16 +31,16 @@ fn none_yet(alloc: Global, scripts: usize) -> Result<Vec<Outcome>, AllocError>
     Ok(outcomes)
 }
 
-/// What became of each script in a history, in the order of the scripts. Script `i` belongs to the
+/// The outcome of each script in a history, in the order of the scripts. Script `i` belongs to
 /// worker `i` modulo the callers of the scripts' limits, and worker `w` is caller `w` of the
 /// history.
 ///
-/// A committed transaction of a caller is counted for the first script of the caller's, after those
-/// counted before, that it plays. An abort is counted for a script of which the transaction did the
-/// actions up to the script's own abort; which one of several such it is follows the attempts that
-/// the history shows. So each transaction is counted for one script at most, commits in the order
-/// of the scripts, and aborts too. If the caller's commits play scripts of its own in order, in
-/// whatever way, each of them is counted: no script that is given up hides a commit.
+/// A committed transaction is counted for the first script of its caller, after those counted
+/// before, that it plays. An abort is counted for a script whose actions the transaction did up to
+/// the script's own abort; of several such scripts, the attempts in the history decide. So each
+/// transaction is counted for at most one script, commits in the order of the scripts, and aborts
+/// too. If the caller's commits play its scripts in order, each of them is counted: no script that
+/// is given up hides a commit.
 ///
 /// The history is not judged.
 ///
@@ -49,8 +50,8 @@ fn none_yet(alloc: Global, scripts: usize) -> Result<Vec<Outcome>, AllocError>
 ///
 /// # Cost
 ///
-/// Time in proportion to the entries and to the actions of all scripts; memory for an outcome a
-/// script, and for the entries of each caller's last transaction.
+/// Time in proportion to the entries and to the actions of all scripts; memory for an outcome of
+/// each script, and for the entries of each caller's last transaction.
 pub fn outcomes(
     alloc: Global,
     scripts: &Scripts,

@@ -1,4 +1,5 @@
-//! Laws of outcomes.
+//! Laws of outcomes, as functions whose contracts are the laws: what an outcome means for the
+//! history, and that no commit of what `mix` prints is missed. They do nothing when they run.
 
 ghost use Rattle.std.specs.Prelude.{◌≡◌, ℕ, ◌<◌, true, List, [], ◌∷◌, ◌++◌, length};
 ghost use Rattle.txn_trace.specs.History.{is_committed, of};
@@ -10,9 +11,9 @@ ghost use Rattle.txn_trace.specs.declared.entry.Entry.TheVariants as entries;
 ghost use Rattle.script_outcomes.specs.declared.outcome.Outcome.{Outcome};
 ghost use Rattle.script_outcomes.specs.Outcomes.{AreCounted, AreOutcomes, Commits};
 
-/// In a history of right shape, as each legal one is, a script that is called committed is played
-/// by a committed transaction (`Plays` of `txn_trace`): the one whose last entry is the Committed
-/// of the script's caller and place.
+/// In a history of the right shape, as each legal one is, a script that is called committed is
+/// played by a committed transaction (`Plays` of `txn_trace`): the one whose last entry is the
+/// Committed of the script's caller and place.
 ///
 /// The contract is the law.
 ///
@@ -26,9 +27,9 @@ pub fn committed_plays()
         × Plays t script h × (is_committed t h ≡ true) }
 {}
 
-/// If each caller's committed transactions play scripts of its own, in order (`PlayScripts` of
-/// `txn_trace`), as they do in what `mix` prints, every commit is that of a script that is called committed, with its place and the
-/// index of its entry.
+/// If each caller's committed transactions play its scripts in order (`PlayScripts` of
+/// `txn_trace`), as they do in a history that `mix` prints, every commit is that of a script that
+/// is called committed, with its place and the index of its entry.
 ///
 /// The contract is the law.
 ///

@@ -1,6 +1,5 @@
-//! Whether the entries of a transaction are those of a script. Apart from the workers' ways since
-//! one script and one transaction are compared here. A comparison takes a step for each entry that
-//! agrees, and no memory.
+//! Compares one transaction with one script: whether its entries are those of the script. A
+//! comparison takes a step for each entry that agrees, and no memory.
 ghost use Rattle.std.specs.Prelude.{◌≡◌, true, false, IfSome, IsNone, List};
 ghost use Rattle.txn_trace.specs.declared.entry.Entry.{Entry as AnEntry};
 ghost use Rattle.txn_trace.specs.Plays.{IsPlayed};
@@ -9,7 +8,7 @@ ghost use Rattle.script_outcomes.specs.Ways.{HasBegun, IsLoneCommit, IsLeft, Say
 
 use txn_trace::{Action, Entry};
 
-/// How a transaction that was aborted stands to a script.
+/// How far an aborted transaction follows a script.
 #[derive(Clone, Copy, Debug, PartialEq, Eq)]
 pub(crate) enum Fit {
     /// It did the actions up to the script's own abort.
@@ -20,7 +19,7 @@ pub(crate) enum Fit {
     Other,
 }
 
-/// The entries after those of an action, with which they begin. Constant time.
+/// The rest of the entries, if they begin with those of the action. Constant time.
 fn after<'a>(action: Action, entries: &'a [Entry]) -> Option<&'a [Entry]>
     ensures does { IfSome result (λ rest. Does action entries.now rest.now) }
     ensures other { IsNone result → (rest : List AnEntry) → Does action entries.now rest → ⊥ }
@@ -47,7 +46,7 @@ fn after<'a>(action: Action, entries: &'a [Entry]) -> Option<&'a [Entry]>
     }
 }
 
-/// The entries after the Began with which they begin. Constant time.
+/// The rest of the entries, if they begin with Began. Constant time.
 fn after_began(entries: &[Entry]) -> Option<&[Entry]>
     ensures begun { IfSome result (λ rest. HasBegun entries.now rest.now) }
     ensures other { IsNone result → (rest : List AnEntry) → HasBegun entries.now rest → ⊥ }
@@ -58,7 +57,7 @@ fn after_began(entries: &[Entry]) -> Option<&[Entry]>
     }
 }
 
-/// Whether a Committed is the one entry. Constant time.
+/// Whether the only entry is a Committed. Constant time.
 fn is_commit(entries: &[Entry]) -> bool
     ensures yes { result ≡ true → IsLoneCommit entries.now }
     ensures no { result ≡ false → IsLoneCommit entries.now → ⊥ }
@@ -91,7 +90,7 @@ pub(crate) fn plays(script: &[Action], part: &[Entry]) -> bool
     is_commit(rest)
 }
 
-/// How a transaction with these entries stands to the script.
+/// How far an aborted transaction with these entries follows the script.
 pub(crate) fn compare(script: &[Action], part: &[Entry]) -> Fit
     ensures { SaysItself result (AbortsItself script.now part.now) }
 {

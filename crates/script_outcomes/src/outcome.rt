@@ -1,14 +1,14 @@
-//! What became of a script, and its text.
+//! The outcome of a script, and its text. A run over a history writes one for each script.
 
 use std::fmt;
 
-/// What became of a script in a history. It is printed as `committed 3 entry 17`, as
+/// The outcome of a script in a history. It is printed as `committed 3 entry 17`, as
 /// `aborted entry 20`, or as `given up`.
 #[derive(Clone, Copy, Debug, PartialEq, Eq)]
 pub enum Outcome {
     /// A transaction that plays it is committed.
     Committed {
-        /// The number of the commit, which its entry says.
+        /// The commit number, from the entry.
         place: u64,
         /// The index of the Committed entry, from 0.
         entry: u64,

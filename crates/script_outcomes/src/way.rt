@@ -1,5 +1,5 @@
-//! A worker's way through its scripts, as the entries of its caller tell it. Apart from the run over
-//! a history, which has one way a worker: here only one worker's entries come.
+//! A worker's way through its scripts, as the entries of its caller show it. The run over a history
+//! has one way for each worker, and passes it only that worker's entries.
 ghost use Rattle.std.specs.Prelude.{◌≡◌, ◌⊎◌, ℕ, ◌+◌, ◌%◌, ◌^◌, ◌<◌, ◌≤◌, [], OnOk, length};
 ghost use Rattle.script_outcomes.specs.Outcomes.{grown};
 ghost use Rattle.script_outcomes.specs.Ways.{IsFirstPlayed, IsFirstLeft, MayCount, Commits, Aborts, Goes};
@@ -9,8 +9,8 @@ use crate::outcome::Outcome;
 use std::alloc::{AllocError, Global};
 use txn_trace::{Entry, Script};
 
-/// Scripts, of which script `i` belongs to worker `i` modulo the workers; and how often each is
-/// tried again.
+/// Scripts, where script `i` belongs to worker `i` modulo `workers`, and how often each is tried
+/// again.
 #[derive(Drop)]
 pub(crate) struct Work<'a> {
     pub(crate) scripts: &'a [Script],
@@ -23,7 +23,7 @@ pub(crate) struct Work<'a> {
 /// A worker's way through its scripts.
 #[derive(Drop)]
 pub(crate) struct Way {
-    /// The entries of its transaction, but those that take changes back.
+    /// The entries of its transaction, without those that take changes back.
     pub(crate) part: Vec<Entry>,
     /// Its first script after those that are committed.
     pub(crate) next: usize,
@@ -65,8 +65,8 @@ impl Way {
         Ok(())
     }
 
-    /// The worker's first script from `next` on that the transaction plays, or the first number of
-    /// the worker's past the scripts.
+    /// The worker's first script from `next` on that the transaction plays, or the worker's first
+    /// number past the scripts.
     fn first_played(&self, work: &Work<'_>) -> usize
         requires { 0 < work.now.workers }
         ensures { IsFirstPlayed work.now.workers work.now.scripts.now self.now.part.items
@@ -83,7 +83,7 @@ impl Way {
     }
 
     /// The worker's first script from `turn` on at which the transaction was an attempt, or the
-    /// first number of the worker's past the scripts; and whether it reached the script's abort.
+    /// worker's first number past the scripts; and whether it reached the script's abort.
     fn first_left(&self, work: &Work<'_>) -> (usize, bool)
         requires { 0 < work.now.workers }
         ensures { IsFirstLeft work.now.workers work.now.scripts.now self.now.part.items
@@ -130,7 +130,7 @@ impl Way {
     }
 
     /// The transaction has left to its end: the first script that it was an attempt at is over, and
-    /// the transaction is counted for it where it reached the script's abort.
+    /// the transaction is counted for it if it reached the script's abort.
     fn leave(&mut self, work: &Work<'_>, entry: u64, outcomes: &mut [Outcome])
         requires may { MayCount work.now.workers work.now.scripts.now self.old outcomes.old }
         ensures { Aborts work.now.workers work.now.scripts.now entry self.old self.new
@@ -164,8 +164,7 @@ impl Way {
         }
     }
 
-    /// Whether the transaction was aborted after it had left to its end, and not since it found a
-    /// stripe held.
+    /// Whether the transaction was aborted after a Leave to its end, and not after a Busy.
     fn has_left(&self) -> bool {
         matches!(
             self.part.as_slice(),
@@ -173,7 +172,7 @@ impl Way {
         )
     }
 
-    /// Takes in the next entry of the worker's caller, of this index in the history.
+    /// Takes in the next entry of the worker's caller, which has this index in the history.
     pub(crate) fn take_in(
         &mut self,
         work: &Work<'_>,

@@ -21,7 +21,7 @@ action_of ds = do
       else if bytes_eq name.0 (codes "abort") then (end_of name.1 >>= λ none. Some Abort)
       else (op_of ds >>= λ op. Some (Op op))
 
--- A script: its actions, where each element is one.
+-- A script: its actions, if each element is one.
 unfoldable pub script_of : List Data → Option (List Action)
 script_of ds = result_ok (pieces_from action_of parts.Script 0 ds)
 

@@ -1,4 +1,4 @@
--- The entry that an array in JSON is: its name, its caller and what is entered.
+-- The entry that an array in JSON is: its name, its caller and its further elements.
 use Rattle.std.specs.Prelude.{ℕ, Bool, true, List, Option, Some, None, if◌then◌else◌, codes}
 use Rattle.std.specs.Str.{bytes_eq}
 use Rattle.serde_json.specs.Data.{Data}
@@ -14,8 +14,8 @@ busy_of c ds = do
   x ← one_of op.1
   Some (Busy c op.0 x)
 
--- The entry of this name and caller that has these further elements, if it says where a transaction
--- is: that it began, has set a savepoint, takes changes back, is back at a level, or is over.
+-- The entry of this name and caller with these further elements, if it is about the course of a
+-- transaction.
 unfoldable pub transaction_entry : List ℕ → ℕ → List Data → Option Entry
 transaction_entry name c ds =
     if bytes_eq name (codes "began") then (one_of ds >>= λ t. Some (Began c t))
@@ -26,7 +26,7 @@ transaction_entry name c ds =
     else if bytes_eq name (codes "aborted") then (end_of ds >>= λ none. Some (Aborted c))
     else None
 
--- The same of every entry: also of those that say what became of an operation.
+-- The entry of this name and caller with these further elements, also if it is about an operation.
 unfoldable pub entry_named : List ℕ → ℕ → List Data → Option Entry
 entry_named name c ds =
     if bytes_eq name (codes "asked") then (op_of ds >>= λ op. Some (Asked c op))

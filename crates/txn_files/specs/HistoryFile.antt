@@ -16,7 +16,7 @@ use Rattle.txn_files.specs.Entries.{entry_of, is_old_entry}
 abbrev pub max_caller : ℕ
 max_caller = max_callers - 1
 
--- How many entries a file may have.
+-- The most entries that a file may have.
 abbrev pub max_entries : ℕ
 max_entries = 1000000
 
@@ -31,12 +31,12 @@ history_file = record {
   most = max_entries;
 }
 
--- Whether the callers of an entry are in range: the holder too.
+-- Whether the callers of an entry are in range, also the holder of a Busy.
 abbrev pub is_in_range : Entry → Bool
 is_in_range (Busy c op x) = nat_le c max_caller && nat_le x max_caller
 is_in_range e = nat_le (caller_of e) max_caller
 
--- Whether the numbers of a history are in range: a stripe or more, and no more than there may be.
+-- Whether the number of stripes and the callers of a history are in range.
 abbrev pub is_history : ℕ → List Entry → Bool
 is_history stripes entries =
     nat_le 1 stripes && nat_le stripes max_stripes && list_all is_in_range entries

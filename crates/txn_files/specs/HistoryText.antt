@@ -9,7 +9,7 @@ use Rattle.txn_files.specs.Operations.{elements_of_op}
 abbrev pub comma : ℕ
 comma = 44
 
--- An array of elements, of which each is a text already.
+-- An array of elements, each of which is given as its text.
 abbrev pub array_text : List (List ℕ) → List ℕ
 array_text elements = codes "[" ++ (join_with_byte comma elements ++ codes "]")
 
@@ -22,7 +22,7 @@ abbrev pub optional_text : Option ℕ → List ℕ
 optional_text None = codes "null"
 optional_text (Some n) = decimal n
 
--- The elements of an entry: its name, its caller and what is entered.
+-- The elements of an entry: its name, its caller and its further elements.
 abbrev pub elements_of_entry : Entry → List (List ℕ)
 elements_of_entry (Began c t) = quoted (codes "began") ∷ decimal c ∷ decimal t ∷ []
 elements_of_entry (Asked c op) = quoted (codes "asked") ∷ decimal c ∷ elements_of_op op
@@ -40,7 +40,7 @@ elements_of_entry (Aborted c) = quoted (codes "aborted") ∷ decimal c ∷ []
 abbrev pub entry_text : Entry → List ℕ
 entry_text e = array_text (elements_of_entry e)
 
--- The object of the entries, the stripes and the version, the names in this order.
+-- The object of the entries, the stripes and the version, in this order.
 abbrev pub text_of_history : ℕ → ℕ → List Entry → List ℕ
 text_of_history version stripes entries =
     codes "{\"entries\":" ++ (array_text (map entry_text entries)

@@ -6,7 +6,7 @@ pub mod HistoryFile
 pub mod HistoryText
 pub mod Actions
 pub mod ScriptFile
--- What a file is refused with, and the words by which these definitions are made.
+-- The faults of files, and the definitions of `piece_files` that these ones use.
 pub use Rattle.piece_files.specs.declared.part.Part
 pub use Rattle.piece_files.specs.declared.file_fault.FileFault
 pub use Rattle.piece_files.specs.Faults

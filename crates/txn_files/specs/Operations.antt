@@ -6,8 +6,8 @@ use Rattle.txn_trace.specs.declared.op.Op.{Op}
 use Rattle.txn_trace.specs.declared.op.Op.TheVariants.{Put, Take, Get, PutIf}
 use Rattle.piece_files.specs.Elements.{◌>>=◌, number_at, optional_at, word_at}
 
--- Of the operation "put_if" of a key what is expected, null or a number, and the value; and the
--- elements after it.
+-- The "put_if" of this key whose expected value (null or a number) and new value the elements begin
+-- with, and the elements after it.
 unfoldable pub put_if_at : ℕ → List Data → Option (Op × List Data)
 put_if_at k ds = do
   expected ← optional_at ds
@@ -15,7 +15,7 @@ put_if_at k ds = do
   Some (PutIf k expected.0 v.0, v.1)
 
 -- The operation that elements begin with, and the elements after it: "put", a key and a value;
--- "take" or "get" and a key; "put_if", a key, what is expected, null or a number, and a value.
+-- "take" or "get" and a key; "put_if", a key, the expected value (null or a number) and a value.
 unfoldable pub op_at : List Data → Option (Op × List Data)
 op_at ds = do
   name ← word_at ds
@@ -26,7 +26,7 @@ op_at ds = do
       else if bytes_eq name.0 (codes "put_if") then put_if_at k.0 k.1
       else None
 
--- An operation and nothing else.
+-- An operation, with no elements after it.
 unfoldable pub op_of : List Data → Option Op
 op_of ds = do
   op ← op_at ds

@@ -11,15 +11,15 @@ use Rattle.txn_files.specs.StepFile.{sizes_at}
 use Rattle.txn_files.specs.Actions.{is_old_script, script_of}
 use Rattle.txn_trace.specs.Work.{Work}
 
--- How many tries there may be after the first.
+-- The most times that a script may be tried again.
 abbrev pub max_tries : ℕ
 max_tries = 1000
 
--- How many scripts a file may have.
+-- The most scripts that a file may have.
 abbrev pub max_scripts : ℕ
 max_scripts = 10000
 
--- How many actions a script may have.
+-- The most actions that a script may have.
 abbrev pub max_actions : ℕ
 max_actions = 10000
 

@@ -11,7 +11,7 @@ use Rattle.piece_files.specs.Files.{FileKind, contents}
 use Rattle.piece_files.specs.Pieces.{in_version}
 use Rattle.txn_files.specs.Steps.{is_old_step, step_of}
 
--- How many steps a file may have.
+-- The most steps that a file may have.
 abbrev pub max_steps : ℕ
 max_steps = 1000000
 
@@ -30,15 +30,15 @@ abbrev in_limits : Result Sizes Refusal → Result Sizes FileFault
 in_limits (Ok sizes) = Ok sizes
 in_limits (Err refusal) = Err Limit
 
--- The limits of a file of this version: those of version 1 take half keys alone.
+-- The limits of a file of this version: those of version 1 take only half keys.
 abbrev pub with_keys_of : ℕ → Sizes → Sizes
 with_keys_of version sizes = in_version version (record sizes { half = true }) sizes
 
--- The last version of the files that say what is to be run: of steps and of scripts.
+-- The last version of step files and script files.
 abbrev pub max_run_version : ℕ
 max_run_version = 2
 
--- The numbers of such a file as limits, where they and its version are in range.
+-- The numbers of such a file as limits, if they and its version are in range.
 abbrev pub sizes_at : ℕ → ℕ → ℕ → ℕ → Result Sizes FileFault
 sizes_at version callers stripes buckets =
     if nat_le version max_run_version then

@@ -1,4 +1,4 @@
--- The step that an array in JSON is: its name, its caller and what it asks for.
+-- The step that an array in JSON is: its name, its caller and its further elements.
 use Rattle.std.specs.Prelude.{ℕ, ◌==◌, Bool, true, List, length, Option, Some, None, if◌then◌else◌, codes}
 use Rattle.std.specs.Str.{bytes_eq}
 use Rattle.serde_json.specs.Data.{Data}
@@ -28,7 +28,7 @@ numbered_of name n =
     else if bytes_eq name (codes "double") then Some (Double n)
     else None
 
--- A step by its name, and what stands behind the name.
+-- A step by its name and the elements after the name.
 unfoldable pub step_of : List Data → Option Step
 step_of ds = do
   name ← word_at ds

@@ -20,10 +20,10 @@ use txn_trace::{Entry, Limits, PackedEntry};
 /// The largest number that a caller may have.
 const MAX_CALLER: u64 = Limits::MAX_CALLERS - 1;
 
-/// How many entries a file may have.
+/// The most entries that a file may have.
 const MAX_ENTRIES: usize = 1_000_000;
 
-/// How many elements the longest entry has: `["busy",0,"put_if",1,10,12,2]`.
+/// The number of elements of the longest entry: `["busy",0,"put_if",1,10,12,2]`.
 const MAX_ELEMENTS: usize = 7;
 
 #[tactic(auto, unfolding(crate::specs::Entries::busy_of))]
@@ -35,9 +35,8 @@ fn busy_in(caller: u64, values: &[Plain<'_>]) -> Option<Entry>
     Some(Entry::Busy(caller, op, holder))
 }
 
-/// The entry of this name and caller that has these further elements, if it says where a
-/// transaction is: that it began, has set a savepoint, takes changes back, is back at a level, or
-/// is over.
+/// The entry of this name and caller with these further elements, if it is about the course of a
+/// transaction: began, saved, leave, undone, returned, committed or aborted.
 #[tactic(auto, unfolding(crate::specs::Entries::transaction_entry))]
 fn transaction_entry_in(name: &str, caller: u64, values: &[Plain<'_>]) -> Option<Entry>
     ensures { result ≡ transaction_entry name.now caller (map data_of values.now) }
@@ -61,7 +60,7 @@ fn transaction_entry_in(name: &str, caller: u64, values: &[Plain<'_>]) -> Option
     }
 }
 
-/// The same of every entry: also of those that say what became of an operation.
+/// The entry of this name and caller with these further elements, also if it is about an operation.
 #[tactic(auto, unfolding(crate::specs::Entries::entry_named))]
 fn entry_named_in(name: &str, caller: u64, values: &[Plain<'_>]) -> Option<Entry>
     ensures { result ≡ entry_named name.now caller (map data_of values.now) }
@@ -169,7 +168,7 @@ fn are_in_range(entries: &[PackedEntry]) -> bool
     entries.iter().all(|entry| is_in_range(entry))
 }
 
-/// Whether the numbers of a history are in range.
+/// Whether the number of stripes and the callers of a history are in range.
 fn is_history(stripes: u64, entries: &[PackedEntry]) -> bool
     ensures { result ≡ is_history stripes entries.now }
 {
@@ -196,31 +195,31 @@ fn entries_in(
 }
 
 /// The number of stripes, the entries and the version of a history file:
-/// `{"version":V,"stripes":S,"entries":[..]}`, where each entry is an array, as
+/// `{"version":V,"stripes":S,"entries":[..]}`. Each entry is an array, such as
 /// `["asked",0,"put",1,10]` or `["did",0,null]`. Version 1 has no `put_if`.
 ///
-/// Other members of the object are passed over, and of a member that is given twice the last
-/// counts. A number is written without a sign, a fraction or an exponent, and is below 2^64.
-/// Whether the history is legal is not asked.
+/// Other members of the object are skipped, and the last of several with one name counts. A number
+/// is written without a sign, a fraction or an exponent, and is below 2^64.
+/// Whether the history is legal is not tested.
 ///
 /// # Errors
 ///
 /// The first of these, in this order:
 ///
 /// - `Limit` if there are more than 16,777,216 bytes.
-/// - `NotJson` if they are no JSON as `piece_files::read_file` takes it.
+/// - `NotJson` if they are not JSON that `piece_files::read_file` takes.
 /// - `Member` if the value is no object or one of the three members, in the order above, is
 ///   missing or of the wrong kind.
-/// - `Piece` for the first entry that is none, or in version 1 has a `put_if`.
+/// - `Piece` for the first piece that is no entry, or in version 1 has a `put_if`.
 /// - `Limit` if the version is not 1 to 3, the stripes are not 1 to 4,096, a caller or the
 ///   holder that an entry names is above 63, or there are more than 1,000,000 entries.
 ///
-/// `NoMemory` if memory is refused. It can come in place of any answer.
+/// `NoMemory` if memory is refused; it may be answered in place of any other.
 ///
 /// # Cost
 ///
-/// Time and memory in proportion to the bytes. While it runs the entries are there twice, once of
-/// them packed.
+/// Time and memory in proportion to the bytes. The entries are in memory twice, once of them
+/// packed.
 pub fn read_history(alloc: Global, bytes: &[u8]) -> Result<(u32, Vec<Entry>, u64), FileFault>
     ensures { Gives (λ file. (file.0, file.1.items, file.2)) result (history_of bytes.now) }
 {
@@ -229,7 +228,7 @@ pub fn read_history(alloc: Global, bytes: &[u8]) -> Result<(u32, Vec<Entry>, u64
     Ok((stripes, entries, version))
 }
 
-/// The entries, which were packed.
+/// The entries that were packed.
 ///
 /// # Errors
 ///
@@ -244,7 +243,8 @@ fn unpacked(alloc: Global, packed: &[PackedEntry]) -> Result<Vec<Entry>, AllocEr
     Ok(entries)
 }
 
-/// The same as `read_history`, with the entries packed, which take three quarters of the memory.
+/// The number of stripes, the packed entries and the version of a history file, as `read_history`
+/// reads it. Packed entries take three quarters of the memory.
 ///
 /// # Errors
 ///

@@ -1,4 +1,5 @@
-//! An operation as elements in JSON: how it is read, and how it is written.
+//! An operation as elements in JSON: how it is read, and how it is written. Step files, script
+//! files and history files share it.
 
 ghost use Rattle.std.specs.Prelude.{◌≡◌, ◌++◌, ◌∷◌, decimal, map, option_map, OnOk, string_bytes};
 ghost use Rattle.std.specs.List.{join_with_byte};
@@ -11,7 +12,7 @@ use piece_files::{Plain, leading_optional_in, number_in, word_in};
 use std::alloc::AllocError;
 use txn_trace::Op;
 
-/// Of a `put_if` of this key what is expected and the value, with which the elements begin; and the
+/// The `put_if` of this key whose expected value and new value the elements begin with, and the
 /// elements after it.
 #[tactic(auto, unfolding(crate::specs::Operations::put_if_at))]
 fn leading_put_if_in<'v, 'a>(key: u64, values: &'v [Plain<'a>]) -> Option<(Op, &'v [Plain<'a>])>
@@ -72,7 +73,8 @@ pub fn is_old_op(op: Op) -> bool
     !matches!(op, Op::PutIf(..))
 }
 
-/// Adds the decimal digits of a number, made on the stack: `write!` would go through a formatter.
+/// Adds the decimal digits of a number, which are made on the stack. `write!` would take a
+/// formatter.
 pub(crate) fn put_number(text: &mut String, number: u64) -> Result<(), AllocError>
     ensures { OnOk result (string_bytes text.new ≡ string_bytes text.old ++ decimal number) }
 {

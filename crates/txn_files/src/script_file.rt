@@ -18,16 +18,16 @@ use piece_files::{
 use std::alloc::Global;
 use txn_trace::{Action, Script, Scripts};
 
-/// How often a script may be tried again.
+/// The most times that a script may be tried again.
 const MAX_TRIES: u64 = 1000;
 
-/// How many scripts a file may have.
+/// The most scripts that a file may have.
 const MAX_SCRIPTS: usize = 10_000;
 
-/// How many actions a script may have.
+/// The most actions that a script may have.
 const MAX_ACTIONS: usize = 10_000;
 
-/// How many elements the longest action has: `["put_if",1,10,12]`.
+/// The number of elements of the longest action: `["put_if",1,10,12]`.
 const MAX_ELEMENTS: usize = 4;
 
 #[tactic(auto, unfolding(crate::specs::Actions::action_of))]
@@ -174,28 +174,28 @@ fn work_in(version: u64, numbers: [u64; 4], scripts: Vec<Script>) -> Result<Scri
     }
 }
 
-/// What a script file gives workers to do:
-/// `{"version":V,"workers":W,"stripes":S,"buckets":B,"tries":T,"scripts":[[..],..]}`, where each
-/// script is an array of actions, and each action an array, as `["put",1,10]` or `["save"]`.
-/// Version 1 has no `put_if`, and its limits take half keys alone.
+/// The work for the workers in a script file:
+/// `{"version":V,"workers":W,"stripes":S,"buckets":B,"tries":T,"scripts":[[..],..]}`. Each script
+/// is an array of actions, and each action an array, such as `["put",1,10]` or `["save"]`. Version
+/// 1 has no `put_if`, and its limits take only half keys.
 ///
-/// Other members of the object are passed over, and of a member that is given twice the last
-/// counts. A number is written without a sign, a fraction or an exponent, and is below 2^64.
+/// Other members of the object are skipped, and the last of several with one name counts. A number
+/// is written without a sign, a fraction or an exponent, and is below 2^64.
 ///
 /// # Errors
 ///
 /// The first of these, in this order:
 ///
 /// - `Limit` if there are more than 16,777,216 bytes.
-/// - `NotJson` if they are no JSON as `piece_files::read_file` takes it.
+/// - `NotJson` if they are not JSON that `piece_files::read_file` takes.
 /// - `Member` if the value is no object or one of the six members, in the order above, is
 ///   missing or of the wrong kind.
-/// - `Piece` for the first script that is none, or in version 1 has a `put_if`, with its index.
+/// - `Piece` for the first piece that is no script, or in version 1 has a `put_if`, with its index.
 /// - `Limit` if the version is not 1 or 2, `Limits::new` refuses the numbers with the workers as
 ///   callers, the tries are above 1,000, there are more than 10,000 scripts, or one of them has
 ///   more than 10,000 actions.
 ///
-/// `NoMemory` if memory is refused. It can come in place of any answer.
+/// `NoMemory` if memory is refused; it may be answered in place of any other.
 ///
 /// # Cost
 ///

@@ -16,10 +16,10 @@ use piece_files::{
 use std::alloc::Global;
 use txn_trace::{Limits, Step};
 
-/// How many steps a file may have.
+/// The most steps that a file may have.
 const MAX_STEPS: usize = 1_000_000;
 
-/// How many elements the longest step has: `["ask",0,"put_if",1,10,12]`.
+/// The number of elements of the longest step: `["ask",0,"put_if",1,10,12]`.
 const MAX_ELEMENTS: usize = 6;
 
 #[tactic(auto, unfolding(crate::specs::Steps::ask_of))]
@@ -127,11 +127,11 @@ impl PieceKind for StepKind {
     }
 }
 
-/// The last version of the files that say what is to be run: of steps and of scripts.
+/// The last version of step files and script files.
 const MAX_RUN_VERSION: u64 = 2;
 
-/// The limits of these numbers in a step file or script file of this version: those of version 1
-/// take half keys alone.
+/// The limits that these numbers are in a step file or script file of this version: those of
+/// version 1 take only half keys.
 ///
 /// # Errors
 ///
@@ -177,25 +177,25 @@ fn steps_in(
 }
 
 /// The limits and the steps of a step file:
-/// `{"version":V,"callers":C,"stripes":S,"buckets":B,"steps":[..]}`, where each step is an array,
-/// as `["ask",0,"put",1,10]`. Version 1 has no `put_if`, and its limits take half keys alone.
+/// `{"version":V,"callers":C,"stripes":S,"buckets":B,"steps":[..]}`. Each step is an array, such as
+/// `["ask",0,"put",1,10]`. Version 1 has no `put_if`, and its limits take only half keys.
 ///
-/// Other members of the object are passed over, and of a member that is given twice the last
-/// counts. A number is written without a sign, a fraction or an exponent, and is below 2^64.
+/// Other members of the object are skipped, and the last of several with one name counts. A number
+/// is written without a sign, a fraction or an exponent, and is below 2^64.
 ///
 /// # Errors
 ///
 /// The first of these, in this order:
 ///
 /// - `Limit` if there are more than 16,777,216 bytes.
-/// - `NotJson` if they are no JSON as `piece_files::read_file` takes it.
+/// - `NotJson` if they are not JSON that `piece_files::read_file` takes.
 /// - `Member` if the value is no object or one of the five members, in the order above, is
 ///   missing or of the wrong kind.
-/// - `Piece` for the first step that is none, or in version 1 a `put_if`.
+/// - `Piece` for the first piece that is no step, or in version 1 is a `put_if`.
 /// - `Limit` if the version is not 1 or 2, `Limits::new` refuses the numbers, or there are more
 ///   than 1,000,000 steps.
 ///
-/// `NoMemory` if memory is refused. It can come in place of any answer.
+/// `NoMemory` if memory is refused; it may be answered in place of any other.
 ///
 /// # Cost
 ///

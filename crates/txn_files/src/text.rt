@@ -1,5 +1,5 @@
 //! Histories as compact JSON: each entry as an array, and the object around them. The text is a
-//! function of the entries, `text_of_history`. Time and memory in proportion to the text.
+//! function of the entries, `text_of_history`. Takes time and memory in proportion to the text.
 ghost use Rattle.std.specs.Prelude.{◌≡◌, [], ◌∷◌, ◌++◌, codes, decimal, map, OnOk, IfOk, string_bytes};
 ghost use Rattle.std.specs.List.{flat_map, join_with_byte};
 ghost use Rattle.txn_files.specs.HistoryText.{array_text, comma, entry_text, optional_text, quoted, text_of_history};
@@ -59,7 +59,7 @@ fn put_optional(
     }
 }
 
-/// Adds what a caller asked for.
+/// Adds an Asked entry: the operation that a caller asked for.
 fn put_asked(text: &mut String, caller: u64, op: Op) -> Result<(), AllocError>
     ensures { OnOk result (string_bytes text.new
         ≡ string_bytes text.old ++ entry_text (entries.Asked caller op)) }
@@ -70,7 +70,7 @@ fn put_asked(text: &mut String, caller: u64, op: Op) -> Result<(), AllocError>
     text.push_str("]")
 }
 
-/// Adds what a caller asked for that found its stripe held, and the holder.
+/// Adds a Busy entry: the operation that a caller asked for, and the holder of its stripe.
 fn put_busy(text: &mut String, caller: u64, op: Op, holder: u64) -> Result<(), AllocError>
     ensures { OnOk result (string_bytes text.new
         ≡ string_bytes text.old ++ entry_text (entries.Busy caller op holder)) }
@@ -97,7 +97,7 @@ fn put_entry(text: &mut String, entry: &Entry) -> Result<(), AllocError>
     }
 }
 
-/// Each entry after a comma.
+/// Adds each entry, after a comma.
 fn put_further_entries(text: &mut String, entries: &[Entry]) -> Result<(), AllocError>
     ensures { OnOk result (string_bytes text.new
         ≡ string_bytes text.old ++ flat_map (λ e. comma ∷ entry_text e) entries.now) }
@@ -109,7 +109,7 @@ fn put_further_entries(text: &mut String, entries: &[Entry]) -> Result<(), Alloc
     Ok(())
 }
 
-/// The entries with a comma between each two.
+/// Adds the entries, with a comma between each two.
 fn put_entries(text: &mut String, entries: &[Entry]) -> Result<(), AllocError>
     ensures { OnOk result (string_bytes text.new
         ≡ string_bytes text.old ++ join_with_byte comma (map entry_text entries.now)) }
@@ -122,8 +122,8 @@ fn put_entries(text: &mut String, entries: &[Entry]) -> Result<(), AllocError>
 }
 
 /// A history as compact JSON: an object with its entries, its stripes and the version of the file,
-/// in this order, as `{"entries":[["began",0,1]],"stripes":8,"version":1}`, with no line feed.
-/// `read_history` reads it if it is in range, in version 1 if it has no `put_if`.
+/// in this order, such as `{"entries":[["began",0,1]],"stripes":8,"version":1}`, without a line
+/// feed. `read_history` reads it again if it is in range, and in version 1 has no `put_if`.
 ///
 /// # Errors
 ///
