@@ -111,7 +111,7 @@ pub extern "C" fn boostmap_put_if_equal(
 ///
 /// 3 if the handle has no map; 2 if another caller holds the key's stripe, after which the
 /// transaction can only abort. A refusal changes nothing: 18 (`NoSuchCaller`), 19 (`NotOpen`), 22
-/// (`Leaving`), 30 (`NoMemory`).
+/// (`Leaving`), 30 (`NoMemory`), 32 (`StampsUsedUp`).
 ///
 /// # Cost
 ///

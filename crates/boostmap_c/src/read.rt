@@ -1,5 +1,5 @@
-//! The content of a map, written into an array of C's. Only this call takes memory that it frees
-//! before it ends, and writes more than a word.
+//! The content of a map, written into an array of C's. The call takes memory for the pairs, which
+//! it frees before it ends.
 ghost use Rattle.std.specs.Prelude.{◌≡◌, ◌≤◌, length};
 ghost use Rattle.boostmap_c.specs.Contents.{LaysOf, Lie, Reads};
 

@@ -141,9 +141,9 @@ pub extern "C" fn boostmap_striped_join(
     }
 }
 
-/// Gives up the caller: a transaction that is open is aborted, and its stripes are given back. The
-/// handle is then all zeros. Callers that wait for this one are given up with it; the map is freed
-/// with its last caller.
+/// Frees the caller: an open transaction is aborted, and its stripes are given back. The handle is
+/// then all zeros. Callers that still wait in this one are freed with it. The map is freed with its
+/// last caller.
 ///
 /// # Errors
 ///
