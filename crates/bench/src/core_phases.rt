@@ -1,4 +1,5 @@
-//! Times the core, step by step.
+//! Times the core, one step after the other: puts on few keys, or the steps of a step file. The sum
+//! of the answers can be compared with that of another program.
 use crate::keys::number_at;
 use crate::stopwatch::{Lap, Stopwatch};
 use anyhow::{Context, Result, anyhow};

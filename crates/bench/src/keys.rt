@@ -1,4 +1,4 @@
-//! The keys, in a fixed mixed order.
+//! The keys in a fixed mixed order, so that neighbours in time are not neighbours in the list.
 use split_key::Key;
 
 /// The numbers of keys are below 2^63.
@@ -13,7 +13,7 @@ pub(crate) fn key_at(position: u64) -> Key {
     Key::new(folded.wrapping_mul(0xd6e8_feb8_6659_fd93) & LOW_BITS)
 }
 
-/// The number of the key at a position.
+/// The number of the key at a position of the order.
 pub(crate) fn number_at(position: u64) -> u64 {
     key_at(position).number()
 }

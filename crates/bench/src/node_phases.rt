@@ -1,4 +1,5 @@
-//! Times the nodes and cursors.
+//! Times the nodes and cursors of the list, without the layers above: puts, look-ups, swaps, marks
+//! and sweeps.
 use crate::keys::key_at;
 use crate::node_table::{NodeTable, SIZE};
 use crate::stopwatch::Stopwatch;

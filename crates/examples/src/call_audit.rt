@@ -15,8 +15,8 @@ fn say<R: Print + AllocGlobal>(rt: &R, what: &str, history: &[Entry]) -> io::Res
     }
 }
 
-/// Prints of a history in which a caller gets what another put, and of the same with another reply,
-/// whether it is legal.
+/// Prints whether a history is legal in which a caller gets what another put, and whether it is
+/// with another reply.
 pub(crate) fn show<R: Print + AllocGlobal>(rt: &R) -> io::Result<()> {
     let mut history = [
         Entry::Began(0, 1),

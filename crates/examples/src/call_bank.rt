@@ -7,7 +7,7 @@ use owned_map::{OwnedMap, Stop, Transaction};
 use std::io::Print;
 use txn_trace::Limits;
 
-/// Puts what two accounts have at first.
+/// Puts the first balances of two accounts.
 #[tactic(auto, using(owned_map::proofs::Calls::keeps_stay, owned_map::proofs::Calls::keeps_on))]
 fn open(t: &mut Transaction<'_>) -> Result<(), Stop>
     ensures { Keeps t.old t.new }
@@ -17,8 +17,8 @@ fn open(t: &mut Transaction<'_>) -> Result<(), Stop>
     Ok(())
 }
 
-/// Caller 0 opens two accounts; caller 1 moves a sum and then one that is too large. Prints what
-/// came of it.
+/// Caller 0 opens two accounts; caller 1 moves a sum, and then tries one that is too large. Prints
+/// the outcome of both, and the accounts.
 pub(crate) fn show<R: Print + AllocGlobal>(rt: &R) -> Result<()> {
     let mut accounts = OwnedMap::new(rt.alloc(), Limits::new(2, 8, 8)?)?;
     accounts.transact(0, |t: &mut Transaction<'_>| open(t))?;

@@ -1,5 +1,5 @@
-//! Calls `visits`: four visitors put a value of their own at the same key, all at once, and each
-//! gets what it put.
+//! Calls `visits`: four visitors put different values at the same key, all at once, and each gets
+//! the value that it put.
 use boost_core::Core;
 use std::io;
 use std::io::Print;
@@ -10,7 +10,7 @@ use std::thread::Threads;
 use txn_trace::{Limits, Refusal};
 use visits::{Answer, Visit, visit_all};
 
-/// What the visitors put.
+/// The values that the visitors put.
 const VISITS: [Visit; 4] = [
     Visit { key: 7, value: 70 },
     Visit { key: 7, value: 71 },
@@ -18,7 +18,7 @@ const VISITS: [Visit; 4] = [
     Visit { key: 7, value: 73 },
 ];
 
-/// What a visitor put and got.
+/// Prints the value that a visitor put, and the one that it got.
 fn say<R: Print + AllocGlobal>(rt: &R, visit: Visit, answer: Answer) -> io::Result<()> {
     match answer {
         Ok(Some(got)) => println!(rt; "put {}, got {got}", visit.value),
@@ -27,7 +27,7 @@ fn say<R: Print + AllocGlobal>(rt: &R, visit: Visit, answer: Answer) -> io::Resu
     }
 }
 
-/// What all visitors put and got, in the order of the visits.
+/// Prints the values that all visitors put and got, in the order of the visits.
 fn say_all<R: Print + AllocGlobal>(rt: &R, answers: &[Answer]) -> io::Result<()> {
     for (visit, answer) in VISITS.iter().zip(answers.iter()) {
         say(rt, *visit, *answer)?;
@@ -35,14 +35,14 @@ fn say_all<R: Print + AllocGlobal>(rt: &R, answers: &[Answer]) -> io::Result<()>
     Ok(())
 }
 
-/// Has the visitors visit a map under a ledger of its own.
+/// Lets the visitors visit a new map.
 fn visit<R: Threads + Wait + Sync + AllocGlobal>(rt: &R) -> Result<(Core, Vec<Answer>), Refusal> {
     let limits = Limits::new(4, 8, 8)?;
     let blank = Blank::new(u64::from(limits.callers()));
     visit_all::<Brand, R>(rt, rt.alloc(), blank, limits, VISITS.as_slice())
 }
 
-/// Prints what each visitor put and got, and then how many keys there are.
+/// Prints what each visitor put and got, and then the number of keys of the map.
 pub(crate) fn show<R: Threads + Wait + Sync + Print + AllocGlobal>(rt: &R) -> io::Result<()> {
     match visit(rt) {
         Ok((core, answers)) => {

@@ -21,7 +21,7 @@ const CALLS: [(Command, &str); 7] = [
 enum Command {
     /// Runs the steps of a file.
     Replay,
-    /// Runs the scripts of a file, their turns mixed as this seed says.
+    /// Runs the scripts of a file, with the workers' turns mixed as this seed says.
     Mix(u64),
     /// Judges the history of a file.
     Check,
@@ -50,7 +50,7 @@ fn run<R: Runtime + AllocGlobal>(rt: &R, command: Command, file: &str) -> Result
     }
 }
 
-/// Prints for each file the words of the call, and then what the engine wrote.
+/// Prints for each file the words of the call, and then the engine's output.
 pub(crate) fn show<R: Runtime + AllocGlobal>(rt: &R) -> anyhow::Result<()> {
     for (command, file) in CALLS {
         println!(rt; "{command} {file}")?;

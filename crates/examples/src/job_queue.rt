@@ -1,5 +1,6 @@
-//! A queue of jobs in one map, from which four threads take jobs: a key is a job, its value the
-//! job's state. Each job is done once, and a worker that stops in mid-transaction leaves nothing.
+//! A queue of jobs in one map, from which four threads take jobs. A key is a job, and its value is
+//! the job's state. Each job is done once, and a worker that stops in the middle of a transaction
+//! leaves nothing behind.
 ghost use Rattle.std.specs.Prelude.{◌≡◌};
 ghost use Rattle.shared_transactions.specs.Keeps.{Keeps};
 
@@ -15,11 +16,11 @@ use std::thread::Threads;
 use std::{io, thread};
 use txn_trace::{Limits, Refusal};
 
-/// The workers, each in a thread of its own.
+/// The number of workers. Each has its own thread.
 const WORKERS: u64 = 4;
-/// The jobs, by their keys.
+/// The number of jobs. Their keys are the numbers below it.
 const JOBS: u64 = 12;
-/// The key at which it is counted how often a job was done.
+/// The key whose value counts the jobs that were done.
 const DONE: u64 = 100;
 /// The state of a job that waits for a worker.
 const WAITING: u64 = 1;
@@ -39,7 +40,7 @@ fn fill<L: Ledger, R: Wait>(t: &mut Transaction<'_, L, R>) -> Result<(), Stop>
     Ok(())
 }
 
-/// Claims a job, if it waits: answers whether it did.
+/// Claims a job, if it waits, and answers whether it did.
 fn claim<L: Ledger, R: Wait>(t: &mut Transaction<'_, L, R>, job: u64) -> Result<bool, Stop>
     ensures { Keeps t.old.me t.new.me }
 {
@@ -90,7 +91,8 @@ fn work<L: Ledger, R: Wait>(
     Ok(())
 }
 
-/// The first caller fills the queue; then each works in a thread, the first only after a crash.
+/// The first caller fills the queue. Then each caller works in its own thread, the first one only
+/// after a crash.
 fn work_all<L: Ledger + Send + Sync, R: Threads + Wait + Sync>(
     rt: &R,
     map: &SharedMap<L>,
@@ -136,7 +138,7 @@ fn do_all<L: Ledger + Send + Sync, R: Threads + Wait + Sync>(
     }
 }
 
-/// How many jobs are finished, and how often one was.
+/// The number of jobs that are finished, and how often a job was done.
 fn finished(alloc: Global, core: &Core) -> Result<(u64, u64), AllocError> {
     let mut jobs = 0u64;
     let mut count = 0u64;
@@ -150,7 +152,7 @@ fn finished(alloc: Global, core: &Core) -> Result<(u64, u64), AllocError> {
     Ok((jobs, count))
 }
 
-/// Does all jobs, and prints how many are finished and how often one was.
+/// Does all jobs, and prints how many are finished and how often one was done.
 pub(crate) fn show<R: Threads + Wait + Sync + Print + AllocGlobal>(rt: &R) -> io::Result<()> {
     let Ok(limits) = Limits::new(WORKERS, 8, 8) else {
         return println!(rt; "limits");

@@ -1,9 +1,9 @@
-//! Calls the libraries of callers, has threads move sums between the accounts of one map and take
-//! jobs from another, and runs the files of the folder `examples`. A line with a name, or with the
-//! words of a call, comes before what each prints.
+//! Calls the libraries `bank`, `audit` and `visits`, has threads move sums between the accounts of
+//! one map and take jobs from another, and runs the files of the folder `examples`. Before the
+//! output of each it prints a line with its name, or with the words of the call.
 //!
-//! The gate compares all of it with the file `stdout`, which was written by hand, so that what the
-//! documents say of their examples stays true. Nothing is promised of this program.
+//! The gate compares the output with the file `stdout`, which was written by hand. So the documents
+//! stay true of their examples. Nothing is promised of this program.
 #![tactic(auto)]
 
 mod call_audit;

@@ -1,7 +1,8 @@
-//! Four threads move sums between the accounts of one map, and the sum of all accounts stays.
+//! Four threads move sums between the accounts of one map, and the sum of all accounts stays the
+//! same.
 //!
-//! Each transfer is one transaction: it reads two accounts and writes both. If another thread has a
-//! key's stripe, the transaction is aborted and begun anew, as often as it takes.
+//! Each transfer is one transaction, which reads two accounts and writes both. If another thread
+//! has a key's stripe, the transaction is aborted and tried again, as often as it takes.
 ghost use Rattle.std.specs.Prelude.{◌≡◌};
 ghost use Rattle.shared_transactions.specs.Keeps.{Keeps};
 
@@ -17,13 +18,13 @@ use std::thread::Threads;
 use std::{io, thread};
 use txn_trace::{Limits, Refusal};
 
-/// The threads, each with a caller of its own.
+/// The number of threads. Each has its own caller.
 const THREADS: u64 = 4;
-/// The accounts, by their keys.
+/// The number of accounts. Their keys are the numbers below it.
 const ACCOUNTS: u64 = 8;
-/// What each account has at first.
+/// The first balance of each account.
 const OPENING: u64 = 100;
-/// How many transfers each thread makes.
+/// The number of transfers of each thread.
 const TRANSFERS: u64 = 50;
 
 /// Puts the opening sum into each account.
@@ -57,7 +58,7 @@ impl Transfer {
         }
     }
 
-    /// Moves the sum, if the first account has as much.
+    /// Moves the sum, if the first account has enough.
     #[tactic(auto, using(shared_transactions::proofs::Within::keeps_stay, shared_transactions::proofs::Within::keeps_on))]
     fn make<L: Ledger, R: Wait>(self, t: &mut Transaction<'_, L, R>) -> Result<(), Stop>
         ensures { Keeps t.old.me t.new.me }
@@ -75,7 +76,7 @@ impl Transfer {
     }
 }
 
-/// What one thread does: its transfers, each in a transaction.
+/// Makes all transfers of one thread, each in a transaction.
 fn work<L: Ledger, R: Wait>(rt: &R, map: &SharedMap<L>, me: &mut Caller<L, NoSide>) {
     for round in 0..TRANSFERS {
         let transfer = Transfer::of_round(me.number(), round);
@@ -85,7 +86,7 @@ fn work<L: Ledger, R: Wait>(rt: &R, map: &SharedMap<L>, me: &mut Caller<L, NoSid
     }
 }
 
-/// All accounts are opened by the first caller, and then each caller works in a thread.
+/// The first caller opens all accounts, and then each caller works in its own thread.
 fn work_all<L: Ledger + Send + Sync, R: Threads + Wait + Sync>(
     rt: &R,
     map: &SharedMap<L>,
@@ -138,7 +139,7 @@ fn total(alloc: Global, core: &Core) -> Result<u64, AllocError> {
     Ok(sum)
 }
 
-/// Plays, and prints the sum.
+/// Makes all transfers, and prints the sum of all accounts.
 pub(crate) fn show<R: Threads + Wait + Sync + Print + AllocGlobal>(rt: &R) -> io::Result<()> {
     let Ok(limits) = Limits::new(THREADS, 8, 8) else {
         return println!(rt; "limits");
