@@ -19,7 +19,7 @@ const READS_BESIDE: [Entry; 8] = [
     Entry::Committed(1, 2),
 ];
 
-/// The same, in which the writer commits first: the reader's value is old.
+/// Two transactions touch key 1, and the writer commits first: the reader's value is old.
 const READS_STALE: [Entry; 8] = [
     Entry::Began(0, 1),
     Entry::Began(1, 2),
@@ -63,7 +63,7 @@ const WRONG_BUT_ABORTED: [Entry; 8] = [
     Entry::Did(1, Some(7)),
 ];
 
-/// A value that was not committed when it was read, and is when its reader commits.
+/// A value that was not committed when it was read, but is when its reader commits.
 const RIGHT_LATER: [Entry; 8] = [
     Entry::Began(0, 1),
     Entry::Began(1, 2),
@@ -141,20 +141,20 @@ const NEW_KEYS: [Entry; 22] = [
 /// A first commit with number 2.
 const NUMBERED_WRONG: [Entry; 2] = [Entry::Began(0, 1), Entry::Committed(0, 2)];
 
-/// A legal verdict.
+/// The verdict legal, with these numbers of commits and of open transactions.
 fn legal(commits: u64, running: u64) -> Verdict {
     Verdict::Legal { commits, running }
 }
 
-/// One that names a bad entry.
+/// The verdict that names a bad entry and its rule.
 fn illegal(entry: u64, rule: Rule) -> Verdict {
     Verdict::Illegal { entry, rule }
 }
 
-/// A history, its verdict by locks of 8 stripes, and by the order of commits.
+/// A history, its verdict by locks with 8 stripes, and its verdict by the order of commits.
 type Row = (&'static [Entry], Verdict, Verdict);
 
-/// Sees that both judges say this.
+/// Checks that both judges give these verdicts.
 fn judge(rt: &impl Abort, alloc: Global, row: &Row) -> Result<(), AllocError> {
     let (entries, by_locks, by_commits) = *row;
     assert!(rt; entries.iter().all(|entry| entry.caller() < 64));
@@ -165,7 +165,7 @@ fn judge(rt: &impl Abort, alloc: Global, row: &Row) -> Result<(), AllocError> {
     Ok(())
 }
 
-/// Feeds a checker one entry, once more if memory is refused.
+/// Feeds a checker one entry, and again if memory is refused once.
 fn feed(rt: &impl Abort, checker: &mut Checker, entry: &Entry) -> Result<(), AllocError> {
     assert!(rt; entry.caller() < 64);
     match checker.feed(entry) {
@@ -174,8 +174,8 @@ fn feed(rt: &impl Abort, checker: &mut Checker, entry: &Entry) -> Result<(), All
     }
 }
 
-/// Sees that a checker that is fed entry by entry says it of each beginning: legal up to the first
-/// bad entry, and from there on that one.
+/// Checks the verdict on each beginning of the history, by a checker that is fed entry by entry:
+/// legal up to the first bad entry, and from there on that entry.
 fn feed_each(rt: &impl Abort, alloc: Global, row: &Row) -> Result<(), AllocError> {
     let (entries, _, wanted) = *row;
     let mut checker = match Checker::new(alloc) {

@@ -1,12 +1,12 @@
-//! What became of scripts: files of scripts and of histories, with the outcome of each script by
-//! hand.
+//! The outcomes of scripts: files of scripts and of histories, with the outcome of each script
+//! found by hand.
 
 use script_outcomes::{Outcome, outcomes};
 use std::alloc::{AllocError, Global};
 use std::test::Fail;
 use txn_files::{read_packed_history, read_scripts};
 
-/// A script file, a history file, and the outcomes, one a line.
+/// A script file, a history file, and the outcomes, one on each line.
 type Row = (&'static str, &'static str, &'static str);
 
 /// Two workers meet: the second finds the stripe held, and is tried again.
@@ -19,8 +19,8 @@ const MEET: Row = (
     "committed 1 entry 6, committed 2 entry 10",
 );
 
-/// The same with no tries: the second worker goes on with its next script, and the first worker's
-/// next script is not begun.
+/// Two workers meet, and there are no tries: the second goes on with its next script, and the first
+/// worker's next script is not begun.
 const USED_UP: Row = (
     r#"{"version":1,"workers":2,"stripes":8,"buckets":8,"tries":0,
         "scripts":[[["put",1,10]],[["put",1,11]],[["get",2]],[["get",5]]]}"#,
@@ -30,7 +30,7 @@ const USED_UP: Row = (
     "committed 2 entry 10, given up, given up, committed 1 entry 8",
 );
 
-/// A script whose tries are used up, before one of the same worker that aborts at once.
+/// A script whose tries are used up; the next one of the same worker aborts at once.
 const USED_UP_BEFORE_AN_ABORT: Row = (
     r#"{"version":1,"workers":2,"stripes":8,"buckets":8,"tries":1,
         "scripts":[[["put",1,1],["put",2,2]],[["put",1,9]],[["abort"]]]}"#,
@@ -63,7 +63,8 @@ const REFUSED: Row = (
     "given up, aborted entry 11",
 );
 
-/// Two scripts of one worker are alike, and one transaction plays both: the first has it.
+/// Two scripts of one worker are equal, and one transaction plays both: it is counted for the
+/// first.
 const ALIKE: Row = (
     r#"{"version":2,"workers":1,"stripes":8,"buckets":8,"tries":3,
         "scripts":[[["put_if",1,null,5]],[["put_if",1,null,5]],[["put_if",1,5,6]]]}"#,
@@ -73,7 +74,8 @@ const ALIKE: Row = (
     "committed 1 entry 3, given up, committed 2 entry 7",
 );
 
-/// A transaction of the other caller's, one of no worker, and one of another value.
+/// A transaction of the other caller, one of a caller that is no worker, and one that puts another
+/// value.
 const OF_OTHERS: Row = (
     r#"{"version":1,"workers":2,"stripes":8,"buckets":8,"tries":3,
         "scripts":[[["put",1,10]],[["put",2,20]]]}"#,

@@ -7,7 +7,7 @@ use std::fmt::Display;
 use std::process::Abort;
 use std::test::Fail;
 
-/// Sees that a value is printed so.
+/// Checks that a value has this text.
 fn prints(
     rt: &impl Abort,
     alloc: Global,
@@ -38,7 +38,7 @@ fn are_those_of_the_programs(rt: HostRuntime) -> Result<(), Fail> {
     Ok(())
 }
 
-/// Hands a verdict on as an error if it is not legal.
+/// Returns a verdict as an error if it is not legal.
 fn only_legal(verdict: Verdict) -> Result<()> {
     match verdict {
         Verdict::Legal { .. } => Ok(()),
@@ -46,13 +46,13 @@ fn only_legal(verdict: Verdict) -> Result<()> {
     }
 }
 
-/// Hands a rule on as an error.
+/// Returns a rule as an error.
 fn broken(rule: Rule) -> Result<()> {
     Err(rule)?;
     Ok(())
 }
 
-/// Sees that an outcome is an error with this text.
+/// Checks that an outcome is an error with this text.
 fn fails(
     rt: &impl Abort,
     alloc: Global,
