@@ -1,9 +1,9 @@
-//! What the calls of a transaction answer, whichever map they are made on: why one stopped, and
-//! whether a value was swapped in.
+//! The answers that the calls of a transaction share on every map: the reason why a call was not
+//! done (`Stop`), and whether a value was swapped in (`Swapped`).
 //!
-//! They stand apart from the maps, so that a work can be written for one map and its error handed on
-//! by a caller of another. A contract sees the values as they are; the text of a `Stop` is promised
-//! too (`stop_text`). Every call takes constant time and no memory.
+//! The crate is below the maps, so that the error of a work on one map can be returned by a caller
+//! of another. A contract sees the values themselves; the text of a `Stop` is proved too
+//! (`stop_text`). Every call takes constant time and no memory.
 #![tactic(auto)]
 
 mod stop;

@@ -1,4 +1,5 @@
-//! Why a call of a transaction did not do what it was asked.
+//! The reason why a call of a transaction was not done: another caller held a stripe, or it was
+//! refused. Each map says what becomes of the transaction.
 ghost use Rattle.std.specs.Prelude.{◌≡◌};
 ghost use Rattle.txn_trace.specs.declared.refusal.Refusal.TheVariants.{NoMemory};
 ghost use Rattle.map_answers.specs.declared.stop.Stop.TheVariants.{Refused};
@@ -8,12 +9,12 @@ use std::error::Error;
 use std::fmt;
 use txn_trace::Refusal;
 
-/// Why a call of a transaction did not do what it was asked. It is an error with a text, so `?`
-/// hands it on, also as an `anyhow::Error`.
+/// The reason why a call of a transaction was not done. It is an error with a text, so `?` returns
+/// it, also as an `anyhow::Error`.
 #[derive(Clone, Copy, Debug, PartialEq, Eq)]
 pub enum Stop {
-    /// Another caller held the stripe of the key, in a transaction that was still open. So this
-    /// transaction cannot go on: each map says who takes it back.
+    /// Another caller held the stripe of the key. This transaction cannot go on; each map says who
+    /// takes it back.
     Busy {
         /// The caller that held it.
         holder: u64,
@@ -22,7 +23,7 @@ pub enum Stop {
     Refused(Refusal),
 }
 
-/// A sentence without its full stop, which names the holder or says the refusal.
+/// A sentence without a full stop, which names the holder or the refusal.
 impl fmt::Display for Stop {
     ghost use Rattle.std.specs.Prelude.{Some};
     ghost use Rattle.map_answers.specs.Texts.{stop_text};

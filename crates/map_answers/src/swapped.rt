@@ -1,5 +1,5 @@
-//! Whether a value was swapped in for the one that was expected.
+//! The answer of a swap: whether the new value was put in place of the expected one.
 
-/// Whether a key had what was expected, so that the new value was put in its place.
+/// Whether a key had the expected value, or was absent as expected, so that the new value was put.
 #[derive(Clone, Copy, Debug, PartialEq, Eq)]
 pub struct Swapped(pub bool);
