@@ -5,13 +5,12 @@
     docs/judge/sqlite.py --lines | ./judge watch --serializable
     docs/judge/sqlite.py --shared-cache                       one cache for all connections
     docs/judge/sqlite.py --shared-cache --bug read_uncommitted
-    docs/judge/sqlite.py --bug cut                            a COMMIT comes in mid-transaction
+    docs/judge/sqlite.py --bug cut                            a COMMIT in the middle of a transaction
     docs/judge/sqlite.py --seed 3 --transactions 2000
 
-The database says the order of the commits: each transaction raises a counter before it commits, and
-what it reads there is its place. A transaction is written down as a whole once all places before its
-own are: what stands between two transactions of a history says nothing to this judge, the order of
-their commits says all.
+The database decides the order of the commits: each transaction raises a counter before it commits, and
+the counter's value is its place. A transaction is written down as a whole, once those at all places
+before it are: only the order of commits matters to this judge, not how entries interleave.
 """
 import argparse
 import json
@@ -44,7 +43,7 @@ class Recorder:
             self.write(entry)
 
     def abort(self, caller, entries, changes):
-        """Notes a transaction that came to nothing: one `undone` for each of its changes."""
+        """Notes an aborted transaction: one `undone` for each of its changes."""
         undoing = [["leave", caller, None], *[["undone", caller]] * changes, ["aborted", caller]]
         with self.guard:
             self.aborted.setdefault(caller, []).append(entries + undoing)

@@ -6,8 +6,8 @@
     docs/judge/store.py --bugs          lists the bugs that can be planted
 
 Threads run random transactions on a dictionary with a lock for each key modulo STRIPES. A
-transaction that meets a lock of another gives up. Every entry is noted under one guard, together
-with what it tells of: that is all there is to recording.
+transaction that finds a lock held gives up. Every entry is noted under one guard, at the moment when
+its event happens: that is all that recording needs.
 """
 import argparse
 import json
@@ -54,7 +54,7 @@ class Store:
         self.holders = [None] * STRIPES
         self.begun = self.committed = 0
         self.entries = []
-        # A history begins with an empty map: a store that is not empty tells its content first.
+        # A history begins with an empty map, so a store that is not empty puts its content first.
         if content:
             first = Transaction(self, 0)
             for key, value in content:
@@ -130,7 +130,7 @@ class Transaction:
             elif holder in (None, self.caller):
                 store.holders[stripe] = self.caller
                 self.stripes.add(stripe)
-            # "asked" is noted when the lock is granted, and not when it is wished for.
+            # "asked" is noted when the lock is granted, not when it is requested.
             if holder in (None, self.caller):
                 store.note("asked", self.caller, kind, key, *value)
                 return

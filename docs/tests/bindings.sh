@@ -1,17 +1,17 @@
 #!/usr/bin/env bash
-# Builds and runs the library for C, C++, Rust and Python from outside: installs it below a folder that goes at the end,
-# then each language's tests and its example, against bindings/examples/stdout. It needs rt and cc; c++, cargo, python3,
-# valgrind and a compiler with ThreadSanitizer if they are there. Nothing is fetched. Where the archive is not built,
-# `rt lib` proves and builds it first. Takes two minutes besides.
-# The last line is 'bindings: N passed, M failed', with '; not run: ..' and what was not, for want of what, where
-# anything is missing. The status is 1 where M is not 0.
+# Installs the library for C, C++, Rust and Python below a temporary folder, and runs each language's tests and its
+# example, whose output must be bindings/examples/stdout. It needs rt and cc, and uses c++, cargo, python3, valgrind and a
+# compiler with ThreadSanitizer if they are there. Nothing is fetched. If the archive is not built yet, `rt lib` proves and
+# builds it first; the rest takes two minutes.
+# The last line is 'bindings: N passed, M failed', and '; not run: ..' names the tests whose tools are missing. The status
+# is 1 if M is not 0.
 set -uo pipefail
 cd "$(dirname "${BASH_SOURCE[0]}")/../.." || exit 1
 work=$(mktemp -d)
 trap 'rm -rf "$work"' EXIT
 passed=0 failed=0 missing=
 
-# Runs a test, by its name; what it wrote is shown only if it fails.
+# Runs a test, by its name. Its output is shown only if it fails.
 try() {
   local name=$1
   shift
@@ -24,17 +24,17 @@ try() {
   fi
 }
 
-# What is not run is named in the last line.
+# Adds a test that is not run to the last line.
 not_run() { missing+="${missing:+, }$2 (no $1)"; }
 
-# Whether a command is there; if not, what is not run for want of it.
+# Whether a command is there; if not, the tests that need it are named as not run.
 has() {
   command -v "$1" >/dev/null && return
   not_run "$1" "$2"
   false
 }
 
-# No test takes longer.
+# The most seconds that a test may take.
 within() { timeout 600 "$@"; }
 
 prints_the_example() { within "$@" | cmp - bindings/examples/stdout; }

@@ -1,4 +1,4 @@
-# What the scripts that run a built program from outside share: they source it at the top of the
+# Shared by the scripts that run a built program from outside: they source it at the top of the
 # repository, with their own name in `name` and the program's path in `program`. `work` is a folder
 # that is removed at the end.
 # shellcheck shell=bash disable=SC2154
@@ -10,8 +10,8 @@ work=$(mktemp -d)
 trap 'rm -rf "$work"' EXIT
 passed=0 failed=0
 
-# Compares status, standard output and standard error of the last run, as $work has them, with what
-# is wanted of them. A text that is wanted is without its last line feed.
+# Compares status, standard output and standard error of the last run, which are in $work, with the
+# expected ones. An expected text is without its last line feed.
 judge() {
   local what=$1 status=$2 out=$3 err=$4
   printf '%s' "${out:+$out$'\n'}" >"$work/out.wanted"

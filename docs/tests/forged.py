@@ -8,7 +8,7 @@ entry is, one at a time, left out, doubled, swapped with the next, and changed i
 CHANGES drawn ways, until COUNT files were judged. Each has the shape of a history file, and some
 are still legal. Verdict, entry, rule, exit status and an empty standard error are compared. It
 prints how many files had each verdict; the last line is 'forged: N passed, M failed', and the
-status is 1 where M is not 0.
+status is 1 if M is not 0.
 """
 import collections
 import itertools

@@ -8,7 +8,7 @@ the committed map or what others have not committed, go back to savepoints, abor
 only if what they read first is still what is committed. Some entries are then forged: left out,
 doubled, swapped with the next, or given another reply. Verdict, exit status and an empty standard
 error are compared, and what is legal by locks must be legal here. The last line is 'forged: N
-passed, M failed', and the status is 1 where M is not 0.
+passed, M failed', and the status is 1 if M is not 0.
 """
 import collections
 import json

@@ -1,8 +1,8 @@
 #!/usr/bin/env bash
-# Runs a command, and prints after its output how long it took and, for each crate, how many processor
-# seconds its proofs took, its tests' proofs, and its wrong bodies. Its status is the command's.
-# Nothing else on the machine may run `rt` meanwhile. What a process used after it was last looked at,
-# in its last second, is not seen; the last line has what the system counted in all.
+# Runs a command, and prints after its output how long it took and, for each crate, the processor
+# seconds of its proofs, of its tests' proofs, and of its wrong bodies. Its status is the command's.
+# Nothing else on the machine may run `rt` meanwhile. Processes are looked at once a second, so the last
+# second of each is not seen; the last line has the system's count of all.
 # Usage: docs/tests/gate_times.sh [COMMAND..]; without one rt ci
 set -uo pipefail
 cd "$(dirname "${BASH_SOURCE[0]}")/../.."

@@ -1,15 +1,15 @@
 #!/usr/bin/env bash
-# Tries what docs/JUDGE.md shows: the lines of `judge why` on the stored history word for word, that the
-# store without a bug is judged legal, and that each bug is found within some runs. It needs python3 and
-# the built programs, boostmap and judge, whose paths may be its two words. It takes a minute or two,
-# ends with a line 'judge: N passed, M failed', and with status 1 where M is not 0.
+# Tests the examples of docs/JUDGE.md: the lines of `judge why` on the stored history word for word,
+# that the store without a bug is judged legal, and that each bug is found within some runs. It needs
+# python3 and the built programs, boostmap and judge, whose paths may be its two words. It takes a
+# minute or two. Its last line is 'judge: N passed, M failed', and its status is 1 if M is not 0.
 set -uo pipefail
 cd "$(dirname "${BASH_SOURCE[0]}")/../.." || exit 1
 program=${1:-crates/boostmap/out/boostmap}
 judge=${2:-crates/judge/out/judge}
 passed=0 failed=0
 
-# result NAME STATUS: counts a test that passed where the status is 0.
+# result NAME STATUS: counts a test, which passed if the status is 0.
 result() {
   if [ "$2" = 0 ]; then
     passed=$((passed + 1))
@@ -19,7 +19,7 @@ result() {
   fi
 }
 
-# What docs/JUDGE.md shows below a call: the indented lines up to an empty one.
+# Prints what docs/JUDGE.md shows below a call: the indented lines up to an empty one.
 shown() {
   awk -v call="    \$ $1" '
     $0 == call { inside = 1; next }
@@ -35,7 +35,7 @@ as_shown() {
   result "$call" $?
 }
 
-# What check says of a run of the store.
+# Prints the verdict of check on a run of the store.
 verdict() {
   docs/judge/store.py "$@" | "$program" check /dev/stdin
 }

@@ -1,8 +1,8 @@
 #!/usr/bin/env bash
 # Runs the built program `judge` from outside: each command, every exit status and message, standard
-# input in parts and cut off, lines at each limit, and a real store. It finds the program where `rt ci`
-# and ./judge leave it, or takes its path as its one word. Its last line is 'judge: N passed, M failed',
-# and it ends with status 1 where M is not 0.
+# input in parts and cut off, lines at each limit, and a real store. The program is the one that `rt ci`
+# and ./judge build, or the one whose path is the only word. The last line is 'judge: N passed, M
+# failed', and the status is 1 if M is not 0.
 set -uo pipefail
 cd "$(dirname "${BASH_SOURCE[0]}")/../.." || exit 1
 name=judge

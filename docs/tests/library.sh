@@ -1,11 +1,12 @@
 #!/usr/bin/env bash
-# Tries what docs/LIBRARY.md says: for each row of its first table, the folders that it names and no others are
-# copied, with their lines of crates.txt and the caller's own, and what `examples` does with the caller is run there as
-# a program of its own, with no proof; it must write what `examples` writes of it. Then that each clause that the page
-# shows stands in a caller. At last it has docs/library/new.sh lay out a repository, runs its program, and proves it over
-# the work that this repository keeps in out/. Takes two minutes, and three more for that proof where all that it stands on
-# is proved here; else some fifteen.
-# The last line is 'library: N passed, M failed', and the status is 1 where M is not 0.
+# Tests the examples of docs/LIBRARY.md:
+# - For each row of the table "To have", it copies exactly the folders that the row names, with their lines of crates.txt
+#   and the caller's, and runs there, without a proof, what `examples` does with the caller. The output must be the same.
+# - Each clause that the page shows must stand in a caller.
+# - docs/library/new.sh lays out a repository, whose program is run, and proved over the work that this repository keeps in
+#   out/.
+# Takes two minutes, and for the proof three more if all crates below are proved here, else some fifteen.
+# The last line is 'library: N passed, M failed', and the status is 1 if M is not 0.
 set -u
 cd "$(dirname "${BASH_SOURCE[0]}")/../.."
 work=$(mktemp -d)
@@ -23,7 +24,7 @@ judge() {
   fi
 }
 
-# What `examples` writes of a caller: the lines between the caller's name and the next heading.
+# Prints what `examples` writes of a caller: the lines between the caller's name and the next heading.
 wanted() {
   awk -v name="$1" '
     /^(bank|audit|visits|transfers|job queue|replay .*)$/ { inside = $0 == name; next }

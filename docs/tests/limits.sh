@@ -1,9 +1,9 @@
 #!/usr/bin/env bash
 # Runs the built program on files at every limit of the formats, with ample memory: the most callers,
 # workers, stripes, buckets, steps, scripts, actions and entries, long logs and many levels, and the
-# least and greatest keys and values; and on files that are one past a limit. What is wanted follows
-# from the rules of docs/FORMATS.md. It finds the program where `rt ci` and ./boostmap leave it, or
-# takes its path as its one word. Its last line is 'limits: N passed, M failed'.
+# least and greatest keys and values; and on files that are one past a limit. The expected output
+# follows from the rules of docs/FORMATS.md. The program is the one that `rt ci` and ./boostmap build,
+# or the one whose path is the only word. The last line is 'limits: N passed, M failed'.
 set -uo pipefail
 cd "$(dirname "${BASH_SOURCE[0]}")/../.." || exit 1
 name=limits

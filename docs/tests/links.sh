@@ -1,5 +1,5 @@
 #!/bin/sh
-# Tells each link of the documents that leads to no file.
+# Prints each link of the documents that leads to no file, and fails if there is one.
 cd "$(dirname "$0")/../.." || exit 1
 missing=0
 for document in README.md docs/*.md; do

@@ -1,8 +1,8 @@
 #!/usr/bin/env bash
 # Runs the built program from outside: each command on each file of examples/, every exit status,
-# standard error to the letter, /dev/stdin, outputs that fail, and little memory. It finds the
-# program where `rt ci` and ./boostmap leave it, or takes its path as its one word. Its last line
-# is 'program: N passed, M failed', and it ends with status 1 where M is not 0.
+# standard error to the letter, /dev/stdin, outputs that fail, and little memory. The program is the
+# one that `rt ci` and ./boostmap build, or the one whose path is the only word. The last line is
+# 'program: N passed, M failed', and the status is 1 if M is not 0.
 set -uo pipefail
 cd "$(dirname "${BASH_SOURCE[0]}")/../.." || exit 1
 name=program
@@ -13,8 +13,8 @@ program=${1:-crates/boostmap/out/boostmap}
 usage=$(sed -n '/^const USAGE: &str = "/,/^";$/{s/^const USAGE: &str = "//;/^";$/d;p;}' \
   crates/program_tests/src/commands.rt)
 
-# What an example prints: the lines of crates/examples/stdout below those words. Of one worker `run`
-# prints what `mix` prints, but that its history is of version 3.
+# Prints the output of an example: the lines of crates/examples/stdout below those words. For one
+# worker `run` prints what `mix` prints, except that its history is of version 3.
 shown() {
   awk -v call="${1/#run /mix --seed 7 }" '
     /^(replay|mix|check) / { inside = $0 == call; next }
@@ -45,7 +45,8 @@ each_command_on_each_example() {
   done
 }
 
-# What README shows below a line that begins so, to the next empty line or command.
+# Prints what README shows below a line that begins with these words, up to the next empty line or
+# command.
 in_readme() {
   awk -v first="    $1" '
     index($0, first) == 1 { inside = 1; next }
@@ -95,14 +96,14 @@ seeds() {
     sed -i 's/legal [0-9]* commits/legal N commits/' "$work/out"
     judge "the history of seed $seed" 0 'legal N commits 0 open' ''
   done
-  # Equal seeds print the same bytes, and seeds that differ in their high or low half alone do not.
+  # Equal seeds print the same bytes, and seeds that differ only in their high or low half do not.
   sort -u "$work/sums" | wc -l >"$work/out"
   : >"$work/err"
   echo 0 >"$work/status"
   judge 'how many histories four seeds give' 0 3 ''
 }
 
-# What threads make of scripts is open, and each outcome is judged by check: legal, nothing open.
+# The order of threads is open, so each history is judged by check: legal, with nothing open.
 threads() {
   wants 0 "$(shown 'run scripts.json')" '' run examples/scripts.json
   local file workers turn status
@@ -156,7 +157,7 @@ refused_files() {
   wants 0 "$(shown 'replay first_commit.json')" '' replay "$work/longest.json"
 }
 
-# The files of files.tsv: what is taken runs, and of what is refused the line is as it stands there.
+# The files of files.tsv: one that is taken runs, and for one that is refused the line is compared.
 shapes_of_files() {
   local command wanted text
   while IFS=$'\t' read -r command wanted text; do
@@ -223,7 +224,7 @@ failing_devices() {
   errors 'is closed' 2 help 2>&-
 }
 
-# What is printed is longer than a pipe holds, and who reads it goes after the first bytes.
+# The output is longer than a pipe holds, and its reader ends after the first bytes.
 early_pipes() {
   local words head='{"version":1,"stripes":1,"buckets":2,'
   {
@@ -275,7 +276,7 @@ standard_input() {
   done < <(commands)
 }
 
-# With a file of 16 MB and too little memory for it nothing is printed but the line of the fault.
+# With a file of 16 MB and too little memory for it, only the line of the fault is printed.
 little_memory() {
   local words limit
   for words in replay run 'mix --seed 7' check; do

@@ -1,17 +1,19 @@
 #!/usr/bin/env bash
 # Refuses memory to the built program, in each command on small files, and to the built tests that
-# are meant for it. Allocation 1 is refused, then 2, and so on until a run meets no refusal; then,
-# to the commands and to most of those tests, so again with eight in a row refused, and with all
-# from that one on. A command must end as with memory, or with status 4 and nothing but `no memory`
-# (of `run` also `no thread`); or, where steps were answered `refused 14`, all the rest must be as if
-# they were not there, and a history that `mix` or `run` wrote must be legal. A test must pass; where
-# more than one allocation is refused, some may give up. None may crash, or take ten seconds. And
-# where the largest allocation of a test is known, no larger one is asked for.
+# are meant for it. Allocation 1 is refused, then 2, and so on until a run meets no refusal. The
+# commands and most of those tests are run again with eight allocations in a row refused, and with
+# all from one on.
 #
-# With words it tries the tests of those crates, as 'map_ops core_tests', or `commands`. `rt ci`
-# builds all that it wants, and `rt test` the tests of one crate. It needs a C compiler (CC) and
-# python3. A line tells of each command and test; the last is 'refused: N passed, M failed', and
-# the status is 1 where M is not 0.
+# A command must end as it does with memory, or with status 4 and only `no memory` (`run` also with
+# `no thread`). If steps were answered `refused 14`, the rest must be as if they were not there, and
+# a history that `mix` or `run` wrote must be legal. A test must pass; if more than one allocation is
+# refused, some may give up. None may crash, or take ten seconds. If the largest allocation of a test
+# is known, no larger one may be asked for.
+#
+# Words may name crates whose tests are to be run, such as 'map_ops core_tests', or `commands`. `rt
+# ci` builds everything that is needed, and `rt test` the tests of one crate. It needs a C compiler
+# (CC) and python3. It prints a line for each command and test; the last is 'refused: N passed, M
+# failed', and the status is 1 if M is not 0.
 set -euo pipefail
 cd "$(dirname "${BASH_SOURCE[0]}")/../.."
 work=$(mktemp -d)

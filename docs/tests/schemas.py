@@ -5,7 +5,7 @@ Every example, and every line of files.tsv: its command, what the program says o
 line on standard error), and the file. A schema must take what the program takes and refuse what it
 refuses; a file that is not JSON no schema reads. A command that is followed by `1.0` has a number that
 a schema cannot tell from a whole one. It needs python3 with jsonschema, of version 4 or later. The
-last line is 'schemas: N passed, M failed', and the status is 1 where M is not 0.
+last line is 'schemas: N passed, M failed', and the status is 1 if M is not 0.
 """
 import json
 import pathlib
