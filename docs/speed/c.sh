@@ -1,9 +1,9 @@
 #!/usr/bin/env bash
 # Times transactions from C, in turn over the library and over std::unordered_map with an undo log, and prints the median
-# nanoseconds of processor time a transaction in both, and their ratio: of one caller over the map of one owner, whose twin
-# has no stripes; then of 1, 2 and 4 threads over the striped map, whose twin has a mutex a stripe. No twin has a history or
-# savepoints. That both give the same replies is compared. Then what a crossing costs: a call that is refused at once, and
-# what part of a transaction of six calls that is. Usage: docs/speed/c.sh [ROUNDS]
+# nanoseconds of processor time of a transaction in both, and their ratio: for one caller on the map with one owner, whose
+# twin has no stripes; then for 1, 2 and 4 threads on the striped map, whose twin has a mutex for each stripe. No twin has a
+# history or savepoints. Both must give the same replies. Then the cost of a crossing: a call that is refused at once, and
+# which part of a transaction of six calls that is. Usage: docs/speed/c.sh [ROUNDS]
 source "$(dirname "${BASH_SOURCE[0]}")/common.sh"
 rounds=${1:-9}
 quietly bindings/install.sh "$work/usr"

@@ -1,11 +1,11 @@
-# What the scripts of this folder share; they source it. They work at the top of the repository, in a folder that goes at
-# the end.
+# Shared by the scripts of this folder, which source it. They work at the top of the repository, with a folder that is removed
+# at the end.
 set -euo pipefail
 cd "$(dirname "${BASH_SOURCE[0]}")/../.."
 work=$(mktemp -d)
 trap 'rm -rf "$work"' EXIT
 
-# Runs a command, and shows what it wrote only where it fails.
+# Runs a command, and shows its output only if it fails.
 quietly() {
   if ! "$@" >"$work/log" 2>&1; then
     cat "$work/log" >&2
@@ -25,7 +25,7 @@ build_proved() {
 }
 
 # Takes the program, which is then `proved` in $work: the file that PROGRAM names, or else that of this repository, which is
-# proved and built where it is not.
+# proved and built if it is not yet.
 take_program() {
   if [ -z "${PROGRAM:-}" ]; then
     quietly ./boostmap check examples/checked.json
@@ -38,7 +38,7 @@ build_twin() {
   rustc -C opt-level=3 -C codegen-units=1 -C lto -C panic=abort -o "$work/plain" "docs/speed/$1.rs"
 }
 
-# Takes an older twin of the whole commands, where BEFORE names one; it is then `before` in $work. $programs are those that are
+# Takes an older twin of the whole commands, if BEFORE names one; it is then `before` in $work. $programs are those that are
 # compared.
 take_before() {
   programs=(proved plain)
@@ -69,9 +69,9 @@ write_step_files() {
   done
 }
 
-# Writes a step file, a history and two script files of about so many pieces, as replay.json, check.json, mix.json and, for one
-# worker, run.json in $work; 0 is the full size. They are of the version that VERSION names, 1 or 2; without it of version 1. It
-# takes `core_steps` and `plain`.
+# Writes a step file, a history and two script files of about this number of pieces, as replay.json, check.json, mix.json and, for
+# one worker, run.json in $work; 0 is the full size. VERSION is their version, 1 or 2, by default 1. It needs `core_steps` and
+# `plain`.
 write_whole_files() {
   local most=${1/#0/1000000} calls=${1/#0/500000} version=${VERSION:-1}
   local words=(version="$version" stripes=256 keys=60000)
@@ -82,7 +82,7 @@ write_whole_files() {
   docs/speed/scripts.sh every "$calls" 1 "$version" >"$work/run.json"
 }
 
-# Writes a script file for so many workers and keys: 10,000 scripts, each of four operations and a help; a tenth aborts.
+# Writes a script file for this number of workers and of keys: 10,000 scripts, each of four operations and a help; a tenth aborts.
 write_run_file() {
   awk -v workers="$1" -v keys="$2" -v scripts=10000 '
     function word() { seed = (seed * 16807) % 2147483647; return seed }

@@ -5,14 +5,14 @@
 //!
 //! Usage: core_steps [NAME=NUMBER]..
 //!
-//! - steps: how many there are, at most 1,000,000; fewer where the file would have more than 16,777,216 bytes
+//! - steps: their number, at most 1,000,000; fewer if the file would have more than 16,777,216 bytes
 //! - callers, stripes, buckets: the limits
 //! - keys: how many keys there are; with wide=1 they have up to 19 digits
 //! - version: of the file; in 2 each second key is 2^63 more than the one before it, and a quarter of the puts are put_ifs,
 //!   which expect what was seen last of their key, or in one of eight another value
-//! - sweeps: a sweep comes by chance once in so many steps
-//! - turn: after a step another caller may take the next one, by chance once in so many steps; 0: only after a transaction
-//! - seed: where chance begins
+//! - sweeps: on average one step in this number is a sweep
+//! - turn: on average after this number of steps another caller takes the next one; 0: only after a transaction
+//! - seed: the seed of the random numbers
 #![allow(dead_code)]
 
 mod list;
@@ -122,7 +122,7 @@ enum Next {
     Choose,
     Seek,
     Act,
-    // It takes changes back until so many stand.
+    // It takes changes back until this number stands.
     Undo(u64),
     UndoAt(u64),
 }
@@ -138,7 +138,7 @@ impl Caller {
         }
     }
 
-    /// Where a step leads, by its answer.
+    /// The next state after a step, by its answer.
     fn see(&mut self, step: Step, answer: Answer, chance: &mut Chance) {
         self.next = match (answer, self.next) {
             (Answer::Began(_), _) => {
@@ -347,7 +347,7 @@ impl Writer {
         Some(())
     }
 
-    /// A step, or none where the file is full.
+    /// A step, or none if the file is full.
     fn step(&mut self) -> Option<()> {
         if self.chance.once_in(self.wishes.sweeps) {
             return self.take(Step::Sweep).map(|_| ());

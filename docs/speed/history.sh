@@ -1,9 +1,9 @@
 #!/usr/bin/env bash
-# Writes a legal history file of a kind, with so many entries, or with fewer where a file would be too long.
+# Writes a legal history file of a kind, with this number of entries, or with fewer if the file would be too long.
 # Usage: docs/speed/history.sh KIND ENTRIES
-#   saved       one transaction of nothing but savepoints
+#   saved       one transaction of savepoints only
 #   undone      one transaction that puts values to 10,000 keys again and again, and takes all back
-#   deep        the same with a key of its own for each change
+#   deep        one transaction that puts values to as many keys, each once, and takes all back
 #   savepoints  one transaction with a savepoint before each change, that goes back level by level
 #   short       64 callers whose transactions do one operation each and commit
 #   callers     64 callers whose long transactions are open at once; each second one takes all its changes back
@@ -45,7 +45,7 @@ exec awk -v kind="$1" -v entries="$2" '
   }
   function change(c, key, value) { asked(c, "put", key, value); did(c) }
 
-  # With a key of its own for each change, a file has no room for more entries than these with all taken back.
+  # With a different key for each change, a file has no room for more entries than these with all taken back.
   function one_undone(many,    i, changes) {
     if (many > 10000 && entries > 885000) entries = 885000
     changes = int(entries / 3) - 1

@@ -2,7 +2,7 @@
 # Runs `boostmap run` and its twins in plain Rust (whole/: one mutex, one hold a call, with history) on the same script files, and
 # prints how many transactions a second each ends, reading and writing the files included, and how long the program takes to each
 # twin. The second twin, `kept`, also does what `run` promises beside the history: each worker takes a stripe by its atomic word,
-# keeps the entries that it saw, and how its scripts ended, and its entries are compared with the history. Then the library alone,
+# keeps the entries that it saw, and how its scripts ended, and its entries are compared with the history. Then only the library,
 # without reading and writing: `run_scripts` (the part `shared` of crates/bench) and both twins.
 #
 # There are 1, 2 and 4 threads, at 1,000 and 100,000 keys; 10,000 scripts, each of four operations and a help; a tenth aborts. With
@@ -26,7 +26,7 @@ run_once() {
   [ "$(stat -c %s "$work/$1.$2")" -gt 16777216 ] || "$work/proved" check "$work/$1.$2" | grep -q '^legal .* open$'
 }
 
-# The same of the library alone: what it writes of its time is added, in seconds.
+# One run of only the library, whose own time, in seconds, is added to a file of its name.
 time_once() {
   "$work/$1" "${@:2}" "$work/run.json" 2>&1 >"$work/none" |
     awk '{ for (i = 1; i < NF; i++) if ($i == "in") print $(i + 1) / ($(i + 2) ~ /^ms/ ? 1e3 : 1e9) }' >>"$work/seconds.$1.$2"

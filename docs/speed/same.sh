@@ -1,6 +1,6 @@
 #!/usr/bin/env bash
-# Shows that the twin of the whole commands (whole/) does what the program does: gives both the same small files, and compares
-# what they print and their status. The files are those of examples/; step files of both versions that core_steps.rs writes,
+# Tests that the twin of the whole commands (whole/) does what the program does: gives both the same small files, and compares
+# their output and status. The files are those of examples/; step files of both versions that core_steps.rs writes,
 # and one by hand with each refusal; script files of both versions, which `mix` takes by three seeds and `run` on one thread;
 # and histories of all versions, as these commands print them and with one entry changed. They must have every operation,
 # `put_if` with null and with a value, keys from 2^63 on, and files that are refused.
@@ -11,7 +11,7 @@ take_program
 build_whole
 count=0
 
-# What a program prints for these words, and its status.
+# Prints the output of a program for these words, and its status.
 answer() {
   local status=0
   "$work/$1" "${@:2}" >"$work/$1.text" 2>/dev/null || status=$?
@@ -99,7 +99,7 @@ for version in 1 2 3; do
 done
 say 'step files'
 
-# Scripts for so many workers, with every action; of version 1 without put_if.
+# Scripts for this number of workers, with every action; of version 1 without put_if.
 write_scripts() {
   awk -v workers="$1" -v version="$2" '
     function word() { seed = (seed * 16807) % 2147483647; return seed }

@@ -19,7 +19,7 @@ pub enum Op {
     Put(u64, u64),
     Take(u64),
     Get(u64),
-    /// Puts a value at a key where the key has what is expected: the key, that, the value.
+    /// Puts a value at a key if the key has the expected value: the key, the expected value, the value.
     PutIf(u64, Option<u64>, u64),
 }
 
@@ -92,7 +92,7 @@ pub enum Answer {
 }
 
 impl Limits {
-    /// The limits of a step or script file, where they are in range.
+    /// The limits of a step or script file, if they are in range.
     pub fn new(version: u64, callers: u32, stripes: u32, buckets: u32) -> Option<Limits> {
         let is_size = (2..=65_536).contains(&buckets) && buckets.is_power_of_two();
         let are_in_range = (HALF_KEYS..=LAST_VERSION).contains(&version)

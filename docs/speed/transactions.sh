@@ -1,9 +1,9 @@
 #!/usr/bin/env bash
 # Times transactions of 1, 4, 8, 9 and 12 puts in the core and in its twin in plain Rust, in turn, and prints the median
 # nanoseconds of one transaction in both, and their ratio. An undo log has room for eight jobs inline; the ninth takes memory.
-# Where BEFORE names an older program of crates/bench, it runs in turn with them, and its median and the ratio to it come last.
-# The files have 300,000 steps of one caller; the table has 12 keys, each put anew again and again. Both take each file twice,
-# and the second time counts. That both answer the same is compared.
+# If BEFORE names an older program of crates/bench, it runs in turn with them, and its median and the ratio to it are last. The
+# files have 300,000 steps of one caller; the table has 12 keys, which are put again and again. Both run each file twice, and the
+# second time counts. Both must answer the same.
 # Usage: docs/speed/transactions.sh [ROUNDS]
 source "$(dirname "${BASH_SOURCE[0]}")/common.sh"
 rounds=${1:-9}
@@ -17,7 +17,7 @@ fi
 # As in core.sh the C library keeps the memory of the first run.
 export MALLOC_MMAP_MAX_=0 MALLOC_TRIM_THRESHOLD_=4294967296
 
-# Writes a step file of transactions of so many puts each.
+# Writes a step file of transactions of this number of puts each.
 write_transactions() {
   awk -v puts="$1" 'BEGIN {
     printf "{\"version\":1,\"callers\":1,\"stripes\":64,\"buckets\":8,\"steps\":["
@@ -31,7 +31,7 @@ write_transactions() {
   }' >"$work/steps.json"
 }
 
-# What a program writes of the second run of the steps.
+# Prints what a program writes about the second run of the steps.
 run_core() {
   if [ "$1" = plain ]; then
     "$work/plain" "$work/steps.json" 2>&1

@@ -1,9 +1,9 @@
 #!/usr/bin/env bash
 # Gives `judge watch` and its twin in plain Rust (watch/) the same entries, one a line, of 64 callers on 100,000 keys (entries.rs),
-# and prints of each way to judge and each length the seconds of processor time of one run of both, the middle of the rounds, and
-# their ratio; the most memory of both in MB; and the millions of instructions of both on the first 200,000 of the entries, and
-# their ratio. What both print is compared, also where an entry is left out, which is illegal. Other work on the machine changes
-# only the times. It needs valgrind, 300 MB for the entries, and Debian's package librust-serde-json-dev, or other sources of
+# and prints for each rule and each length the seconds of processor time of one run of both, the median of the rounds, and their
+# ratio; the most memory of both in MB; and the millions of instructions of both on the first 200,000 of the entries, and their
+# ratio. The outputs are compared, also if an entry is left out, which is illegal. Other work on the machine changes only the
+# times. It needs valgrind, 300 MB for the entries, and Debian's package librust-serde-json-dev, or other sources of
 # serde_json in the folder that CRATES names. PROGRAM may name the program `judge`.
 # Usage: docs/speed/watch.sh [ENTRIES] [ROUNDS]
 source "$(dirname "${BASH_SOURCE[0]}")/common.sh"

@@ -8,7 +8,7 @@ rounds=${2:-9}
 build_proved bench words 1000 1
 rustc -O -o "$work/plain" docs/speed/words.rs
 
-# Runs a program with so many threads.
+# Runs a program with this number of threads.
 run_words() {
   if [ "$1" = proved ]; then
     "$work/proved" words "$takes" "$2" 2>&1
@@ -17,7 +17,7 @@ run_words() {
   fi
 }
 
-# The middle of so many runs of a program with so many threads, in nanoseconds.
+# The median of the rounds of a program with this number of threads, in nanoseconds.
 nanoseconds() {
   for _ in $(seq "$rounds"); do
     run_words "$1" "$2"
