@@ -1,4 +1,4 @@
-/* Four threads move money between two accounts of one striped map, each with a caller of its own. */
+/* Four threads move money between two accounts of one striped map. Each has its own caller. */
 #include <boostmap.h>
 #include <inttypes.h>
 #include <pthread.h>
@@ -6,7 +6,7 @@
 
 enum { THREADS = 4, ROUNDS = 1000 };
 
-/* One move from account 1 to account 2. A caller that finds another in its way is aborted already. */
+/* One move from account 1 to account 2. If a stripe is busy, the transaction is aborted already. */
 static boostmap_status moves(boostmap_caller *c) {
     uint64_t one, two, had;
     boostmap_status status = boostmap_striped_begin(c);

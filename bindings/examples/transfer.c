@@ -3,7 +3,7 @@
 #include <inttypes.h>
 #include <stdio.h>
 
-/* What an account has; 0 if it is not there. The transaction can only abort where this fails. */
+/* The balance of an account; 0 if it is not there. If this fails, the transaction can only abort. */
 static int has(boostmap *accounts, uint64_t account, uint64_t *sum) {
     *sum = 0;
     return boostmap_get(accounts, 0, account, sum) <= BOOSTMAP_ABSENT;

@@ -1,4 +1,4 @@
-/* The door: null and a handle in another call are answered; all else goes through. */
+/* The door: null, and a handle in another call, are answered by a status; all else goes through. */
 #include "boostmap_checked.h"
 #include "check.h"
 #include <pthread.h>

@@ -94,8 +94,8 @@ static void by_hand(void) {
     breaks(JUDGED(began(0, 1), committed(0, 2), began(0, 2)), 1, 3);
 }
 
-/* By the order of commits: two may read what one may not change, and a stale reply is found at its
- * commit. */
+/* By the order of commits: two callers may read a key at the same time, and a stale reply is found at
+ * its commit. */
 static void by_commits(void) {
     rule = BOOSTMAP_BY_COMMITS;
     is_legal(JUDGED(began(0, 1), began(1, 2), asked(0, BOOSTMAP_GET, 3, 0), asked(1, BOOSTMAP_GET, 3, 0), did(0, 0, 0),

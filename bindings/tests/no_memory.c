@@ -4,7 +4,7 @@
 #include "boostmap.h"
 #include "check.h"
 
-/* How many allocations pass before one is refused, or -1; and the blocks that are live. */
+/* The number of allocations before the one that is refused, or -1; and the number of live blocks. */
 static long before_refusal = -1;
 static long live;
 
@@ -65,7 +65,7 @@ static void round_trip(void) {
     CHECK(boostmap_free(&m) == BOOSTMAP_DONE);
 }
 
-/* The same of a striped map, with two callers. */
+/* A round on a striped map, with two callers. */
 static void striped_round_trip(void) {
     boostmap_caller first = BOOSTMAP_INIT, next = BOOSTMAP_INIT;
     boostmap_status status;
@@ -95,7 +95,7 @@ static void striped_round_trip(void) {
     CHECK(boostmap_striped_free(&next) == BOOSTMAP_DONE);
 }
 
-/* Each allocation of a round is refused in turn; each refusal is told by a status, and nothing is lost. */
+/* Each allocation of a round is refused in turn. Each refusal is told by a status, and nothing is lost. */
 static void each_refused(const char *name, void (*round)(void)) {
     long nth = 0;
     do {

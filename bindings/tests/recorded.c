@@ -9,8 +9,8 @@ enum { CALLERS = 4, STRIPES = 16, KEYS = 64, CALLS = 100000, LEVELS = 8 };
 static boostmap map = BOOSTMAP_INIT;
 static boostmap_judge judge = BOOSTMAP_INIT;
 
-/* Of each caller: whether it is in a transaction, or can only abort; the changes that stand, in all
- * and below each level. */
+/* For each caller: whether it is in a transaction, or can only abort; the number of changes that stand,
+ * and of those below each level. */
 static struct caller {
     int is_open, is_leaving;
     uint64_t changes, levels, below[LEVELS + 1];

@@ -113,7 +113,7 @@ static void two_callers(boostmap_caller *three, boostmap_caller *two, boostmap_c
     ANSWERS(boostmap_striped_commit(one, &w), BOOSTMAP_DONE, 2);
 }
 
-/* The whole map: its own changes, an array that is too short, and another in the way. */
+/* The whole map: the caller's own changes, an array that is too short, and a stripe of another caller. */
 static void contents(boostmap_caller *three, boostmap_caller *two) {
     uint64_t w;
     boostmap_pair pairs[3] = {{UNTOUCHED, 0}, {UNTOUCHED, 0}, {UNTOUCHED, 0}};

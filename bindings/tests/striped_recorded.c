@@ -1,19 +1,20 @@
-/* Threads run transactions on a striped map and record what they were answered, each entry with a
- * stamp of one shared counter; merged by the stamps, the judge must find the history legal.
+/* Threads run transactions on a striped map and record the answers, each entry with a stamp of one
+ * shared counter. The entries are merged by their stamps, and the judge must find the history legal.
  *
- * A transaction holds each of its stripes from the operation that took it to its end. So a stamp is
- * taken where the stripes are held: of an operation after it was answered, of a commit and of an
- * abort before the call, and of an operation that was busy before its call, which ends the
- * transaction. Then for two transactions on one stripe all stamps of the first, up to its end, are
- * less than the second's from its operation on, and the replies fit in the order of the stamps.
+ * A transaction holds each of its stripes from the operation that took it to its end. So each stamp is
+ * taken while the stripes are held: for an operation after its answer, for a commit and an abort before
+ * the call, and for an operation that is busy before its call, which ends the transaction. Then, for two
+ * transactions on one stripe, all stamps of the first up to its end are less than those of the second
+ * from its operation on, and the replies fit in the order of the stamps.
  *
- * Commits that run at the same time may be placed in another order than that of their stamps. A
- * commit is therefore put where the latest stamp is of all commits up to its place: each of these
- * stamps was taken before its commit was placed, hence before this one gave its stripes back, so
- * nobody who took one of these stripes afterwards has a stamp that is not greater.
+ * Commits that run at the same time may be placed in another order than that of their stamps. A commit
+ * therefore gets the latest stamp of all commits up to its place. Each of these stamps was taken before
+ * its commit was placed, hence before this one gave its stripes back. So whoever takes one of these
+ * stripes afterwards has a greater stamp.
  *
- * Who was busy names a caller that has begun a transaction: each caller runs one before the threads.
- * The numbers of transactions are given when the entries are merged. Usage: striped_recorded [THREADS] */
+ * A busy entry names a caller that has begun a transaction: each caller runs one before the threads
+ * start. Transactions get their numbers when the entries are merged.
+ * Usage: striped_recorded [THREADS] */
 #include "boostmap.h"
 #include "check.h"
 #include <pthread.h>
@@ -24,8 +25,8 @@ enum { MOST = 16, STRIPES = 16, KEYS = 64, CALLS = 20000, LEVELS = 4, ROOM = 8 *
 
 typedef struct { uint64_t stamp, order; boostmap_entry entry; } stamped;
 
-/* Of each caller: its entries, and of its transaction the changes that stand, in all and below each
- * level. */
+/* For each caller: its entries; and the number of changes of its transaction that stand, and of those
+ * below each level. */
 typedef struct caller {
     boostmap_caller map;
     pthread_t thread;
@@ -160,7 +161,7 @@ static int by_stamp(const void *a, const void *b) {
     return x->order < y->order ? -1 : x->order > y->order;
 }
 
-/* All entries in one order; gives how many there are. */
+/* Merges all entries into one order, and returns their number. */
 static size_t merged(stamped *all, int threads) {
     size_t count = 0, placed = 0, begun = 0;
     for (int i = 0; i < threads; i++) {

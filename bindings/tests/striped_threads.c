@@ -1,6 +1,6 @@
-/* Threads move units between accounts of one striped map, each with a caller of its own and no lock.
- * Some transactions are busy, some are aborted, and each thread's last is dropped with its caller.
- * The sum stays. Usage: striped_threads [THREADS [ROUNDS]] */
+/* Threads move units between accounts of one striped map, each with its own caller and without a lock.
+ * Some transactions are busy, some are aborted, and each thread's last one is dropped with its caller.
+ * The sum stays the same. Usage: striped_threads [THREADS [ROUNDS]] */
 #include "boostmap.h"
 #include "check.h"
 #include <pthread.h>
@@ -15,7 +15,7 @@ static struct mover {
 static uint64_t owner_number;
 static pthread_barrier_t owner_holds;
 
-/* One move of a unit, in an open transaction; 2 if a stripe was busy, 1 if there is no unit. */
+/* Moves one unit, in an open transaction. Returns 2 if a stripe was busy, 1 if there is no unit. */
 static int moves(boostmap_caller *c, uint64_t from, uint64_t to) {
     uint64_t a, b, w;
     if (boostmap_striped_get(c, from, &a) == BOOSTMAP_BUSY) return 2;

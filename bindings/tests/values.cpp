@@ -97,7 +97,7 @@ static void of_callers() {
     CHECK(thrown([] { boostmap_cpp::open_striped(0, 16); }) == BOOSTMAP_LIMIT);
 }
 
-// Four threads add up, each by its own caller; whoever is busy tries again.
+// Four threads add up, each with its own caller; one that is busy tries again.
 static void of_threads() {
     enum { THREADS = 4, ROUNDS = 5000 };
     auto callers = boostmap_cpp::open_striped(THREADS, 8);

@@ -5,8 +5,8 @@
 //! `specs/Words.antt`). `System` is what the program needs of the system that it runs on, words and
 //! files; `Host` is the system behind a runtime.
 //!
-//! It is a crate apart from the program (`boostmap_program`), which runs the engine of the call:
-//! words need none of the proofs about maps and threads.
+//! The program itself (`boostmap_program`), which runs the engine of the call, is another crate:
+//! words need none of the proofs about threads.
 #![tactic(auto)]
 
 mod system;
