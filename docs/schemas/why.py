@@ -1,11 +1,12 @@
 #!/usr/bin/env python3
-"""Says in words why a file is refused, and where: where it is no JSON, and where it breaks its schema.
+"""Says in words why a step file or a script file is refused, and where it breaks its schema.
 
     docs/schemas/why.py FILE
 
-The schema is that of the kind that the file's members name: steps, scripts or entries. It needs
-python3 with jsonschema, of version 4 or later. It prints nothing for a file without such a fault; a
-number written as 1.0, which a schema takes for 1, and a file that is too long it does not see.
+Of a history file `judge why FILE` says so. The schema is that of the kind that the file's members
+name: steps or scripts. It needs python3 with jsonschema, of version 4 or later. It prints nothing for a
+file without such a fault; a number written as 1.0, which a schema takes for 1, and a file that is too
+long it does not see.
 """
 import json
 import pathlib
@@ -15,8 +16,6 @@ try:
     import jsonschema
 except ImportError:
     sys.exit("why.py needs the package jsonschema for python3: pip install jsonschema")
-
-KINDS = {"scripts": "script", "entries": "history"}
 
 
 def main():
@@ -29,7 +28,9 @@ def main():
     except ValueError as error:
         sys.exit(f"no JSON: {error}")
     members = value if isinstance(value, dict) else {}
-    kind = next((kind for member, kind in KINDS.items() if member in members), "step")
+    if "entries" in members:
+        sys.exit(f"a history file: ./judge why {sys.argv[1]} says what is wrong with it")
+    kind = "script" if "scripts" in members else "step"
     path = pathlib.Path(__file__).resolve().parent / f"{kind}.schema.json"
     schema = jsonschema.Draft202012Validator(json.loads(path.read_text()))
     errors = [f"{error.json_path}: {error.message}" for error in schema.iter_errors(value)]

@@ -70,6 +70,10 @@ files() {
   echo $? >"$work/status"
   : >"$work/out"
   judge 'check to a full device' 4 '' 'write failed'
+  "$program" watch </dev/null >/dev/full 2>"$work/err"
+  echo $? >"$work/status"
+  : >"$work/out"
+  judge 'watch to a full device' 4 '' 'write failed'
 }
 
 # Small histories, and the verdict of each judge: the table of docs/FORMATS.md.
@@ -315,6 +319,8 @@ entries of transaction 1 of caller 0:
 the entry:
   5 ["committed",0,1]
 no map gives the transaction all of its replies
+the first reply that contradicts those before it:
+  4 ["did",0,5]
 entries of transaction 1 of caller 0:
   0 ["began",0,1]
   1 ["asked",0,"get",1]
@@ -326,25 +332,115 @@ entries of transaction 1 of caller 0:
 ["asked",0,"get",1]
 ["did",0,5]
 ["committed",0,1]'
+  explains 1 'illegal entry 11 rule 1
+the entry:
+  11 ["committed",0,2]
+no map gives the transaction all of its replies
+the first reply that contradicts those before it:
+  8 ["did",0,null]
+entries of transaction 2 of caller 0:
+  4 ["began",0,2]
+  5 ["asked",0,"put",1,7]
+  6 ["did",0,5]
+  7 ["asked",0,"get",1]
+  8 ["did",0,null]
+  9 ["asked",0,"get",1]
+  10 ["did",0,5]' '' 'a change of its own that is not seen, by commits' 1 --serializable <<<'["began",0,1]
+["asked",0,"put",1,5]
+["did",0,null]
+["committed",0,1]
+["began",0,2]
+["asked",0,"put",1,7]
+["did",0,5]
+["asked",0,"get",1]
+["did",0,null]
+["asked",0,"get",1]
+["did",0,5]
+["committed",0,2]'
+}
+
+# flawed PLACE FAULT LINE VERSION: why, of a history of this version, whose entries are lines of standard
+# input and which is refused so. The line is what stands at the place, and what is expected there.
+flawed() {
+  local place=$1 fault=$2 line=$3 version=$4
+  explains 3 "\$$place: $line" "refused $fault" "$place is wrong" "$version"
+}
+
+# refuses FAULT LINE FILE: why, of a file that is this text.
+refuses() {
+  printf '%s' "$3" >"$work/refused.json"
+  run why "$work/refused.json"
+  judge "why of $(head -c 60 "$work/refused.json")" 3 "$2" "refused $1"
+}
+
+number='a whole number from 0 to 18446744073709551615'
+caller='a whole number from 0 to 63'
+other='a number with a sign, a fraction or an exponent, or too large'
+
+# The element at fault of an entry, by hand.
+flawed_entries() {
+  local names ops
+  names='"asked", "busy", "did", "undone", "began", "saved", "leave", "returned", "committed" or "aborted"'
+  ops='"put", "take", "get" or "put_if"'
+  flawed '.entries[1][0]' '21 entry 1' "an unknown word; expected $names" 1 <<<'["began",0,1]
+["commited",0,1]'
+  flawed '.entries[0][0]' '21 entry 0' "nothing; expected $names" 1 <<<'[]'
+  flawed '.entries[0][0]' '21 entry 0' "1; expected $names" 1 <<<'[1,0,1]'
+  flawed '.entries[0]' '21 entry 0' 'an object; expected an array' 1 <<<'{"began":1}'
+  flawed '.entries[0][1]' '21 entry 0' "$other; expected $caller" 1 <<<'["began",-1,1]'
+  flawed '.entries[0][1]' '21 entry 0' "nothing; expected $caller" 1 <<<'["aborted"]'
+  flawed '.entries[0][2]' '21 entry 0' "$other; expected $number" 1 <<<'["began",0,1.0]'
+  flawed '.entries[0][2]' '21 entry 0' "$other; expected $number" 1 <<<'["began",0,18446744073709551616]'
+  flawed '.entries[0][2]' '21 entry 0' "a text; expected $number" 1 <<<'["committed",0,"1"]'
+  flawed '.entries[0][2]' '21 entry 0' "a text; expected $number, or null" 1 <<<'["did",0,"x"]'
+  flawed '.entries[0][2]' '21 entry 0' "true or false; expected $number, or null" 1 <<<'["leave",0,false]'
+  flawed '.entries[0][2]' '21 entry 0' "null; expected $number" 1 <<<'["returned",0,null]'
+  flawed '.entries[0][3]' '21 entry 0' 'an element too many' 1 <<<'["began",0,1,1]'
+  flawed '.entries[0][2]' '21 entry 0' 'an element too many' 1 <<<'["saved",0,1]'
+  flawed '.entries[0][2]' '21 entry 0' "an unknown word; expected $ops" 2 <<<'["asked",0,"swap",1]'
+  flawed '.entries[0][2]' '21 entry 0' \
+    'an unknown word; expected "put", "take" or "get", and from version 2 on "put_if"' 1 \
+    <<<'["asked",0,"put_if",1,1,1]'
+  flawed '.entries[0][4]' '21 entry 0' "nothing; expected $number" 1 <<<'["asked",0,"put",1]'
+  flawed '.entries[0][4]' '21 entry 0' 'an element too many' 1 <<<'["asked",0,"get",1,1]'
+  flawed '.entries[0][4]' '21 entry 0' "an array of length 2; expected $number, or null" 2 \
+    <<<'["asked",0,"put_if",1,[1,2],1]'
+  flawed '.entries[0][6]' '21 entry 0' "true or false; expected $caller" 2 <<<'["busy",0,"put_if",1,null,1,true]'
+  flawed '.entries[0][4]' '21 entry 0' "nothing; expected $caller" 1 <<<'["busy",0,"take",1]'
+  # A wrong shape anywhere comes before a number that is out of range.
+  flawed '.entries[1][2]' '21 entry 1' "nothing; expected $number" 7 <<<'["began",64,1]
+["began",0]'
+  flawed '.entries[1][1]' 22 "64; expected $caller" 1 <<<'["began",0,1]
+["began",64,1]'
+  flawed '.entries[0][5]' 22 "77; expected $caller" 1 <<<'["busy",0,"put",1,1,77]'
+  flawed '.version' 22 '4; expected a whole number from 1 to 3' 4 <<<'["began",64,1]'
 }
 
 # The lines of a file that is refused.
 refusals() {
-  local members entry limits of
-  members='$: no object, or $.version, $.stripes or $.entries is missing, or is no whole number,
-no whole number and no array, each without sign, fraction or exponent'
-  entry='no array of an entry: ["began",C,T], ["asked",C,OP], ["did",C,REPLY], ["saved",C],
-["leave",C,LEVEL], ["undone",C], ["returned",C,N], ["committed",C,P], ["busy",C,OP,HOLDER] or
-["aborted",C], where REPLY and LEVEL are a number or null and OP is "put",K,V or "take",K or
-"get",K or, from version 2 on, "put_if",K,E,V, with E a number or null'
-  limits='$: more than 16777216 bytes; or $.version is not 1 to 3, $.stripes is not 1 to 4096,
-$.entries has more than 1000000 elements, or a caller or a holder in it is above 63'
-  wants 3 '$: no JSON, or nested more than 127 deep' 'refused 20' why README.md
-  wants 3 "$members" 'refused 21' why examples/first_commit.json
-  explains 3 "\$.entries[1]: $entry" 'refused 21 entry 1' 'an entry that is none' 1 <<<'["began",0,1]
-["commited",0,1]'
-  explains 3 "$limits" 'refused 22' 'a caller out of range' 1 <<<'["began",64,1]'
-  explains 3 "$limits" 'refused 22' 'a version out of range' 4 <<<'["began",0,1]'
+  local stripes='a whole number from 1 to 4096' entries='an array of at most 1000000 entries' of
+  local version='a whole number from 1 to 3' no='$: no JSON, or nested more than 127 deep, at line'
+  flawed_entries
+  wants 3 "$no 1 column 1" 'refused 20' why README.md
+  refuses 20 "$no 1 column 13" '{"version":1,'
+  refuses 20 "$no 1 column 0" ''
+  wants 3 "\$.entries: nothing; expected $entries" 'refused 21' why examples/scripts.json
+  wants 3 "\$.entries: nothing; expected $entries" 'refused 21' why examples/first_commit.json
+  refuses 21 '$: an array of length 1; expected an object' '[1]'
+  refuses 21 "\$.version: nothing; expected $version" '{"stripes":8,"entries":[]}'
+  refuses 21 "\$.stripes: nothing; expected $stripes" '{"version":1,"entries":[]}'
+  refuses 21 "\$.version: a text; expected $version" '{"version":"1","stripes":8,"entries":[]}'
+  refuses 21 "\$.stripes: null; expected $stripes" '{"version":1,"stripes":null,"entries":[[]]}'
+  refuses 21 "\$.entries: an object; expected $entries" '{"version":9,"stripes":0,"entries":{}}'
+  refuses 22 "\$.stripes: 0; expected $stripes" '{"version":1,"stripes":0,"entries":[["began",64,1]]}'
+  refuses 22 "\$.stripes: 4097; expected $stripes" '{"version":1,"stripes":4097,"entries":[]}'
+  python3 -c 'print("{\"version\":1,\"stripes\":0,\"entries\":[", end="")
+print(*["[\"saved\",0]"] * 1000001, sep=",", end="]}")' >"$work/refused.json"
+  wants 3 "\$.stripes: 0; expected $stripes" 'refused 22' why "$work/refused.json"
+  sed -i 's/"stripes":0/"stripes":1/' "$work/refused.json"
+  wants 3 "\$.entries: an array of length 1000001; expected $entries" 'refused 22' why "$work/refused.json"
+  head -c 16777217 /dev/zero >"$work/refused.json"
+  wants 3 '$: more than 16777216 bytes' 'refused 22' why "$work/refused.json"
   wants 4 '' 'read failed' why examples/missing.json
   wants 2 '' "$usage" why
   wants 2 '' "$usage" why --stripes 8 examples/checked.json
@@ -382,6 +478,10 @@ script 2 worker 0 committed 2 entry 23
   wants 3 '' 'history refused 20' outcomes examples/scripts.json README.md
   wants 4 '' 'scripts read failed' outcomes examples/missing.json "$work/empty.json"
   wants 4 '' 'history read failed' outcomes examples/scripts.json examples/missing.json
+  "$program" outcomes examples/scripts.json "$work/empty.json" >/dev/full 2>"$work/err"
+  echo $? >"$work/status"
+  : >"$work/out"
+  judge 'outcomes to a full device' 4 '' 'write failed'
   wants 2 '' "$usage" outcomes
   wants 2 '' "$usage" outcomes examples/scripts.json
   wants 2 '' "$usage" outcomes - -

@@ -1,3 +1,4 @@
 pub mod Noted
 pub mod Fronts
 pub mod Steps
+pub mod Torn

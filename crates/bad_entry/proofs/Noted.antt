@@ -1,13 +1,12 @@
 -- The desks of all callers, before the first entry and after one more.
-use Rattle.std.proofs.Common.{get_or, ◌≡◌, ◌≢◌, ℕ, ◌<◌, zero, suc, List, [], ◌∷◌, ◌++◌, Some, None, Option, refl, ap, sym, subst, ◌∙◌, arith, vec_len}
+use Rattle.std.proofs.Common.{get_or, ◌≡◌, ◌≢◌, ℕ, ◌<◌, zero, suc, List, [], ◌∷◌, ◌++◌, None, Option, refl, ap, sym, subst, ◌∙◌, arith, vec_len}
 use Rattle.std.specs.Prelude.{slice_get}
 use Rattle.std.specs.Option.{IfSome}
 use Rattle.std.specs.List.{All}
 use Rattle.std.proofs.Math.ListN.{set}
-use Rattle.std.proofs.lemmas.Bool.{cases_eq, ne_eqb}
+use Rattle.std.proofs.lemmas.Bool.{ne_eqb}
 use Rattle.std.proofs.lemmas.List.Elements.{All-head, All-tail}
 use Rattle.std.proofs.lemmas.Option.{slice_get_read}
-use mathlib.Core.Logic.{inl, inr}
 use Rattle.txn_trace.specs.declared.entry.Entry.{Entry}
 use Rattle.txn_trace.specs.declared.entry.Entry.TheVariants.{Began}
 use Rattle.txn_trace.specs.History.{caller_of, txn_after}
@@ -19,7 +18,7 @@ use Rattle.serial_check.specs.Serializable as serial
 use Rattle.history_check.proofs.Seating.{each-set, if_some, at_some}
 use Rattle.bad_entry.specs.declared.desks.Desk.{Desk}
 use Rattle.bad_entry.specs.declared.desks.Desks.{Desks}
-use Rattle.bad_entry.specs.Desks.{HaveNoted, IsAt, txn_in, waiting_in}
+use Rattle.bad_entry.specs.Desks.{HaveNoted, IsAt}
 
 -- A caller that has done nothing.
 abbrev pub IsFresh : Desk → Type 0

@@ -1,10 +1,13 @@
 -- Commits that change what a key has.
-use Rattle.std.specs.Prelude.{ℕ, not, Option, Some, None, List, [], ◌∷◌, ◌++◌, length, nat_eq, if◌then◌else◌}
+use Rattle.std.specs.Prelude.{◌≡◌, ℕ, ◌<◌, ◌≤◌, true, Option, Some, None, List, [], ◌∷◌, ◌++◌, length, take, nat_eq, if◌then◌else◌}
 use Rattle.std.specs.Option.{option_eq}
 use Rattle.txn_trace.specs.declared.entry.Entry.{Entry}
 use Rattle.txn_trace.specs.declared.entry.Entry.TheVariants.{Committed}
+use Rattle.txn_trace.specs.History.{is_open}
 use Rattle.txn_trace.specs.Map.{get}
 use Rattle.txn_trace.specs.Serial.{serial}
+use Rattle.serial_check.specs.Commits.{IsTorn, RunsSomewhere}
+use Rattle.serial_check.specs.Serializable.{txn_in}
 use Rattle.bad_entry.specs.Places.{last_of}
 
 -- The commit that an entry is, with its index and its caller, where a key has this before it and
@@ -18,3 +21,19 @@ settled i _ before after = None
 abbrev pub last_commit : ℕ → List Entry → Option (ℕ × ℕ)
 last_commit k h =
     last_of (λ g e. settled (length g) e (get (serial g) k) (get (serial (g ++ e ∷ [])) k)) h
+
+-- The replies of the caller's open transaction contradict one another.
+abbrev pub IsTornIn : List Entry → ℕ → Type 0
+IsTornIn h c = (t : ℕ) → txn_in h c ≡ Some t → is_open t h ≡ true → IsTorn h t
+
+-- Some map gives the caller's open transaction all of its replies.
+abbrev pub IsWholeIn : List Entry → ℕ → Type 0
+IsWholeIn h c = (t : ℕ) → txn_in h c ≡ Some t → is_open t h ≡ true → RunsSomewhere h t
+
+-- The replies of the caller's transaction contradict one another from this entry on to the end, and
+-- did not before it; or they do not at the end.
+abbrev pub IsTornSince : List Entry → ℕ → Option ℕ → Type 0
+IsTornSince h c None = IsWholeIn h c
+IsTornSince h c (Some i) =
+    (i < length h) × IsWholeIn (take i h) c
+    × ((n : ℕ) → i < n → n ≤ length h → IsTornIn (take n h) c)

@@ -13,13 +13,12 @@ use Rattle.history_check.specs.Callers.{IsIn}
 use Rattle.history_check.specs.declared.verdict.Rule.{Rule}
 use Rattle.history_check.specs.declared.verdict.Rule.TheVariants as rules
 use Rattle.serial_check.specs.Commits.{FitsOrTorn, IsMisread}
-use Rattle.serial_check.specs.declared.commits.Misread.{Misread}
 use Rattle.bad_entry.specs.declared.change.Change.{Change}
 use Rattle.bad_entry.specs.declared.change.Fate.{Fate}
 use Rattle.bad_entry.specs.declared.reason.Reason.{Reason}
 use Rattle.bad_entry.specs.declared.reason.Reason.TheVariants as reasons
 use Rattle.bad_entry.specs.Changes.{fate_of, last_change}
-use Rattle.bad_entry.specs.Commits.{last_commit}
+use Rattle.bad_entry.specs.Commits.{IsTornSince, last_commit}
 use Rattle.bad_entry.specs.Desks.{txn_in, waiting_in}
 use Rattle.bad_entry.specs.Holding.{IsHeld}
 
@@ -60,14 +59,15 @@ IsReasonByLocks rules.Locks stripes h e reason = Unit {0}
 IsReasonByLocks rules.Shape stripes h e reason = IsShapeReason h (caller_of e) reason
 
 -- The open transaction of the caller read what is not committed, and this is the last commit that
--- changed what the key has; or its replies fit the committed map, or no map at all.
+-- changed what the key has; or its replies fit the committed map, or no map at all, and this is
+-- the first that contradicts those before it.
 abbrev pub IsCommitReason : List Entry → ℕ → Reason → Type 0
 IsCommitReason h c (reasons.Misread key read due commit) =
     ((t : ℕ) → txn_in h c ≡ Some t → is_open t h ≡ true
     → IsMisread h t (record { key = key; read = read; due = due }))
     × (commit ≡ last_commit key h)
-IsCommitReason h c reasons.Torn =
-    (t : ℕ) → txn_in h c ≡ Some t → is_open t h ≡ true → FitsOrTorn h t
+IsCommitReason h c (reasons.Torn since) =
+    ((t : ℕ) → txn_in h c ≡ Some t → is_open t h ≡ true → FitsOrTorn h t) × IsTornSince h c since
 IsCommitReason h c _ = ⊥
 
 -- By the order of commits: what leads to an entry that breaks the rule.

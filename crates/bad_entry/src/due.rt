@@ -1,6 +1,7 @@
 //! What a key has: the reply that an operation on it is due.
-ghost use Rattle.std.specs.Prelude.{◌≡◌, ℕ, ◌<◌, List, IfOk};
+ghost use Rattle.std.specs.Prelude.{◌≡◌, ℕ, ◌<◌, List, Some, None, if◌then◌else◌, IfOk};
 ghost use Rattle.std.specs.List.{All};
+ghost use Rattle.std.specs.Option.{option_or};
 ghost use Rattle.txn_trace.specs.History.{caller_of};
 ghost use Rattle.txn_trace.specs.Legal.{IsLegal};
 ghost use Rattle.txn_trace.specs.Map.{get};
@@ -9,7 +10,7 @@ ghost use Rattle.txn_trace.specs.declared.holder.Holder.{Holder};
 ghost use Rattle.history_check.specs.Fed as locks;
 ghost use Rattle.serial_check.specs.Fed as commits;
 ghost use Rattle.serial_check.specs.Serializable.{IsSerializable};
-ghost use Rattle.bad_entry.specs.Commits.{last_commit, settled};
+ghost use Rattle.bad_entry.specs.Commits.{IsTornSince, last_commit, settled};
 
 use std::alloc::{AllocError, Global};
 use txn_trace::{Entry, Holder, PackedEntry, Reply};
@@ -101,6 +102,43 @@ pub fn last_commit(
         last = settled(index as u64, entry, before, checker.value(key)).or(last);
     }
     Ok(last)
+}
+
+/// The index of the first reply of a caller's open transaction that contradicts those before it:
+/// since that entry no map gives the transaction all of its replies. None if some map does.
+///
+/// # Errors
+///
+/// `AllocError` if memory is refused.
+///
+/// # Cost
+///
+/// That of `serial_check`'s checker for each entry.
+pub fn torn_since(
+    alloc: Global,
+    entries: &[PackedEntry],
+    caller: u64,
+) -> Result<Option<u64>, AllocError>
+    requires caller { caller < 64 }
+    requires callers { All (λ entry. caller_of entry < 64) entries.now }
+    ensures { IfOk result (λ found. IsSerializable entries.now →
+        IsTornSince entries.now caller found) }
+{
+    let mut checker = serial_check::Checker::new(alloc)?;
+    let mut since = None;
+    for (index, packed) in entries.iter().enumerate() {
+        let entry = packed.entry();
+        checker.feed(&entry)?;
+        since = since_after(checker.is_torn(caller), index as u64, since);
+    }
+    Ok(since)
+}
+
+/// Since which entry replies contradict one another, after one more entry, of this index.
+fn since_after(is_torn: bool, index: u64, since: Option<u64>) -> Option<u64>
+    ensures { result ≡ (if is_torn then option_or since (Some index) else None) }
+{
+    if is_torn { since.or(Some(index)) } else { None }
 }
 
 /// The commit that an entry is, at this index, if a key has this before it and that after it, which

@@ -20,6 +20,6 @@ mod held;
 mod reason;
 
 pub use change::{Change, Fate, fate_of, last_change};
-pub use due::{last_commit, value_now};
+pub use due::{last_commit, torn_since, value_now};
 pub use held::{Held, held_by, txn_of};
 pub use reason::{Reason, by_commits, by_locks};

@@ -15,7 +15,7 @@ ghost use Rattle.bad_entry.specs.Reasons.{IsReasonByLocks, IsShapeReason};
 
 use crate::change::{Change, Fate, fate_of, last_change};
 use crate::desks::Desks;
-use crate::due::{fed_by_commits, fed_by_locks, last_commit, value_now};
+use crate::due::{fed_by_commits, fed_by_locks, last_commit, torn_since, value_now};
 use crate::held::{Held, held_by, txn_of};
 use history_check::{Callers, Rule};
 use std::alloc::{AllocError, Global};
@@ -48,7 +48,10 @@ pub enum Reason {
     },
     /// By the order of commits: the replies of the transaction that commits contradict one another,
     /// whatever the map.
-    Torn,
+    Torn {
+        /// The index of the first reply that contradicts those before it.
+        since: Option<u64>,
+    },
     /// The lock of a key is held, or is not held by the caller that is named.
     Lock {
         /// The stripe of the key.
@@ -208,7 +211,8 @@ fn commit_reason(alloc: Global, entries: &[PackedEntry], caller: u64) -> Result<
 {
     let checker = fed_by_commits(alloc, entries)?;
     let Some(miss) = checker.misread(caller) else {
-        return Ok(Reason::Torn);
+        let since = torn_since(alloc, entries, caller)?;
+        return Ok(Reason::Torn { since });
     };
     let commit = last_commit(alloc, entries, miss.key)?;
     Ok(Reason::Misread {

@@ -73,7 +73,8 @@ fails_to_explain remaining bytes Read known h = tt
 fails_to_explain remaining bytes (Line number fault) known h = absurd h
 fails_to_explain remaining bytes Write known h = absurd h
 
--- The fault that is told is the same, or that of a write.
-pub told_fault : (remaining : Option (List ℕ)) (fault told : Fault) → (told ≡ fault) ⊎ (told ≡ Write) → FailsToExplain remaining fault → FailsToExplain remaining told
+-- The fault that is told is the same, or want of memory, or that of a write.
+pub told_fault : (remaining : Option (List ℕ)) (fault told : Fault) → (told ≡ fault) ⊎ ((told ≡ NoMemory) ⊎ (told ≡ Write)) → FailsToExplain remaining fault → FailsToExplain remaining told
 told_fault remaining fault told (inl is) h = subst (FailsToExplain remaining) (sym is) h
-told_fault remaining fault told (inr is) h = subst (FailsToExplain remaining) (sym is) tt
+told_fault remaining fault told (inr (inl is)) h = subst (FailsToExplain remaining) (sym is) tt
+told_fault remaining fault told (inr (inr is)) h = subst (FailsToExplain remaining) (sym is) tt

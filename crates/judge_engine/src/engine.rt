@@ -93,12 +93,13 @@ pub fn check<R: Read + Drop, W: Write>(
 /// Judges a history file as `check` does, and writes after the verdict's line, if it is illegal,
 /// lines that lead to the bad entry. The answer is whether the history is legal.
 ///
-/// Of a file that is refused it writes the JSON path of the fault, and what is wrong there.
+/// Of a file that is refused it writes one line: the JSON path to the first element at fault, what
+/// stands there, and what may stand there, with the range. The element is that of `bad_file`.
 ///
 /// # Errors
 ///
 /// - `Read` if a read fails.
-/// - `Input` if the file is refused.
+/// - `Input` if the file is refused, after that line.
 /// - `NoMemory` if memory is refused.
 /// - `Write` if a write fails or takes nothing.
 ///
@@ -117,8 +118,8 @@ pub fn why<R: Read + Drop, W: Write>(
     ensures fault { IfErr result (FailsToExplain (R.remaining input)) }
 {
     let bytes = read_file(alloc, input)?;
-    match explain_file(alloc, by_commits, bytes) {
+    match explain_file(alloc, by_commits, &bytes) {
         Ok((verdict, lines)) => write_explained(alloc, verdict, lines.as_str(), output),
-        Err(fault) => Err(tell(fault, output)),
+        Err(fault) => Err(tell(alloc, fault, &bytes, output)),
     }
 }

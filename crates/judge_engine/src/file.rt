@@ -95,12 +95,12 @@ pub(crate) fn judge_file(alloc: Global, by_commits: bool, bytes: Vec<u8>) -> Res
 pub(crate) fn explain_file(
     alloc: Global,
     by_commits: bool,
-    bytes: Vec<u8>,
+    bytes: &[u8],
 ) -> Result<(Verdict, String), Fault>
-    ensures ok { IfOk result (λ found. IsJudgedFile by_commits bytes.items found.0) }
-    ensures err { IfErr result (IsUnjudgedFile bytes.items) }
+    ensures ok { IfOk result (λ found. IsJudgedFile by_commits bytes.now found.0) }
+    ensures err { IfErr result (IsUnjudgedFile bytes.now) }
 {
-    let (stripes, packed, version) = history_in(alloc, bytes)?;
+    let (stripes, packed, version) = read_packed_history(alloc, bytes)?;
     let entries = packed.as_slice();
     let stripes = u64::from(stripes);
     if by_commits {

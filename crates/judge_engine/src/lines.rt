@@ -178,6 +178,24 @@ fn last_in(
     }
 }
 
+/// Adds the first reply that contradicts those before it.
+fn put_first_torn(
+    alloc: Global,
+    text: &mut String,
+    entries: &[PackedEntry],
+    since: Option<u64>,
+) -> Result<(), AllocError> {
+    let Some(index) = since else {
+        return Ok(());
+    };
+    let index = index as usize;
+    if index < entries.len() {
+        text.push_str("the first reply that contradicts those before it:\n")?;
+        put_entry(alloc, text, index, entries[index].entry())?;
+    }
+    Ok(())
+}
+
 /// Adds who holds a lock.
 fn put_holder(text: &mut String, stripe: u64, holder: Option<Held>) -> Result<(), AllocError> {
     match holder {
@@ -273,8 +291,9 @@ fn put_reason(
             put_since_commit(alloc, text, entries, key, commit)?;
             put_transaction(alloc, text, entries, caller)
         }
-        Reason::Torn => {
+        Reason::Torn { since } => {
             writeln!(text, "no map gives the transaction all of its replies")?;
+            put_first_torn(alloc, text, entries, since)?;
             put_transaction(alloc, text, entries, caller)
         }
         Reason::Lock { stripe, holder } => put_holder(text, stripe, holder),

@@ -2,19 +2,19 @@ use Rattle.judge_engine.proofs.Histories.{file_in_range}
 use Rattle.judge_engine.proofs.file.explain_file.Goals as goal
 
 pub in_order_of_commits-requires : goal.in_order_of_commits-requires
-in_order_of_commits-requires c = rw c.as_slice-entries.ensures.value (file_in_range c.args.bytes.items _ c.in_ok-stripes.ensures).1
+in_order_of_commits-requires c = rw c.as_slice-entries.ensures.value (file_in_range c.args.bytes.now _ c.in_ok-stripes.ensures).1
 
 pub lines_by_commits-requires : goal.lines_by_commits-requires
-lines_by_commits-requires c = rw c.as_slice-entries.ensures.value (file_in_range c.args.bytes.items _ c.in_ok-stripes.ensures).1
+lines_by_commits-requires c = rw c.as_slice-entries.ensures.value (file_in_range c.args.bytes.now _ c.in_ok-stripes.ensures).1
 
 pub by_locks-requires-clause-stripes : goal.by_locks-requires-clause-stripes
-by_locks-requires-clause-stripes c = rw c.from-stripes.ensures (file_in_range c.args.bytes.items _ c.in_ok-stripes.ensures).0
+by_locks-requires-clause-stripes c = rw c.from-stripes.ensures (file_in_range c.args.bytes.now _ c.in_ok-stripes.ensures).0
 
 pub by_locks-requires-clause-callers : goal.by_locks-requires-clause-callers
-by_locks-requires-clause-callers c = rw c.as_slice-entries.ensures.value (file_in_range c.args.bytes.items _ c.in_ok-stripes.ensures).1
+by_locks-requires-clause-callers c = rw c.as_slice-entries.ensures.value (file_in_range c.args.bytes.now _ c.in_ok-stripes.ensures).1
 
 pub lines_by_locks-requires-clause-stripes : goal.lines_by_locks-requires-clause-stripes
-lines_by_locks-requires-clause-stripes c = rw c.from-stripes.ensures (file_in_range c.args.bytes.items _ c.in_ok-stripes.ensures).0
+lines_by_locks-requires-clause-stripes c = rw c.from-stripes.ensures (file_in_range c.args.bytes.now _ c.in_ok-stripes.ensures).0
 
 pub lines_by_locks-requires-clause-callers : goal.lines_by_locks-requires-clause-callers
-lines_by_locks-requires-clause-callers c = rw c.as_slice-entries.ensures.value (file_in_range c.args.bytes.items _ c.in_ok-stripes.ensures).1
+lines_by_locks-requires-clause-callers c = rw c.as_slice-entries.ensures.value (file_in_range c.args.bytes.now _ c.in_ok-stripes.ensures).1

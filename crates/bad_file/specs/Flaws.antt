@@ -1,0 +1,134 @@
+-- What is wrong with a history file that is refused.
+use Rattle.std.specs.Prelude.{◌≡◌, ◌⊎◌, ◌↔◌, ◌<◌, ℕ, List, [], ◌∷◌, ◌++◌, take, slice_get, Bool, true, false, not, ◌&&◌, ◌||◌, ◌==◌, Option, Some, None, option_and_then, IsSome, IsOk, Result, Ok, Err, if◌then◌else◌}
+use Rattle.std.specs.List.{All}
+use Rattle.std.specs.Option.{option_or}
+use Rattle.serde_json.specs.Data.{Data}
+use Rattle.txn_trace.specs.declared.entry.Entry.{Entry as TheEntry}
+use Rattle.piece_files.specs.declared.file_fault.FileFault.{FileFault}
+use Rattle.piece_files.specs.declared.file_fault.FileFault.TheVariants as faults
+use Rattle.piece_files.specs.Elements.{elements_of}
+use Rattle.piece_files.specs.Faults.{◌>>=◌}
+use Rattle.piece_files.specs.Files.{contents_of, version}
+use Rattle.piece_files.specs.Json.{json_of, number_named}
+use Rattle.txn_files.specs.Entries.{entry_of, is_old_entry}
+use Rattle.txn_files.specs.HistoryFile.{entries_from, history_file, history_of, is_in_range}
+use Rattle.bad_file.specs.Places.{at, entry_at}
+use Rattle.bad_file.specs.Meets.{found_of, is_met}
+use Rattle.bad_file.specs.declared.expected.Expected.{Expected}
+use Rattle.bad_file.specs.declared.expected.Expected.TheVariants as expected
+use Rattle.bad_file.specs.declared.flaw.Flaw.{Flaw}
+use Rattle.bad_file.specs.declared.flaw.Flaw.TheVariants.{TooLong, NotJson, Wrong}
+use Rattle.bad_file.specs.declared.place.Place.{Place}
+use Rattle.bad_file.specs.declared.place.Place.TheVariants.{File, Version, Stripes, Entries, Entry, Element}
+
+-- ---- the elements of an entry
+
+-- The entry that elements are: in version 1 none that is new, and if the range is asked for, none
+-- whose callers are out of range.
+abbrev pub entry_in : Bool → Bool → List Data → Option TheEntry
+entry_in is_old ranged ds =
+    option_and_then (λ e. if (not is_old || is_old_entry e) && (not ranged || is_in_range e) then Some e else None)
+    (entry_of ds)
+
+-- Some entry begins with these elements.
+abbrev pub Begins : Bool → Bool → List Data → Type 0
+Begins is_old ranged ds = (more : List Data) × IsSome (entry_in is_old ranged (ds ++ more))
+
+-- The element of this index is the first at fault in elements that are no entry, and this is what
+-- may stand there: with those before it some entry begins, with just what is expected after them
+-- too, and that is not what stands there. If None is expected, nothing may stand there; the index
+-- is the number of elements if one is missing.
+pub record IsFault (is_old ranged : Bool) (ds : List Data) (i : ℕ) (wanted : Option Expected)
+    : Type 0 where
+  pub refused : entry_in is_old ranged ds ≡ None
+  pub before : Begins is_old ranged (take i ds)
+  pub next : (d : Data) → Begins is_old ranged (take i ds ++ d ∷ []) ↔ (is_met ranged wanted (Some d) ≡ true)
+  pub here : is_met ranged wanted (slice_get ds i) ≡ false
+
+-- ---- the file
+
+-- What is wrong at a place of which something else is expected.
+abbrev pub wrong : Data → Place → Option Expected → Flaw
+wrong d place wanted = Wrong place (found_of (at place d)) wanted
+
+-- What is wrong at a place, if what is expected does not stand there.
+abbrev pub flaw_at : Bool → Data → Place → Expected → Option Flaw
+flaw_at ranged d place wanted =
+    if is_met ranged (Some wanted) (at place d) then None else Some (wrong d place (Some wanted))
+
+-- What is wrong with the first member that is not what is expected of it.
+abbrev pub flaw_in_members : Bool → Data → Option Flaw
+flaw_in_members ranged d =
+    option_or (flaw_at ranged d File expected.Object)
+    (option_or (flaw_at ranged d Version expected.Version)
+    (option_or (flaw_at ranged d Stripes expected.Stripes)
+    (flaw_at ranged d Entries expected.Entries)))
+
+abbrev pub is_one : Option ℕ → Bool
+is_one None = false
+is_one (Some n) = n == 1
+
+-- Whether a file is of version 1.
+abbrev pub is_old_file : Data → Bool
+is_old_file d = is_one (number_named version d)
+
+-- It is an entry.
+abbrev pub IsEntry : Bool → Bool → Data → Type 0
+IsEntry is_old ranged d = IsSome (option_and_then (entry_in is_old ranged) (elements_of d))
+
+-- All of them are entries.
+abbrev pub AreEntries : Bool → Bool → List Data → Type 0
+AreEntries is_old ranged ds = All (IsEntry is_old ranged) ds
+
+-- What is wrong with an entry of a file: it is no array, or this is its first element at fault.
+abbrev pub IsFlawOfEntry : Bool → Bool → Data → ℕ → Option (List Data) → Flaw → Type 0
+IsFlawOfEntry is_old ranged d i None flaw = flaw ≡ wrong d (Entry i) (Some expected.Entry)
+IsFlawOfEntry is_old ranged d i (Some ds) flaw =
+    (j : ℕ) × (wanted : Option Expected) × IsFault is_old ranged ds j wanted
+    × (flaw ≡ wrong d (Element i j) wanted)
+
+-- The entry of this index is the first that is none, and this is what is wrong with it.
+pub record IsFlawAt (is_old ranged : Bool) (d : Data) (i : ℕ) (flaw : Flaw) : Type 0 where
+  pub entry : Data
+  pub is_there : entry_at i d ≡ Some entry
+  pub before : (k : ℕ) (e : Data) → k < i → entry_at k d ≡ Some e → IsEntry is_old ranged e
+  pub here : IsFlawOfEntry is_old ranged d i (elements_of entry) flaw
+
+-- What is wrong with a file whose shape is right: a member is out of range, or else a caller.
+abbrev pub IsOutOfRange : Data → Flaw → Type 0
+IsOutOfRange d flaw =
+    (flaw_in_members true d ≡ Some flaw)
+    ⊎ ((flaw_in_members true d ≡ None) × ((i : ℕ) × IsFlawAt (is_old_file d) true d i flaw))
+
+-- What is wrong with a file in JSON that is refused so.
+abbrev pub IsFlawOf : Data → FileFault → Flaw → Type 0
+IsFlawOf d faults.Member flaw = flaw_in_members false d ≡ Some flaw
+IsFlawOf d (faults.Piece part i) flaw = IsFlawAt (is_old_file d) false d i flaw
+IsFlawOf d faults.Limit flaw = IsOutOfRange d flaw
+IsFlawOf d faults.NotJson flaw = ⊥
+IsFlawOf d faults.NoMemory flaw = ⊥
+
+-- The history file that a value is, or its first fault.
+abbrev pub history_in : Data → Result (ℕ × List TheEntry × ℕ) FileFault
+history_in d = contents_of history_file d >>= λ file. entries_from file.0 file.1 file.2
+
+-- What is wrong with a value as a history file: nothing if it is taken, else the cause of the
+-- refusal.
+abbrev pub TellsOf : Data → Option Flaw → Type 0
+TellsOf d None = IsOk (history_in d)
+TellsOf d (Some flaw) = (fault : FileFault) × (history_in d ≡ Err fault) × IsFlawOf d fault flaw
+
+-- What is wrong with bytes that are refused so: they are no JSON, they are too many, or the value
+-- that they are has this flaw.
+abbrev pub IsFlaw : FileFault → Result Data FileFault → Flaw → Type 0
+IsFlaw fault (Ok d) flaw = IsFlawOf d fault flaw
+IsFlaw fault (Err faults.NotJson) flaw =
+    (line : ℕ) × (column : ℕ) × (flaw ≡ NotJson line column)
+IsFlaw fault (Err other) flaw = flaw ≡ TooLong
+
+-- What is wrong with bytes as a history file: nothing if they are taken, else the cause of the
+-- refusal.
+abbrev pub Tells : List ℕ → Option Flaw → Type 0
+Tells bytes None = IsOk (history_of bytes)
+Tells bytes (Some flaw) =
+    (fault : FileFault) × (history_of bytes ≡ Err fault) × IsFlaw fault (json_of bytes) flaw

@@ -1,0 +1,4 @@
+pub mod Places
+pub mod Meets
+pub mod Following
+pub mod Flaws

@@ -1,0 +1,94 @@
+-- What stands at a place, and whether it is what is expected there.
+use Rattle.std.specs.Prelude.{ℕ, List, [], ◌∷◌, length, nat_le, Bool, true, false, not, ◌&&◌, ◌||◌, Option, Some, None, is_some, codes}
+use Rattle.std.specs.List.{list_any}
+use Rattle.std.specs.Str.{bytes_eq}
+use Rattle.serde_json.specs.Data.{Num, unsigned, negative, float, Data, null, boolean, number, string, array, object}
+use Rattle.serde_json.specs.Find.{as_object, as_str}
+use Rattle.txn_trace.specs.Sizes.{max_stripes}
+use Rattle.piece_files.specs.Elements.{number_of, elements_of, list_of, optional}
+use Rattle.piece_files.specs.Files.{max_version}
+use Rattle.txn_files.specs.HistoryFile.{max_caller, max_entries}
+use Rattle.bad_file.specs.declared.expected.Expected.{Expected}
+use Rattle.bad_file.specs.declared.expected.Expected.TheVariants as expected
+use Rattle.bad_file.specs.declared.found.Found.{Found}
+use Rattle.bad_file.specs.declared.found.Found.TheVariants as found
+
+-- A number as it is found.
+abbrev pub number_found : Num → Found
+number_found (unsigned n) = found.Number n
+number_found (negative z) = found.OtherNumber
+number_found (float x) = found.OtherNumber
+
+-- A value as it is found.
+abbrev pub kind_of : Data → Found
+kind_of null = found.Null
+kind_of (boolean b) = found.Bool
+kind_of (number n) = number_found n
+kind_of (string s) = found.Text
+kind_of (array ds) = found.Array (length (list_of ds))
+kind_of (object ms) = found.Object
+
+-- What is found at a place that has this value.
+abbrev pub found_of : Option Data → Found
+found_of None = found.Nothing
+found_of (Some d) = kind_of d
+
+-- Whether a word says what an entry is.
+abbrev pub is_entry_name : List ℕ → Bool
+is_entry_name word =
+    list_any (bytes_eq word)
+    (codes "asked" ∷ codes "busy" ∷ codes "did" ∷ codes "undone" ∷ codes "began" ∷ codes "saved"
+    ∷ codes "leave" ∷ codes "returned" ∷ codes "committed" ∷ codes "aborted" ∷ [])
+
+-- Whether a word says what an operation of version 1 is.
+abbrev pub is_old_op_name : List ℕ → Bool
+is_old_op_name word = list_any (bytes_eq word) (codes "put" ∷ codes "take" ∷ codes "get" ∷ [])
+
+-- Whether a word says what an operation is.
+abbrev pub is_op_name : List ℕ → Bool
+is_op_name word =
+    list_any (bytes_eq word) (codes "put" ∷ codes "take" ∷ codes "get" ∷ codes "put_if" ∷ [])
+
+-- Whether there is a word, and it is one of these.
+abbrev pub is_named : (List ℕ → Bool) → Option (List ℕ) → Bool
+is_named test None = false
+is_named test (Some word) = test word
+
+-- Whether there is a number, and if its range is asked for, it is in this range.
+abbrev pub in_range : Bool → ℕ → ℕ → Option ℕ → Bool
+in_range ranged least most None = false
+in_range ranged least most (Some n) = not ranged || (nat_le least n && nat_le n most)
+
+-- Whether a value is a whole number, and if its range is asked for, in this range.
+abbrev pub is_number : Bool → ℕ → ℕ → Data → Bool
+is_number ranged least most d = in_range ranged least most (number_of d)
+
+-- Whether there are elements, and if their number is asked for, no more than this.
+abbrev pub are_few : Bool → ℕ → Option (List Data) → Bool
+are_few ranged most None = false
+are_few ranged most (Some ds) = not ranged || nat_le (length ds) most
+
+-- Whether a value is an array, and if its length is asked for, no longer than this.
+abbrev pub is_array : Bool → ℕ → Data → Bool
+is_array ranged most d = are_few ranged most (elements_of d)
+
+-- Whether a value is what is expected: its range counts only if it is asked for.
+abbrev pub is_of : Bool → Expected → Data → Bool
+is_of ranged expected.Object d = is_some (as_object d)
+is_of ranged expected.Version d = is_number ranged 1 max_version d
+is_of ranged expected.Stripes d = is_number ranged 1 max_stripes d
+is_of ranged expected.Entries d = is_array ranged max_entries d
+is_of ranged expected.Entry d = is_some (elements_of d)
+is_of ranged expected.EntryName d = is_named is_entry_name (as_str d)
+is_of ranged expected.OpName d = is_named is_op_name (as_str d)
+is_of ranged expected.OldOpName d = is_named is_old_op_name (as_str d)
+is_of ranged expected.Caller d = is_number ranged 0 max_caller d
+is_of ranged expected.Number d = is_some (number_of d)
+is_of ranged expected.NumberOrNull d = is_some (optional d)
+
+-- Whether what stands somewhere is what is expected there; None expects that nothing does.
+abbrev pub is_met : Bool → Option Expected → Option Data → Bool
+is_met ranged None None = true
+is_met ranged None (Some d) = false
+is_met ranged (Some e) None = false
+is_met ranged (Some e) (Some d) = is_of ranged e d

@@ -1,0 +1,56 @@
+//! What may stand at a place of a history file.
+use std::fmt;
+
+/// What may stand at a place of a history file. It is printed in words, with the range.
+#[derive(Clone, Copy, Debug, PartialEq, Eq)]
+pub enum Expected {
+    /// An object.
+    Object,
+    /// The version of the file: 1 to 3.
+    Version,
+    /// How many locks there are: 1 to 4,096.
+    Stripes,
+    /// The entries: an array of at most 1,000,000.
+    Entries,
+    /// An entry: an array.
+    Entry,
+    /// The word that says what an entry is.
+    EntryName,
+    /// The word that says what an operation is.
+    OpName,
+    /// The word that says what an operation is in version 1, which has no `put_if`.
+    OldOpName,
+    /// A caller: 0 to 63.
+    Caller,
+    /// A whole number below 2^64.
+    Number,
+    /// A whole number below 2^64, or null.
+    NumberOrNull,
+}
+
+impl Expected {
+    /// It in words.
+    fn words(self) -> &'static str {
+        match self {
+            Expected::Object => "an object",
+            Expected::Version => "a whole number from 1 to 3",
+            Expected::Stripes => "a whole number from 1 to 4096",
+            Expected::Entries => "an array of at most 1000000 entries",
+            Expected::Entry => "an array",
+            Expected::EntryName => {
+                "\"asked\", \"busy\", \"did\", \"undone\", \"began\", \"saved\", \"leave\", \"returned\", \"committed\" or \"aborted\""
+            }
+            Expected::OpName => "\"put\", \"take\", \"get\" or \"put_if\"",
+            Expected::OldOpName => "\"put\", \"take\" or \"get\", and from version 2 on \"put_if\"",
+            Expected::Caller => "a whole number from 0 to 63",
+            Expected::Number => "a whole number from 0 to 18446744073709551615",
+            Expected::NumberOrNull => "a whole number from 0 to 18446744073709551615, or null",
+        }
+    }
+}
+
+impl fmt::Display for Expected {
+    fn fmt<W: fmt::Write>(&self, f: &mut fmt::Formatter<W>) -> fmt::Result {
+        f.write_str(self.words())
+    }
+}

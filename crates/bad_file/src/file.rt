@@ -1,0 +1,220 @@
+//! A history file as a whole: the first place at fault, in the order in which faults count.
+ghost use Rattle.std.specs.Prelude.{◌≡◌, ℕ, map, option_map, slice_get, IfOk, IfSome, IsNone, MatchOption, Some};
+ghost use Rattle.serde_json.specs.Data.{Data};
+ghost use Rattle.serde_json.specs.View.{view};
+ghost use Rattle.piece_files.specs.Elements.{elements_of};
+ghost use Rattle.bad_file.specs.Flaws.{AreEntries, IsEntry, IsFlawAt, IsFlawOfEntry, Tells, TellsOf, flaw_at, flaw_in_members, is_old_file};
+ghost use Rattle.bad_file.specs.Meets.{is_met};
+ghost use Rattle.bad_file.specs.Places.{at, entries_of, entry_at};
+
+use crate::elements::fault_in;
+use crate::expected::Expected;
+use crate::flaw::Flaw;
+use crate::found::found_of;
+use crate::place::Place;
+use crate::values::{elements_in, is_of};
+use serde_json::Value;
+use std::alloc::{AllocError, Global};
+
+/// The length that a file may have, in bytes.
+const MAX_BYTES: usize = 16_777_216;
+
+/// Whether what stands somewhere is what is expected there. Its range counts only if it is asked
+/// for.
+fn is_met(ranged: bool, expected: Expected, value: Option<&Value>) -> bool
+    ensures { result ≡ is_met ranged (Some expected) (option_map (λ v. view v.now) value.entry) }
+{
+    match value {
+        Some(value) => is_of(ranged, expected, value),
+        None => false,
+    }
+}
+
+/// What is wrong at a place that has this value, if it is not what is expected there.
+#[tactic(auto, using(crate::proofs::Places::flaw_none, crate::proofs::Places::flaw_some))]
+fn flaw_at(ranged: bool, place: Place, value: Option<&Value>, expected: Expected) -> Option<Flaw>
+    ensures { (d : Data) → at place d ≡ option_map (λ v. view v.now) value.entry
+        → result ≡ flaw_at ranged d place expected }
+{
+    if is_met(ranged, expected, value) {
+        return None;
+    }
+    Some(Flaw::Wrong {
+        place,
+        found: found_of(value),
+        expected: Some(expected),
+    })
+}
+
+/// What is wrong with the first member that is not what is expected of it. Ranges count only if
+/// they are asked for.
+fn flaw_in_members(ranged: bool, file: &Value) -> Option<Flaw>
+    ensures { result ≡ flaw_in_members ranged (view file.now) }
+{
+    let whole = flaw_at(ranged, Place::File, Some(file), Expected::Object);
+    let version = flaw_at(
+        ranged,
+        Place::Version,
+        file.get("version"),
+        Expected::Version,
+    );
+    let stripes = flaw_at(
+        ranged,
+        Place::Stripes,
+        file.get("stripes"),
+        Expected::Stripes,
+    );
+    let entries = flaw_at(
+        ranged,
+        Place::Entries,
+        file.get("entries"),
+        Expected::Entries,
+    );
+    whole.or(version.or(stripes.or(entries)))
+}
+
+/// Whether a file is of version 1.
+fn is_old_file(file: &Value) -> bool
+    ensures { result ≡ is_old_file (view file.now) }
+{
+    let Some(version) = file.get("version") else {
+        return false;
+    };
+    version.as_u64() == Some(1)
+}
+
+/// What stands at an index, if something does.
+fn value_at(values: &[Value], index: usize) -> Option<&Value>
+    ensures { option_map (λ v. view v.now) result ≡ slice_get (map view values.now) index }
+{
+    if index < values.len() {
+        Some(&values[index])
+    } else {
+        None
+    }
+}
+
+/// What is wrong with the entry of an index, if something is.
+///
+/// # Errors
+///
+/// `AllocError` if memory is refused.
+fn flaw_in_entry(
+    alloc: Global,
+    is_old: bool,
+    ranged: bool,
+    index: usize,
+    entry: &Value,
+) -> Result<Option<Flaw>, AllocError>
+    ensures none { IfOk result (λ found. IsNone found → IsEntry is_old ranged (view entry.now)) }
+    ensures some { IfOk result (λ found. (d : Data) → entry_at index d ≡ Some (view entry.now)
+        → IfSome found (IsFlawOfEntry is_old ranged d index (elements_of (view entry.now)))) }
+{
+    let Some(elements) = elements_in(entry) else {
+        return Ok(Some(Flaw::Wrong {
+            place: Place::Entry(index),
+            found: found_of(Some(entry)),
+            expected: Some(Expected::Entry),
+        }));
+    };
+    let Some((element, expected)) = fault_in(alloc, is_old, ranged, elements)? else {
+        return Ok(None);
+    };
+    Ok(Some(Flaw::Wrong {
+        place: Place::Element(index, element),
+        found: found_of(value_at(elements, element)),
+        expected,
+    }))
+}
+
+/// What is wrong with the first of the entries that is none.
+///
+/// # Errors
+///
+/// `AllocError` if memory is refused.
+fn flaw_in_entries(
+    alloc: Global,
+    is_old: bool,
+    ranged: bool,
+    entries: &[Value],
+) -> Result<Option<Flaw>, AllocError>
+    ensures { IfOk result (λ found. (d : Data) → entries_of d ≡ Some (map view entries.now)
+        → MatchOption found (AreEntries is_old ranged (map view entries.now))
+        (λ flaw. (i : ℕ) × IsFlawAt is_old ranged d i flaw)) }
+{
+    for (index, entry) in entries.iter().enumerate() {
+        let found = flaw_in_entry(alloc, is_old, ranged, index, entry)?;
+        if found.is_some() {
+            return Ok(found);
+        }
+    }
+    Ok(None)
+}
+
+/// The entries of a file, if it has some.
+fn entries_in(file: &Value) -> Option<&[Value]>
+    ensures { option_map (λ values. map view values.now) result ≡ entries_of (view file.now) }
+{
+    elements_in(file.get("entries")?)
+}
+
+/// What is wrong with a file in JSON.
+///
+/// # Errors
+///
+/// `AllocError` if memory is refused.
+fn flaw_in_value(alloc: Global, file: &Value) -> Result<Option<Flaw>, AllocError>
+    ensures { IfOk result (TellsOf (view file.now)) }
+{
+    let misshapen = flaw_in_members(false, file);
+    if misshapen.is_some() {
+        return Ok(misshapen);
+    }
+    let Some(entries) = entries_in(file) else {
+        return Ok(None);
+    };
+    let is_old = is_old_file(file);
+    let misshapen = flaw_in_entries(alloc, is_old, false, entries)?;
+    if misshapen.is_some() {
+        return Ok(misshapen);
+    }
+    let out_of_range = flaw_in_members(true, file);
+    if out_of_range.is_some() {
+        return Ok(out_of_range);
+    }
+    flaw_in_entries(alloc, is_old, true, entries)
+}
+
+/// What is wrong with a history file, if `read_history` of `txn_files` refuses it.
+///
+/// The flaw is the cause of the refusal, and the first of its kind: a file that is too long or no
+/// JSON; a member that is missing or of the wrong kind; the first element of the first entry that
+/// has not the shape of one; a member that is out of range; the first caller that is.
+///
+/// # Errors
+///
+/// `AllocError` if memory is refused.
+///
+/// # Cost
+///
+/// Time and memory in proportion to the bytes: the value that they are is kept as a whole, up to 40
+/// bytes for each of the file's.
+pub fn flaw_in(alloc: Global, bytes: &[u8]) -> Result<Option<Flaw>, AllocError>
+    ensures { IfOk result (Tells bytes.now) }
+{
+    if bytes.len() > MAX_BYTES {
+        return Ok(Some(Flaw::TooLong));
+    }
+    match Value::from_slice(alloc, bytes) {
+        Ok(file) => flaw_in_value(alloc, &file),
+        Err(error) => {
+            if error.is_memory() {
+                return Err(AllocError);
+            }
+            Ok(Some(Flaw::NotJson {
+                line: error.line(),
+                column: error.column(),
+            }))
+        }
+    }
+}

@@ -1,0 +1,63 @@
+//! What is wrong with a history file, in one line.
+use crate::expected::Expected;
+use crate::found::Found;
+use crate::place::Place;
+use std::fmt;
+
+/// What is wrong with a history file. It is printed as one line without its line feed.
+#[derive(Clone, Copy, Debug, PartialEq, Eq)]
+pub enum Flaw {
+    /// It has more than 16,777,216 bytes.
+    TooLong,
+    /// It is no JSON, or nests too deep, or a number in it is too large for a float.
+    NotJson {
+        /// The line where that shows, counted from 1.
+        line: usize,
+        /// The column of that line, in bytes, counted from 1.
+        column: usize,
+    },
+    /// What stands at a place is not what is expected there.
+    Wrong {
+        /// The place.
+        place: Place,
+        /// What stands there.
+        found: Found,
+        /// What is expected there; None if nothing may stand there.
+        expected: Option<Expected>,
+    },
+}
+
+/// Whether one of some words is expected. Constant time.
+fn is_a_word(expected: Expected) -> bool {
+    matches!(
+        expected,
+        Expected::EntryName | Expected::OpName | Expected::OldOpName
+    )
+}
+
+impl fmt::Display for Flaw {
+    fn fmt<W: fmt::Write>(&self, f: &mut fmt::Formatter<W>) -> fmt::Result {
+        match *self {
+            Flaw::TooLong => f.write_str("$: more than 16777216 bytes"),
+            Flaw::NotJson { line, column } => write!(
+                f,
+                "$: no JSON, or nested more than 127 deep, at line {line} column {column}"
+            ),
+            Flaw::Wrong {
+                place,
+                expected: None,
+                ..
+            } => write!(f, "{place}: an element too many"),
+            Flaw::Wrong {
+                place,
+                found: Found::Text,
+                expected: Some(expected),
+            } if is_a_word(expected) => write!(f, "{place}: an unknown word; expected {expected}"),
+            Flaw::Wrong {
+                place,
+                found,
+                expected: Some(expected),
+            } => write!(f, "{place}: {found}; expected {expected}"),
+        }
+    }
+}

@@ -1,0 +1,32 @@
+//! Places in a history file, which are printed as JSON paths.
+use std::fmt;
+
+/// A place in a history file. It is printed as a JSON path.
+#[derive(Clone, Copy, Debug, PartialEq, Eq)]
+pub enum Place {
+    /// The file as a whole: `$`.
+    File,
+    /// The member of the version: `$.version`.
+    Version,
+    /// The member of the number of locks: `$.stripes`.
+    Stripes,
+    /// The member of the entries: `$.entries`.
+    Entries,
+    /// The entry of this index: `$.entries[4]`.
+    Entry(usize),
+    /// The element of the second index in the entry of the first: `$.entries[4][2]`.
+    Element(usize, usize),
+}
+
+impl fmt::Display for Place {
+    fn fmt<W: fmt::Write>(&self, f: &mut fmt::Formatter<W>) -> fmt::Result {
+        match *self {
+            Place::File => f.write_str("$"),
+            Place::Version => f.write_str("$.version"),
+            Place::Stripes => f.write_str("$.stripes"),
+            Place::Entries => f.write_str("$.entries"),
+            Place::Entry(index) => write!(f, "$.entries[{index}]"),
+            Place::Element(index, element) => write!(f, "$.entries[{index}][{element}]"),
+        }
+    }
+}
