@@ -9,8 +9,8 @@ use Rattle.txn_trace.specs.History.{is_began, is_commit}
 use Rattle.txn_trace.specs.Shape.{own, how_many}
 use Rattle.striped_map.specs.declared.caller.Caller.{Caller}
 use Rattle.striped_map.specs.declared.map.StripedMap.{StripedMap}
-use Rattle.striped_map.specs.declared.stop.Stop.{Stop}
-use Rattle.striped_map.specs.declared.stop.Stop.TheVariants.{Busy, Refused}
+use Rattle.map_answers.specs.declared.stop.Stop.{Stop}
+use Rattle.map_answers.specs.declared.stop.Stop.TheVariants.{Busy, Refused}
 use Rattle.striped_map.specs.Additions.{due, above}
 use Rattle.striped_map.specs.Steps.{Extends, seat_of, undoing}
 use Rattle.striped_map.specs.Seats.{known, stripes_of}

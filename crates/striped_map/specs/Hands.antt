@@ -12,8 +12,8 @@ use Rattle.striped_map.specs.declared.map.StripedMap.{StripedMap}
 use Rattle.striped_map.specs.Seats.{known, stripes_of}
 use Rattle.striped_map.specs.Steps.{Extends, HasAll, HasNoOther, IsAt, undoing}
 use Rattle.striped_map.specs.Additions.{due}
-use Rattle.striped_map.specs.declared.stop.Stop.{Stop}
-use Rattle.striped_map.specs.declared.stop.Stop.TheVariants.{Busy, Refused}
+use Rattle.map_answers.specs.declared.stop.Stop.{Stop}
+use Rattle.map_answers.specs.declared.stop.Stop.TheVariants.{Busy, Refused}
 
 -- The same caller: others may have added entries, and then it has added these.
 pub record Moves (map : StripedMap) (a : Hand) (es : List Entry) (b : Hand) : Type 0 where

@@ -24,7 +24,7 @@ use crate::contents;
 use crate::held::Held;
 use crate::map::{StripedMap, Taken};
 use crate::seat::MapSeat;
-use crate::stop::Stop;
+use map_answers::Stop;
 use std::alloc::{AllocError, Global};
 use txn_trace::{Op, Refusal, Reply};
 
