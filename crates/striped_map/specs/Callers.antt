@@ -27,6 +27,10 @@ seen c = (known c.hand.seat).seen
 abbrev pub stripes_in : Caller → ℕ
 stripes_in c = stripes_of c.map.value
 
+-- The stripes that it holds, the newest first.
+abbrev pub stripes_held : Caller → List ℕ
+stripes_held c = (known c.hand.seat).held
+
 -- How many savepoints its transaction has.
 abbrev pub levels : Caller → ℕ
 levels c = length (seat_of (known c.hand.seat)).kept - 1
@@ -64,12 +68,14 @@ pub record IsSince (a b : Caller) : Type 0 where
   pub map_is : b.map ≡ a.map
   pub number_is : number b ≡ number a
   pub goes : (i : ℕ) (e : Entry) → slice_get (seen a) i ≡ Some e → slice_get (seen b) i ≡ Some e
-  pub commits : how_many is_commit (own (number a) (seen b)) ≡ how_many is_commit (own (number a) (seen a))
+  pub commits : how_many is_commit (own (number a) (seen b))
+      ≡ how_many is_commit (own (number a) (seen a))
 
 -- And it began nothing.
 pub record IsWithin (a b : Caller) : Type 0 where
   pub since : IsSince a b
-  pub begins : how_many is_began (own (number a) (seen b)) ≡ how_many is_began (own (number a) (seen a))
+  pub begins : how_many is_began (own (number a) (seen b))
+      ≡ how_many is_began (own (number a) (seen a))
 
 -- One transaction that committed: it began from b, the work took it from t to u, and it ends in l.
 pub record IsRun (b t u l : Caller) (found : ℕ) : Type 0 where

@@ -51,8 +51,8 @@ pub record AreLeft (map : StripedMap) (a c : Hand) (pairs : List (ℕ × ℕ)) :
   pub pairs_are : pairs ≡ (now (known left.seat).seen).rows
   pub seen : (later : List Entry) × ((known c.seat).seen ≡ (known left.seat).seen ++ later)
 
--- The pairs were not read. Busy: as a look at a key in a transaction that was begun for it. Refused:
--- memory was.
+-- The pairs were not read. Busy: as a look at a key in a transaction that was begun for it.
+-- Refused: memory was.
 abbrev pub IsUnread : StripedMap → Hand → Hand → Stop → Type 0
 IsUnread map a c (Busy holder) = (txn : ℕ) × (b : Hand)
     × Moves map a (Began (known a.seat).number txn ∷ []) b × IsCut map b c (Busy holder)
