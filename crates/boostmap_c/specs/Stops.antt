@@ -1,7 +1,7 @@
 -- The answers of a striped map as C is told them: a status, and for some a word.
 use Rattle.std.specs.Prelude.{ℕ, Option, Some, None, Result, Ok, Err}
-use Rattle.striped_map.specs.declared.stop.Stop.{Stop}
-use Rattle.striped_map.specs.declared.stop.Stop.TheVariants.{Busy, Refused}
+use Rattle.map_answers.specs.declared.stop.Stop.{Stop}
+use Rattle.map_answers.specs.declared.stop.Stop.TheVariants.{Busy, Refused}
 use Rattle.boostmap_c.specs.Replies.{done, absent, busy, refused}
 
 -- The reason why a call was not done.

@@ -6,8 +6,8 @@ use Rattle.txn_trace.specs.declared.entry.Entry.TheVariants.{Began, Asked, Did, 
 use Rattle.txn_trace.specs.declared.op.Op.{Op}
 use Rattle.txn_trace.specs.declared.refusal.Refusal.TheVariants.{NoMemory, NotOpen, AlreadyOpen, NoSuchLevel}
 use Rattle.striped_map.specs.declared.caller.Caller.{Caller}
-use Rattle.striped_map.specs.declared.stop.Stop.{Stop}
-use Rattle.striped_map.specs.declared.stop.Stop.TheVariants.{Refused}
+use Rattle.map_answers.specs.declared.stop.Stop.{Stop}
+use Rattle.map_answers.specs.declared.stop.Stop.TheVariants.{Refused}
 use Rattle.striped_map.specs.Callers.{number, seen, levels, changes, changes_above, IsStep, IsStopped}
 use Rattle.striped_map.specs.Lone.{RunsAlone}
 use Rattle.striped_map.specs.Steps.{undoing}

@@ -2,8 +2,8 @@
 use Rattle.std.specs.Prelude.{◌≡◌, ℕ, List, []}
 use Rattle.undo_log.specs.SideValue.{Leveled}
 use Rattle.undo_log.specs.Sides.{IsSameSide, IsBackAt}
-use Rattle.striped_map.specs.declared.stop.Stop.{Stop}
-use Rattle.striped_map.specs.declared.stop.Stop.TheVariants.{Busy}
+use Rattle.map_answers.specs.declared.stop.Stop.{Stop}
+use Rattle.map_answers.specs.declared.stop.Stop.TheVariants.{Busy}
 
 -- A call was not done. Busy: the transaction is aborted, and the value has the words that it had as
 -- the transaction began. Refused: the value is unchanged.

@@ -149,7 +149,8 @@ impl<S: Side> SidedCaller<S> {
         outcome
     }
 
-    /// Puts a value at a key, and answers the value before, if there was one, as `Caller::put` does.
+    /// Puts a value at a key, and answers the value before, if there was one, as `Caller::put`
+    /// does.
     ///
     /// # Errors
     ///
@@ -258,8 +259,8 @@ impl<S: Side> SidedCaller<S> {
     }
 
     /// Takes back the changes of the map and of the side value since the savepoint of a level, and
-    /// goes on from there; level 0 is the beginning of the transaction. Later savepoints are dropped,
-    /// and the stripes stay held.
+    /// goes on from there; level 0 is the beginning of the transaction. Later savepoints are
+    /// dropped, and the stripes stay held.
     ///
     /// # Errors
     ///
@@ -267,8 +268,8 @@ impl<S: Side> SidedCaller<S> {
     ///
     /// # Cost
     ///
-    /// That of `Caller::back`, and a job for each change of the side value that is taken back; takes
-    /// no memory.
+    /// That of `Caller::back`, and a job for each change of the side value that is taken back. It
+    /// takes no memory.
     pub fn back(&mut self, level: u64) -> Result<(), Stop>
         ensures open { OnOk result ((self.old.caller.is_open ≡ true)
             × (self.new.caller.is_open ≡ true)) }

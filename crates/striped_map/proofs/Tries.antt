@@ -2,8 +2,8 @@
 use Rattle.std.proofs.Common.{◌≡◌, ℕ, zero, suc, Bool, true, false, Result, refl, sym, subst, ◌∙◌}
 use Rattle.txn_trace.specs.declared.refusal.Refusal.TheVariants.{AlreadyOpen}
 use Rattle.striped_map.specs.declared.caller.Caller.{Caller}
-use Rattle.striped_map.specs.declared.stop.Stop.{Stop}
-use Rattle.striped_map.specs.declared.stop.Stop.TheVariants.{Busy, Refused}
+use Rattle.map_answers.specs.declared.stop.Stop.{Stop}
+use Rattle.map_answers.specs.declared.stop.Stop.TheVariants.{Busy, Refused}
 use Rattle.striped_map.specs.Attempts.{Fails, FailsBusy}
 use Rattle.striped_map.specs.Callers.{IsSince}
 use Rattle.striped_map.proofs.Within.{since_then}

@@ -9,8 +9,8 @@ use Rattle.txn_trace.specs.History.{is_began, is_commit}
 use Rattle.txn_trace.specs.Shape.{own, how_many}
 use Rattle.striped_map.specs.declared.caller.Caller.{Caller}
 use Rattle.striped_map.specs.declared.map.StripedMap.{StripedMap}
-use Rattle.striped_map.specs.declared.stop.Stop.{Stop}
-use Rattle.striped_map.specs.declared.stop.Stop.TheVariants.{Busy, Refused}
+use Rattle.map_answers.specs.declared.stop.Stop.{Stop}
+use Rattle.map_answers.specs.declared.stop.Stop.TheVariants.{Busy, Refused}
 use Rattle.striped_map.specs.Additions.{due, above}
 use Rattle.striped_map.specs.Steps.{Extends, seat_of, undoing}
 use Rattle.striped_map.specs.Seats.{known, stripes_of}
@@ -26,6 +26,10 @@ seen c = (known c.hand.seat).seen
 -- How many stripes its map has.
 abbrev pub stripes_in : Caller → ℕ
 stripes_in c = stripes_of c.map.value
+
+-- The stripes that it holds, the newest first.
+abbrev pub stripes_held : Caller → List ℕ
+stripes_held c = (known c.hand.seat).held
 
 -- How many savepoints its transaction has.
 abbrev pub levels : Caller → ℕ
@@ -64,12 +68,14 @@ pub record IsSince (a b : Caller) : Type 0 where
   pub map_is : b.map ≡ a.map
   pub number_is : number b ≡ number a
   pub goes : (i : ℕ) (e : Entry) → slice_get (seen a) i ≡ Some e → slice_get (seen b) i ≡ Some e
-  pub commits : how_many is_commit (own (number a) (seen b)) ≡ how_many is_commit (own (number a) (seen a))
+  pub commits : how_many is_commit (own (number a) (seen b))
+      ≡ how_many is_commit (own (number a) (seen a))
 
 -- And it began nothing.
 pub record IsWithin (a b : Caller) : Type 0 where
   pub since : IsSince a b
-  pub begins : how_many is_began (own (number a) (seen b)) ≡ how_many is_began (own (number a) (seen a))
+  pub begins : how_many is_began (own (number a) (seen b))
+      ≡ how_many is_began (own (number a) (seen a))
 
 -- One transaction that committed: it began from b, the work took it from t to u, and it ends in l.
 pub record IsRun (b t u l : Caller) (found : ℕ) : Type 0 where

@@ -7,8 +7,8 @@ use Rattle.txn_trace.specs.Locks.{has_begun}
 use Rattle.striped_map.specs.declared.view.View.{View}
 use Rattle.striped_map.specs.declared.addition.Addition.{Addition}
 use Rattle.striped_map.specs.declared.addition.Addition.TheVariants.{Abort, Yield}
-use Rattle.striped_map.specs.declared.stop.Stop.{Stop}
-use Rattle.striped_map.specs.declared.stop.Stop.TheVariants.{Busy, Refused}
+use Rattle.map_answers.specs.declared.stop.Stop.{Stop}
+use Rattle.map_answers.specs.declared.stop.Stop.TheVariants.{Busy, Refused}
 
 -- The operation under another key.
 abbrev pub under : Op → ℕ → Op
@@ -27,8 +27,8 @@ abbrev pub IsMiss : View → Stop → Type 0
 IsMiss v (Busy holder) = (has_begun holder v.seen ≡ true) × (holder ≢ v.number)
 IsMiss v (Refused refusal) = refusal ≡ NoMemory
 
--- An end of a transaction that takes all back: an abort, or for another caller that was found, which
--- has begun a transaction.
+-- An end of a transaction that takes all back: an abort, or for another caller that was found,
+-- which has begun a transaction.
 abbrev pub IsEnd : View → Addition → Type 0
 IsEnd v Abort = Unit {0}
 IsEnd v (Yield op holder) = (has_begun holder v.seen ≡ true) × (holder ≢ v.number)

@@ -12,8 +12,8 @@ use Rattle.striped_map.specs.declared.map.StripedMap.{StripedMap}
 use Rattle.striped_map.specs.Seats.{known, stripes_of}
 use Rattle.striped_map.specs.Steps.{Extends, HasAll, HasNoOther, IsAt, undoing}
 use Rattle.striped_map.specs.Additions.{due}
-use Rattle.striped_map.specs.declared.stop.Stop.{Stop}
-use Rattle.striped_map.specs.declared.stop.Stop.TheVariants.{Busy, Refused}
+use Rattle.map_answers.specs.declared.stop.Stop.{Stop}
+use Rattle.map_answers.specs.declared.stop.Stop.TheVariants.{Busy, Refused}
 
 -- The same caller: others may have added entries, and then it has added these.
 pub record Moves (map : StripedMap) (a : Hand) (es : List Entry) (b : Hand) : Type 0 where
@@ -51,8 +51,8 @@ pub record AreLeft (map : StripedMap) (a c : Hand) (pairs : List (ℕ × ℕ)) :
   pub pairs_are : pairs ≡ (now (known left.seat).seen).rows
   pub seen : (later : List Entry) × ((known c.seat).seen ≡ (known left.seat).seen ++ later)
 
--- The pairs were not read. Busy: as a look at a key in a transaction that was begun for it. Refused:
--- memory was.
+-- The pairs were not read. Busy: as a look at a key in a transaction that was begun for it.
+-- Refused: memory was.
 abbrev pub IsUnread : StripedMap → Hand → Hand → Stop → Type 0
 IsUnread map a c (Busy holder) = (txn : ℕ) × (b : Hand)
     × Moves map a (Began (known a.seat).number txn ∷ []) b × IsCut map b c (Busy holder)

@@ -3,6 +3,7 @@
 //! The parts of the stripes that it holds lie here and not in their slots, so that an operation
 //! works on plain memory. Who calls keeps the phases.
 ghost use Rattle.std.specs.Prelude.{◌≡◌, ◌≢◌, ℕ, ◌+◌, ◌-◌, ◌/◌, ◌<◌, ◌≤◌, ◌%◌, ◌^◌, [], ◌∷◌, IfOk, IfErr, IfSome, OnOk, OnErr, None, Some, true, slice_get, slice_index, length, take, drop, vec_len, vec_capacity};
+ghost use mathlib.Core.List.{IsPrefix};
 ghost use Rattle.txn_trace.specs.declared.entry.Entry.TheVariants.{Began, Asked, Did, Saved, Leave, Returned, Committed};
 ghost use Rattle.txn_trace.specs.declared.seat.Phase.TheVariants.{Closed, Opened};
 ghost use Rattle.txn_trace.specs.Locks.{stripe_of};
@@ -24,7 +25,7 @@ use crate::contents;
 use crate::held::Held;
 use crate::map::{StripedMap, Taken};
 use crate::seat::MapSeat;
-use crate::stop::Stop;
+use map_answers::Stop;
 use std::alloc::{AllocError, Global};
 use txn_trace::{Op, Refusal, Reply};
 
@@ -290,6 +291,19 @@ impl Hand {
         map.gather(&mut self.seat);
     }
 
+    /// Looks at the history, which goes on from what another hand has seen.
+    pub(crate) fn catch_up(&mut self, map: &StripedMap, other: &mut Hand)
+        requires map { IsOf self.old.seat map.now }
+        requires other { IsOf other.old.seat map.now }
+        ensures map { IsOf self.new.seat map.now }
+        ensures sees { SeesIn (stripes_of map.now) (known self.old.seat) (known self.new.seat) }
+        ensures met { IsPrefix (known other.old.seat).seen (known self.new.seat).seen }
+        ensures levels { self.new.levels ≡ self.old.levels }
+        ensures same { other.new ≡ other.old }
+    {
+        map.catch_up(&mut self.seat, &mut other.seat);
+    }
+
     /// Takes in another seat that holds nothing, and which acts no more.
     pub(crate) fn take_in(&mut self, map: &StripedMap, other: MapSeat)
         requires map { IsOf self.old.seat map.now }
@@ -348,7 +362,8 @@ impl Hand {
         requires place { slice_get (stripes_in self.old.held.items) place
             ≡ Some (stripe_of (stripes_of map.now) (key_of op)) }
         requires sub_key { sub_key ≡ key_of op / stripes_of map.now }
-        requires room { may_change op ≡ true → vec_len self.old.order < vec_capacity self.old.order }
+        requires room { may_change op ≡ true
+            → vec_len self.old.order < vec_capacity self.old.order }
         ensures map { IsOf self.new.seat map.now }
         ensures open { IsAt Opened (known self.new.seat) }
         ensures levels { self.new.levels ≡ self.old.levels }

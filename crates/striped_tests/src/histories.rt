@@ -365,8 +365,8 @@ fn commits_of<R: Threads + Wait + Abort + Sync>(
     Ok(commits_in(alloc, stripes as u64, lines)?)
 }
 
-/// A quarter of a thousand runs of 2 to 16 callers, by the seed, on 8 stripes. Answers the first seed
-/// whose history is not legal.
+/// A quarter of a thousand runs of 2 to 16 callers, by the seed, on 8 stripes. Answers the first
+/// seed whose history is not legal.
 fn illegal_run<R: Threads + Wait + Abort + Sync>(
     rt: &R,
     alloc: Global,

@@ -14,6 +14,10 @@ mod histories;
 #[cfg(test)]
 mod limits;
 #[cfg(test)]
+mod meets;
+#[cfg(test)]
 mod refused;
 #[cfg(test)]
 mod runs;
+#[cfg(test)]
+mod transfers;

@@ -1,7 +1,7 @@
 use Rattle.std.proofs.Common.{Result, Ok, Err, OnOk, OnErr, ℕ, Some, ◌∷◌, ◌≡◌, sym, subst}
 use Rattle.txn_trace.specs.declared.entry.Entry.TheVariants.{Leave, Returned}
 use Rattle.striped_map.specs.declared.caller.Caller.{Caller}
-use Rattle.striped_map.specs.declared.stop.Stop.{Stop}
+use Rattle.map_answers.specs.declared.stop.Stop.{Stop}
 use Rattle.striped_map.specs.Callers.{number, changes_above, IsStep, IsWithin}
 use Rattle.striped_map.specs.Steps.{undoing}
 use Rattle.striped_map.proofs.Within.{within_then, within_back, within_same}

@@ -1,0 +1,53 @@
+//! A caller that catches up with another one.
+ghost use Rattle.std.specs.Prelude.{◌≡◌, IfOk};
+
+use crate::calls::{has_left, play};
+use crate::transfers::FILLED;
+use accounts::transfer;
+use std::alloc::{AllocError, Global};
+use std::test::Fail;
+use striped_map::{Caller, Host, Stop, open_map};
+use txn_trace::Refusal;
+
+/// A new map of three callers: its host, the first caller, and the two others.
+type Made = (Host, Vec<Caller>, (Caller, Caller));
+
+fn three(alloc: Global) -> Result<Made, Fail>
+    ensures same_map { IfOk result (λ made. made.2.0.map.value ≡ made.2.1.map.value) }
+{
+    let (host, mut callers) = match open_map(alloc, 4, 3) {
+        Ok(made) => made,
+        Err(Refusal::NoMemory) => return Err(AllocError)?,
+        Err(_) => return Err("limits".into()),
+    };
+    let Some(third) = callers.pop() else {
+        return Err("a caller".into());
+    };
+    let Some(second) = callers.pop() else {
+        return Err("a caller".into());
+    };
+    Ok((host, callers, (second, third)))
+}
+
+/// One caller moves 10 from account 1 to account 2; the other catches up, and moves 4 back.
+fn there_and_back(one: &mut Caller, other: &mut Caller) -> Result<(bool, bool), Stop>
+    requires same_map { one.old.map.value ≡ other.old.map.value }
+{
+    let is_there = transfer(one, 0, 1, 2, 10)?;
+    other.catch_up(one);
+    let is_back = transfer(other, 0, 2, 1, 4)?;
+    Ok((is_there, is_back))
+}
+
+#[test]
+fn a_commit_is_seen(rt: HostRuntime) -> Result<(), Fail> {
+    let (mut host, mut first, (mut second, mut third)) = three(rt.alloc())?;
+    play(&rt, first.as_mut_slice(), FILLED.as_slice());
+    let told = there_and_back(&mut second, &mut third);
+    assert!(rt; told == Ok((true, true)));
+    drop(first);
+    drop(second);
+    drop(third);
+    has_left(&rt, &mut host, &[(1, 4), (2, 6), (3, u64::MAX)]);
+    Ok(())
+}

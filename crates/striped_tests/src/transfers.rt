@@ -1,0 +1,192 @@
+//! Transfers between the accounts of a striped map, by one caller and by several in their threads.
+use crate::calls::{Ask, NEW, Row, Told, has_left, open, play};
+use accounts::transfer;
+use std::process::Abort;
+use std::sync::Wait;
+use std::test::Fail;
+use std::thread;
+use std::thread::Threads;
+use striped_map::{Caller, Host, Stop};
+use txn_trace::Op;
+
+/// Asks for a transfer; none between an account and itself.
+fn moved(caller: &mut Caller, tries: u64, from: u64, to: u64, sum: u64) -> Result<bool, Stop> {
+    if from == to {
+        return Ok(false);
+    }
+    transfer(caller, tries, from, to, sum)
+}
+
+/// Asks for a transfer, with as many tries as it takes: it must be made or not, as wanted.
+fn must_move<R: Abort>(rt: &R, caller: &mut Caller, row: (u64, u64, u64, bool)) {
+    let (from, to, sum, wanted) = row;
+    let is_moved = moved(caller, u64::MAX, from, to, sum);
+    assert!(rt; is_moved == Ok(wanted), "{sum} from {from} to {to}");
+}
+
+/// The caller of a place tries once to move 10 from account 1 to account 2: it must answer so.
+fn asks<R: Abort>(rt: &R, callers: &mut [Caller], place: usize, wanted: Result<bool, Stop>) {
+    assert!(rt; place < callers.len());
+    let is_moved = moved(&mut callers[place], 0, 1, 2, 10);
+    assert!(rt; is_moved == wanted);
+}
+
+/// Account 1 has 10, and account 3 all that an account can have.
+pub(crate) const FILLED: [Row; 4] = [
+    (0, Ask::Begin, Told::Done),
+    (0, Ask::Do(Op::Put(1, 10)), NEW),
+    (0, Ask::Do(Op::Put(3, u64::MAX)), NEW),
+    (0, Ask::Commit, Told::Number(1)),
+];
+
+/// Transfers, and whether they are made: not if the first account has too little, or the second
+/// would have 2^64. An account without a key has 0.
+const TRANSFERS: [(u64, u64, u64, bool); 8] = [
+    (1, 2, 11, false),
+    (1, 2, 10, true),
+    (1, 2, 1, false),
+    (2, 3, 1, false),
+    (3, 1, 5, true),
+    (2, 3, 6, false),
+    (5, 2, 1, false),
+    (5, 2, 0, true),
+];
+
+#[test]
+fn too_little_and_too_much(rt: HostRuntime) -> Result<(), Fail> {
+    let (mut host, mut callers) = open(rt.alloc(), 4, 1)?;
+    play(&rt, callers.as_mut_slice(), FILLED.as_slice());
+    for caller in callers.iter_mut() {
+        for row in TRANSFERS {
+            must_move(&rt, caller, row);
+        }
+    }
+    drop(callers);
+    has_left(
+        &rt,
+        &mut host,
+        &[(1, 5), (2, 10), (3, u64::MAX - 5), (5, 0)],
+    );
+    Ok(())
+}
+
+/// Caller 2 holds the stripe of account 1 until it commits.
+#[test]
+fn busy_to_the_end_of_the_holder(rt: HostRuntime) -> Result<(), Fail> {
+    let (mut host, mut callers) = open(rt.alloc(), 4, 2)?;
+    let holds = [
+        (1, Ask::Begin, Told::Done),
+        (1, Ask::Do(Op::Put(1, 15)), NEW),
+    ];
+    play(&rt, callers.as_mut_slice(), holds.as_slice());
+    asks(
+        &rt,
+        callers.as_mut_slice(),
+        0,
+        Err(Stop::Busy { holder: 2 }),
+    );
+    play(
+        &rt,
+        callers.as_mut_slice(),
+        &[(1, Ask::Commit, Told::Number(1))],
+    );
+    asks(&rt, callers.as_mut_slice(), 0, Ok(true));
+    drop(callers);
+    has_left(&rt, &mut host, &[(1, 5), (2, 10)]);
+    Ok(())
+}
+
+/// Commits after a while.
+fn commit_late<R: Abort>(rt: &R, holder: &mut [Caller]) {
+    for _ in 0..1000u64 {
+        thread::yield_now();
+    }
+    play(rt, holder, &[(0, Ask::Commit, Told::Number(1))]);
+}
+
+/// The one moves 10 in its thread, while the other holds a stripe that it needs and then commits.
+fn move_beside<R: Threads + Wait + Abort + Sync>(
+    rt: &R,
+    mover: &mut Caller,
+    holder: &mut [Caller],
+) {
+    thread::scope(thread::scope_env(), rt, |scope| {
+        let started = scope.spawn(move || must_move(rt, mover, (1, 2, 10, true)));
+        assert!(rt; started.is_ok(), "a thread");
+        commit_late(rt, holder);
+    });
+}
+
+/// A transfer that is busy gives way and begins anew until the stripe is free.
+#[test]
+fn busy_tries_again(rt: HostRuntime) -> Result<(), Fail> {
+    let (mut host, mut callers) = open(rt.alloc(), 4, 2)?;
+    let Some(mut mover) = callers.pop() else {
+        return Err("a caller".into());
+    };
+    let holds = [
+        (0, Ask::Begin, Told::Done),
+        (0, Ask::Do(Op::Put(1, 15)), NEW),
+    ];
+    play(&rt, callers.as_mut_slice(), holds.as_slice());
+    move_beside(&rt, &mut mover, callers.as_mut_slice());
+    drop(mover);
+    drop(callers);
+    has_left(&rt, &mut host, &[(1, 5), (2, 10)]);
+    Ok(())
+}
+
+/// How many accounts the threads share, and what each has at first.
+const ACCOUNTS: u64 = 8;
+
+const FIRST: u64 = 100;
+
+/// Gives each account what it has at first.
+fn fill<R: Abort>(rt: &R, callers: &mut [Caller]) {
+    play(rt, callers, &[(0, Ask::Begin, Told::Done)]);
+    for account in 0..ACCOUNTS {
+        play(rt, callers, &[(0, Ask::Do(Op::Put(account, FIRST)), NEW)]);
+    }
+    play(rt, callers, &[(0, Ask::Commit, Told::Number(1))]);
+}
+
+/// Moves sums between accounts that look random. Each transfer must be made or refused for its sum.
+fn move_many<R: Abort>(rt: &R, caller: &mut Caller, seed: u64) {
+    let mut dice = seed;
+    for _ in 0..1000u64 {
+        dice = dice.wrapping_mul(6_364_136_223_846_793_005).wrapping_add(1);
+        let (from, to) = (dice >> 33 & 7, dice >> 40 & 7);
+        let is_moved = moved(caller, u64::MAX, from, to, dice >> 50 & 31);
+        assert!(rt; is_moved.is_ok());
+    }
+}
+
+/// Each caller moves sums in a thread of its own.
+fn move_all<R: Threads + Wait + Abort + Sync>(rt: &R, callers: &mut [Caller]) {
+    thread::scope(thread::scope_env(), rt, |scope| {
+        for (place, caller) in callers.iter_mut().enumerate() {
+            let started = scope.spawn(move || move_many(rt, caller, place as u64));
+            assert!(rt; started.is_ok(), "a thread");
+        }
+    });
+}
+
+/// What all accounts have together, if it can be read and added up.
+fn total(host: &mut Host) -> Option<u64> {
+    let mut sum = 0u64;
+    for (_, has) in host.pairs().ok()? {
+        sum = sum.checked_add(has)?;
+    }
+    Some(sum)
+}
+
+/// Whatever four threads move, all accounts together have what they had.
+#[test]
+fn sum_stays(rt: HostRuntime) -> Result<(), Fail> {
+    let (mut host, mut callers) = open(rt.alloc(), 16, 4)?;
+    fill(&rt, callers.as_mut_slice());
+    move_all(&rt, callers.as_mut_slice());
+    drop(callers);
+    assert_eq!(rt; total(&mut host), Some(800));
+    Ok(())
+}
