@@ -10,11 +10,7 @@ use txn_trace::Entry;
 pub(crate) fn none_begun(alloc: Global, callers: usize) -> Result<Vec<bool>, AllocError>
     ensures { IfOk result (λ begun. begun.items ≡ replicate callers false) }
 {
-    let mut begun = Vec::with_capacity(alloc, callers)?;
-    for _ in 0..callers {
-        begun.push(false)?;
-    }
-    Ok(begun)
+    vec![in alloc; false; callers]
 }
 
 /// Notes the caller of an entry that begins a transaction.

@@ -36,21 +36,13 @@ impl Model for KeyLocks {
 fn free_stripes(alloc: Global, count: usize) -> Result<Vec<Holder>, AllocError>
     ensures { IfOk result (λ holders. holders.items ≡ replicate count None) }
 {
-    let mut holders = Vec::with_capacity(alloc, count)?;
-    for _ in 0..count {
-        holders.push(Holder::none())?;
-    }
-    Ok(holders)
+    vec![in alloc; Holder::none(); count]
 }
 
 fn no_links(alloc: Global, count: usize) -> Result<Vec<Link>, AllocError>
     ensures { IfOk result (λ links. links.items ≡ replicate count None) }
 {
-    let mut links = Vec::with_capacity(alloc, count)?;
-    for _ in 0..count {
-        links.push(Link::none())?;
-    }
-    Ok(links)
+    vec![in alloc; Link::none(); count]
 }
 
 impl KeyLocks {

@@ -7,7 +7,6 @@ pub mod Buckets
 pub mod Sound
 pub mod Steps
 pub mod Laws
-pub mod Fresh
 -- The types of the layers below that the table passes on.
 pub use Rattle.bucket_table.specs.declared.answer.InitSeek
 pub use Rattle.bucket_table.specs.declared.answer.InitLink

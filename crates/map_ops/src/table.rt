@@ -50,7 +50,6 @@ impl Model for Table {
 
 impl Table {
     ghost use Rattle.map_ops.specs.TableAt.{HasParents, HasSoundList, Dummy, IsClean, IsNew, IsPlaced, IsSplitOrdered, Follows, Keeps, KeepsList, KeepsSpares, NamesDummies, Sought, content, regular, helps_of, largest_of, size_of, stored_of, table_changes};
-    ghost use Rattle.map_ops.specs.Fresh.{IsFresh};
     ghost use Rattle.map_ops.specs.Jobs.{IsDue, key_of_job, spare_of_job};
     ghost use Rattle.map_ops.specs.Changes.{ActWrites, Acts, Applies, GivesBack, IsRefused, OwnsIf, Places, Prepares, SeeksAndUndoes, SeeksNear, Sweeps, TakesBack, UndoWrites, Undoes};
     ghost use Rattle.map_ops.specs.Buckets.{Doubles, LinkChanges, LinkWrites, SeekChanges, SeekWrites, StoreChanges, double_answer, link_answer_of, seek_answer, store_answer, LacksSegment};
@@ -72,36 +71,6 @@ impl Table {
         ensures { IfOk result (λ table. IsNew table max callers) }
     {
         let list = NodeList::new(alloc, 0)?;
-        Table::with_list(alloc, list, max, callers)
-    }
-
-    /// A new table without counts of marked nodes by region: `sweep` walks the list if a node is
-    /// marked. It is for an owner who unlinks each node right after marking it, by a seek for its
-    /// key.
-    ///
-    /// # Errors
-    ///
-    /// `AllocError` if memory is refused.
-    ///
-    /// # Cost
-    ///
-    /// Time and memory in proportion to `max / 64`, the number of segments, and to the helpers.
-    pub fn new_uncounted(alloc: Global, max: u32, callers: u32) -> Result<Table, AllocError>
-        requires power { (exponent : ℕ) × (max ≡ 2 ^ exponent) }
-        requires least { 2 ≤ max }
-        ensures { IfOk result (λ table. IsNew table max callers) }
-    {
-        let list = NodeList::new_uncounted(alloc, 0)?;
-        Table::with_list(alloc, list, max, callers)
-    }
-
-    /// A table over a new list.
-    fn with_list(alloc: Global, list: NodeList, max: u32, callers: u32) -> Result<Table, AllocError>
-        requires fresh { IsFresh list }
-        requires power { (exponent : ℕ) × (max ≡ 2 ^ exponent) }
-        requires least { 2 ≤ max }
-        ensures { IfOk result (λ table. IsNew table max callers) }
-    {
         let buckets = Buckets::new(alloc, max, callers, &list)?;
         Ok(Table { list, buckets })
     }
@@ -350,8 +319,8 @@ impl Table {
     ///
     /// # Cost
     ///
-    /// Time in proportion to the nodes from there to the first marked one (from the first node on,
-    /// if `new_uncounted` made the table), and constant time if none is marked.
+    /// Time in proportion to the nodes from there to the first marked one, and constant time if none
+    /// is marked.
     pub fn sweep(&mut self) -> SweepOutcome
         ensures clean { (result ≡ SweepOutcome.Clean) ↔ IsClean self.old }
         ensures sweeps { Sweeps self.old self.new result }

@@ -13,4 +13,3 @@ pub mod SpareSteps
 pub mod StampLemmas
 pub mod TallyLemmas
 pub mod TallySteps
-pub mod MarkLemmas

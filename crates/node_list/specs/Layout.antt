@@ -10,8 +10,7 @@ use Rattle.node_list.specs.Nodes.{NodeAt, Listing, IsLinked, first, live_count, 
 use Rattle.node_list.specs.Order.{IsRising}
 use Rattle.node_list.specs.Seen.{seen}
 use Rattle.node_list.specs.Sound.{AllPlain}
-use Rattle.node_list.specs.Marks.{AreCounted, total_of}
-use Rattle.node_list.specs.declared.marks.Marks.{Marks}
+use Rattle.node_list.specs.Tally.{TallyAt, IsTallied}
 
 -- A node as it is stored, with the place of the next one.
 abbrev pub stored : NodeAt → Option ℕ → Node
@@ -103,6 +102,6 @@ pub record IsKept (slab : Slab SlotAt) (head last count marked : ℕ) : Type 0 w
   pub marks : marked ≡ marked_count (nodes_in slab head)
 
 -- The fields of a list.
-pub record IsWhole (slab : Slab SlotAt) (head last count : ℕ) (marks : Marks) : Type 0 where
-  pub kept : IsKept slab head last count (total_of marks)
-  pub tallied : AreCounted marks (nodes_in slab head)
+pub record IsWhole (slab : Slab SlotAt) (head last count : ℕ) (marks : TallyAt) : Type 0 where
+  pub kept : IsKept slab head last count marks.total
+  pub tallied : IsTallied marks (nodes_in slab head)

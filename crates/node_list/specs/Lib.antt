@@ -7,5 +7,4 @@ pub mod Seen
 pub mod Slots
 pub mod Sound
 pub mod Tally
-pub mod Marks
 pub mod Text

@@ -1,6 +1,6 @@
 //! The list: a slab of nodes that are chained by their places, and the counts of them. Invariant:
 //! the nodes are in strict order of their sort keys, and each counter is the number of its nodes.
-ghost use Rattle.std.specs.Prelude.{◌≡◌, ℕ, ◌+◌, ◌-◌, ◌<◌, ◌^◌, ◌↔◌, Some, None, Err, [], ◌∷◌, IfOk, OnErr, IfSome, IfNone, IsSomeAnd, false, option_map};
+ghost use Rattle.std.specs.Prelude.{◌≡◌, ℕ, ◌+◌, ◌-◌, ◌<◌, ◌^◌, ◌↔◌, Some, None, Err, [], ◌∷◌, IfOk, OnErr, IfSome, IfNone, IsSomeAnd, false};
 ghost use Rattle.std.specs.List.{AllByRecursion};
 ghost use Rattle.node_list.specs.Follow.{Follows};
 ghost use Rattle.node_list.specs.Nodes.{out_at, IsOut, filled, first_dummy, IsLinked, IsRegularAt, IsBeforeMarked, node_of, next_of, place_of, live_count, marked_count, one_more, linked_after, unlinked_after, marked_at, written_at, GivesOut, Becomes, Takes, TakesBack};
@@ -8,10 +8,7 @@ ghost use Rattle.node_list.specs.Order.{IsVacant};
 ghost use Rattle.node_list.specs.Seen.{seen};
 ghost use Rattle.node_list.specs.Sound.{IsSound};
 ghost use Rattle.node_list.specs.Tally.{AreMarksFrom, first_marked};
-ghost use Rattle.node_list.specs.Marks.{CountNone};
-ghost use Rattle.node_list.specs.Layout.{nodes_in};
 
-use crate::marks::Marks;
 use crate::node::{Kind, Node, NodeRef};
 use crate::slots::{Slot, linked_at, mark, node_at, replace_next, set_slot, set_value};
 use crate::spare::{Spare, SpareFault};
@@ -29,7 +26,7 @@ pub struct NodeList {
     changes: u64,
     last: u64,
     count: u64,
-    marks: Marks,
+    marks: Tally,
 }
 
 impl Model for NodeList {
@@ -52,26 +49,6 @@ fn advance(changes: &mut u64)
     *changes = changes.saturating_add(1);
 }
 
-/// The split key of the first marked node, if one is marked, found by a walk.
-fn first_marked_split(slab: &Slab<Slot>, head: NodeRef) -> Option<u64>
-    ensures { result ≡ option_map (λ n. n.at.split) (first_marked (nodes_in slab.now head)) }
-{
-    let mut place = Some(head);
-    'walk: for _passed in 0..slab.len() {
-        let Some(at) = place else {
-            return None;
-        };
-        let Some(node) = linked_at(slab, at.place()) else {
-            return None;
-        };
-        if node.marked {
-            return Some(node.at.split());
-        }
-        place = node.next;
-    }
-    None
-}
-
 impl NodeList {
     /// A list that has only the dummy of bucket 0, with this stamp. Its change number is 0.
     ///
@@ -91,41 +68,7 @@ impl NodeList {
         ensures last { IfOk result (λ list. list.last ≡ first_stamp) }
         ensures sound { IfOk result IsSound }
     {
-        let tally = Tally::new(alloc)?;
-        NodeList::with_marks(alloc, first_stamp, Marks::ByRegion(tally))
-    }
-
-    /// A new list without counts of marked nodes by region: `marks_begin` walks the list if a node
-    /// is marked. It is for an owner who unlinks each node right after marking it.
-    ///
-    /// # Errors
-    ///
-    /// `AllocError` if memory is refused.
-    ///
-    /// # Cost
-    ///
-    /// Constant time, and one allocation, for the node.
-    pub fn new_uncounted(alloc: Global, first_stamp: u64) -> Result<Self, AllocError>
-        requires { first_stamp < 2 ^ 64 - 1 }
-        ensures nodes { IfOk result (λ list. list.nodes ≡ first_dummy list.head first_stamp ∷ []) }
-        ensures out { IfOk result (λ list. (place : ℕ) → out_at list place ≡ None) }
-        ensures changes { IfOk result (λ list. list.changes ≡ 0) }
-        ensures last { IfOk result (λ list. list.last ≡ first_stamp) }
-        ensures sound { IfOk result IsSound }
-    {
-        NodeList::with_marks(alloc, first_stamp, Marks::InAll(0))
-    }
-
-    /// A list that has only the dummy of bucket 0, with this stamp and these counts, which are 0.
-    fn with_marks(alloc: Global, first_stamp: u64, marks: Marks) -> Result<Self, AllocError>
-        requires stamp { first_stamp < 2 ^ 64 - 1 }
-        requires none { CountNone marks }
-        ensures nodes { IfOk result (λ list. list.nodes ≡ first_dummy list.head first_stamp ∷ []) }
-        ensures out { IfOk result (λ list. (place : ℕ) → out_at list place ≡ None) }
-        ensures changes { IfOk result (λ list. list.changes ≡ 0) }
-        ensures last { IfOk result (λ list. list.last ≡ first_stamp) }
-        ensures sound { IfOk result IsSound }
-    {
+        let marks = Tally::new(alloc)?;
         let mut slab = Slab::new(alloc);
         let node = Node::dummy(SortKey::dummy(0), first_stamp);
         match slab.insert(Slot::of_linked(node)) {
@@ -312,8 +255,7 @@ impl NodeList {
     ///
     /// # Cost
     ///
-    /// Constant time: at most 64 + 64 counts are looked at. In a list without counts by region,
-    /// time in proportion to the nodes up to the first marked one, if one is marked.
+    /// Constant time: at most 64 + 64 counts are looked at.
     pub fn marks_begin(&self) -> Option<u64>
         ensures none { (result ≡ None) ↔ AllByRecursion (λ n. n.marked ≡ false) self.now.nodes }
         ensures from { IfSome result (λ split. AreMarksFrom split self.now.nodes) }
@@ -321,10 +263,6 @@ impl NodeList {
             (λ n. n.at.split < split + 2 ^ 52)) }
         ensures sound { IsSound self.now }
     {
-        match &self.marks {
-            Marks::ByRegion(tally) => tally.first(),
-            Marks::InAll(0) => None,
-            Marks::InAll(_) => first_marked_split(&self.slab, self.head),
-        }
+        self.marks.first()
     }
 }

@@ -37,11 +37,7 @@ impl Model for Tally {
 fn zeros(alloc: Global, count: usize) -> Result<Vec<u64>, AllocError>
     ensures { IfOk result (λ counts. counts.items ≡ replicate count 0) }
 {
-    let mut counts = Vec::with_capacity(alloc, count)?;
-    for _ in 0..count {
-        counts.push(0)?;
-    }
-    Ok(counts)
+    vec![in alloc; 0; count]
 }
 
 /// The place of the first count other than 0 in the run of 64 that begins at a place.

@@ -3,7 +3,7 @@ use Rattle.node_list.specs.Nodes.{filled}
 use Rattle.node_list.proofs.NodesLemmas.{vacant_linked}
 use Rattle.node_list.proofs.OrderLemmas.{rising_vacant}
 use Rattle.node_list.proofs.CallLemmas.{slot_linked, counted_fit, filling_slot, filled_in}
-use Rattle.node_list.proofs.MarkLemmas.{counted_linked}
+use Rattle.node_list.proofs.TallyLemmas.{tallied_linked}
 use Rattle.node_list.proofs.list.NodeList.link_after.Goals as goal
 
 pub replace_next-next-requires : goal.replace_next-next-requires
@@ -48,7 +48,7 @@ invariant_of-self c =
     let weight = rw c.into_node-node.ensures at c.weight-weight.ensures in
     let filled = rw (c.place-2.ensures, c.node-place.ensures, c.of_linked.ensures, c.into_node-node.ensures) at c.set_slot.ensures in
     let now = filled_in _ _ c.self.inside.changes _ _ _ c.self.invariant.kept _ _ _ slot.0 c.args.spare _ slot.1 out (next_was slot.1) (pointed slot.1) _ weight filled linked order in
-    record { kept = now.0; tallied = counted_linked c.self.inside.marks _ _ _ _ c.self.invariant.tallied linked refl now.1.nodes }
+    record { kept = now.0; tallied = tallied_linked c.self.inside.marks _ _ _ _ c.self.invariant.tallied linked refl now.1.nodes }
 
 pub returns-clause-linked : goal.returns-clause-linked
 returns-clause-linked c =

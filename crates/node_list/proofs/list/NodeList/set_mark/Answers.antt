@@ -1,7 +1,7 @@
 use Rattle.std.proofs.Common.{arith}
 use Rattle.node_list.proofs.NodesLemmas.{found_linked}
 use Rattle.node_list.proofs.CallLemmas.{slot_linked, counted_fit, counts_one, node_marked, regular_found}
-use Rattle.node_list.proofs.MarkLemmas.{counted_marked}
+use Rattle.node_list.proofs.TallyLemmas.{tallied_marked}
 use Rattle.node_list.proofs.list.NodeList.set_mark.Goals as goal
 
 pub node_at-requires : goal.node_at-requires
@@ -36,7 +36,7 @@ invariant_of-self c =
     let added = rw c.split-split.ensures at c.add.ensures.counts in
     record {
       kept = rw c.add.ensures.total now.0;
-      tallied = counted_marked c.self.inside.marks c.add.new.self _ _ _ _ c.self.invariant.tallied found.0 found.1 added now.1.nodes;
+      tallied = tallied_marked c.self.inside.marks c.add.new.self _ _ _ _ c.self.invariant.tallied found.0 found.1 added now.1.nodes;
     }
 
 pub returns-clause-marked : goal.returns-clause-marked

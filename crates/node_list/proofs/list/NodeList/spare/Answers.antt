@@ -3,7 +3,7 @@ use Rattle.node_list.specs.Layout.{nodes_in}
 use Rattle.node_list.proofs.KeptLemmas.{kept_grown, listing_grown, ok_some, ok_none}
 use Rattle.node_list.proofs.FollowLemmas.{follows_self}
 use Rattle.node_list.proofs.CallLemmas.{spared}
-use Rattle.node_list.proofs.MarkLemmas.{counted_same}
+use Rattle.node_list.proofs.TallyLemmas.{tallied_same}
 use Rattle.node_list.proofs.list.NodeList.spare.Goals as goal
 
 pub invariant_of-self : goal.invariant_of-self
@@ -12,7 +12,7 @@ invariant_of-self c =
     let free = rw answer at c.insert.ensures.was_vacant in
     let updates = rw (answer, c.out.ensures, c.dummy-node.ensures) at c.insert.ensures.updates in
     let now = spared _ _ c.self.inside.changes _ _ _ c.self.invariant.kept _ _ (omega arith) free updates in
-    record { kept = now.0; tallied = counted_same c.self.inside.marks _ _ now.1.nodes c.self.invariant.tallied }
+    record { kept = now.0; tallied = tallied_same c.self.inside.marks _ _ now.1.nodes c.self.invariant.tallied }
 
 pub returns-in-Some-clause-ok : goal.returns-in-Some-clause-ok
 returns-in-Some-clause-ok c =

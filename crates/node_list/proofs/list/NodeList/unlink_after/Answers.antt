@@ -1,8 +1,7 @@
-use Rattle.std.proofs.Common.{◌≡◌, ◌-◌, ◌∙◌, sym, ap, arith}
+use Rattle.std.proofs.Common.{◌≡◌, ◌-◌, ap, arith}
 use Rattle.split_key.specs.declared.sort.SortKey.{SortKey}
 use Rattle.node_list.proofs.CallLemmas.{slot_linked, behind_linked, behind_place, behind_slot, behind_at, unlinked}
-use Rattle.node_list.proofs.MarkLemmas.{counted_unlinked, counted_some, some_marked}
-use Rattle.node_list.specs.Marks.{total_of}
+use Rattle.node_list.proofs.TallyLemmas.{tallied_unlinked, tallied_some}
 use Rattle.node_list.proofs.list.NodeList.unlink_after.Goals as goal
 
 pub node_at-requires : goal.node_at-requires
@@ -21,14 +20,14 @@ replace_next-requires c =
     let behind = rw (← c.self.view_is) at c.requires in
     rw c.place-in-Some-2.ensures (slot_linked _ _ _ _ _ _ c.self.invariant.kept (behind_linked _ _ _ behind))
 
-pub take_away-requires-clause-some : goal.take_away-requires-clause-some
-take_away-requires-clause-some c =
+pub take_away-requires : goal.take_away-requires
+take_away-requires c =
     let behind = rw (← c.self.view_is) at c.requires in
     let is_before = rw c.place.ensures at c.node_at.ensures in
     let is_behind = rw c.place-in-Some.ensures at c.node_at-behind.ensures in
     let at = behind_at _ _ c.self.inside.changes _ _ _ c.self.invariant.kept _ _ _ _ behind is_before c.in-Some.is is_behind in
     let split = ap (λ (k : SortKey). k.split) at in
-    rw c.split.ensures (counted_some c.self.inside.marks _ _ _ _ c.self.invariant.tallied behind.next behind.marked split)
+    rw c.split.ensures (tallied_some c.self.inside.marks _ _ _ _ c.self.invariant.tallied behind.next behind.marked split)
 
 pub invariant_of-self : goal.invariant_of-self
 invariant_of-self c =
@@ -40,11 +39,11 @@ invariant_of-self c =
     let now = unlinked _ _ c.self.inside.changes _ _ _ c.self.invariant.kept _ _ _ _ _ _ behind is_before c.in-Some.is is_behind (passed is_before) freed in
     let at = behind_at _ _ c.self.inside.changes _ _ _ c.self.invariant.kept _ _ _ _ behind is_before c.in-Some.is is_behind in
     let split = ap (λ (k : SortKey). k.split) at in
-    let less : total_of c.take_away.new.self ≡ total_of c.self.inside.marks - 1 = omega (arith, c.take_away.ensures.total) in
+    let less : c.take_away.new.self.total ≡ c.self.inside.marks.total - 1 = omega (arith, c.take_away.ensures.total) in
     let fewer = rw c.split.ensures at c.take_away.ensures.counts in
     record {
       kept = rw less now.0;
-      tallied = counted_unlinked c.self.inside.marks c.take_away.new.self _ _ _ _ _ c.self.invariant.tallied behind.next behind.marked split fewer now.1.nodes;
+      tallied = tallied_unlinked c.self.inside.marks _ _ _ _ c.self.invariant.tallied behind.next behind.marked split c.take_away.new.self _ fewer now.1.nodes;
     }
 
 pub returns-in-Some-clause-unlinked : goal.returns-in-Some-clause-unlinked
@@ -70,8 +69,3 @@ returns-in_default-clause-unlinked c =
     let behind = rw (← c.self.view_is) at c.requires in
     let is_before = rw c.place.ensures at c.node_at.ensures in
     absurd (c.in_default.not-Some _ (behind_place _ _ c.self.inside.changes _ _ _ c.self.invariant.kept _ _ behind is_before))
-
-pub take_away-requires-clause-total : goal.take_away-requires-clause-total
-take_away-requires-clause-total c none =
-    let behind = rw (← c.self.view_is) at c.requires in
-    some_marked _ _ _ behind.next behind.marked (sym c.self.invariant.kept.marks ∙ none)
