@@ -1,4 +1,4 @@
--- What a history file says is in range.
+-- The numbers of a history file are in range.
 use Rattle.std.proofs.Common.{◌≡◌, ℕ, ◌<◌, Bool, true, false, ◌&&◌, if◌then◌else◌, List, [], ◌∷◌, Result, Ok, Err, refl, subst, arith}
 use Rattle.std.specs.Prelude.{nat_le}
 use Rattle.std.specs.List.{All, list_all}
@@ -14,12 +14,12 @@ use Rattle.txn_files.specs.Faults.{◌>>=◌}
 use Rattle.txn_files.specs.Files.{contents}
 use Rattle.txn_files.specs.HistoryFile.{history_file, is_in_range, is_history, entries_from, history_of}
 
--- What came of both was made from what came of the first.
+-- If two steps of reading succeed, the first one did, and the second one from its result.
 gone_on : {A B : Type 0} (first : Result A FileFault) (next : A → Result B FileFault) (last : B) → (first >>= next) ≡ Ok last → (x : A) × (next x ≡ Ok last)
 gone_on (Ok x) next last e = (x, e)
 gone_on (Err fault) next last e = cc
 
--- What was let through passed the test.
+-- A result that a test let through passed it.
 passed : {A : Type 0} (test : Bool) (x y : A) → ◌≡◌ {A = Result A FileFault} (if test then Ok x else Err Limit) (Ok y) → (test ≡ true) × (x ≡ y)
 passed true x y e = (refl, cc)
 passed false x y e = cc

@@ -1,11 +1,11 @@
--- Lines of verdicts, and what is written of them.
+-- The lines of verdicts, written completely or in part.
 use Rattle.std.proofs.Common.{◌≡◌, List, ℕ, Option, refl, ◌∙◌}
 use Rattle.txn_trace.specs.Legal.{Verdict}
 use Rattle.boostmap_engine.specs.declared.fault.Fault.TheVariants.{Write}
 use Rattle.boostmap_engine.specs.Written.{IsRead, AppendsPart, Leaves}
 use Rattle.boostmap_engine.specs.Judgement.{verdict_line, says_legal, IsJudged, IsJudgementOf, IsNoHistoryFile}
 
--- A part of the line of the verdict on what was read.
+-- A part of the line of the verdict on the bytes that were read.
 pub Leaves-line : (remaining old new : Option (List ℕ)) (read bytes line text : List ℕ) (outcome : Verdict) → IsRead remaining read → bytes ≡ read → IsJudged bytes outcome → line ≡ verdict_line outcome → text ≡ line → AppendsPart old new text → Leaves IsJudgementOf IsNoHistoryFile remaining old new Write
 Leaves-line remaining old new read bytes line text outcome was_read same judged is_line whole part =
     (bytes, text, rw same was_read, (says_legal outcome, (outcome, judged, refl, whole ∙ is_line)), part)
