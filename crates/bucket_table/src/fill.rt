@@ -8,5 +8,9 @@ use std::alloc::{AllocError, Global};
 pub(crate) fn vec_of<T: Copy>(alloc: Global, count: u32, value: T) -> Result<Vec<T>, AllocError>
     ensures { IfOk result (λ items. items.items ≡ replicate count value) }
 {
-    vec![in alloc; value; count as usize]
+    let mut items = Vec::with_capacity(alloc, count as usize)?;
+    for _ in 0..count {
+        items.push(value)?;
+    }
+    Ok(items)
 }
