@@ -73,8 +73,8 @@ impl Core {
     ghost use Rattle.boost_core.specs.Replies.{KeepsReplies};
     ghost use Rattle.boost_core.specs.Content.{IsContent, IsRegular};
     ghost use Rattle.boost_core.specs.Whole.{IsWhole};
-    ghost use Rattle.boost_core.specs.Machine.{Move, Moves};
-    ghost use Rattle.boost_core.specs.Nodes.{Cursors, IsInOrder, Lists};
+    ghost use Rattle.boost_core.specs.Machine.{Event, Moves};
+    ghost use Rattle.boost_core.specs.Nodes.{Cursors, IsInOrder};
     ghost use Rattle.boost_core.specs.Words.{Goes, IsClaim, ListsBy, is_ask};
     ghost use Rattle.boost_core.specs.Refusals.{owner_of, refusal_of};
     ghost use Rattle.boost_core.specs.Serves.{is_served};
@@ -154,9 +154,7 @@ impl Core {
     /// constant time. Only the steps that may be refused with `NoMemory` take memory.
     pub fn step(&mut self, step: Step) -> Answer
         requires { self.old.words ≡ true → is_ask step ≡ false }
-        ensures moves { Move self.old step result self.new }
-        ensures lists { Lists self.old step result self.new }
-        ensures cursors { Cursors self.old step result self.new }
+        ensures event { Event self.old step result self.new }
         ensures words { self.new.words ≡ self.old.words }
     {
         // One arm for each kind of step, so that `call` is compiled for each.
@@ -224,9 +222,7 @@ impl Core {
     /// Takes a step that is no caller's, and notes whose cursor was placed.
     fn serve(&mut self, step: Step) -> Answer
         requires { is_served step ≡ true }
-        ensures moves { Move self.old step result self.new }
-        ensures lists { Lists self.old step result self.new }
-        ensures cursors { Cursors self.old step result self.new }
+        ensures event { Event self.old step result self.new }
         ensures words { self.new.words ≡ self.old.words }
     {
         let _size = Table::size(&self.table);

@@ -1,6 +1,6 @@
 //! The beginning and the ends of a transaction, and its savepoints. A commit and an abort take no
 //! memory.
-ghost use Rattle.boost_core.specs.Machine.{Move};
+ghost use Rattle.boost_core.specs.Machine.{Event};
 ghost use Rattle.boost_core.specs.Plain.{Aborts, Returns};
 ghost use Rattle.boostmap_c.specs.Calls.{Answers};
 
@@ -26,7 +26,7 @@ pub extern "C" fn boostmap_begin(
     caller: u64,
     word: &mut u64,
 ) -> u32
-    ensures { Answers (λ old answer new. Move old (Step.Begin caller) answer new)
+    ensures { Answers (λ old answer new. Event old (Step.Begin caller) answer new)
         map.old.held.core result word.old word.new map.new.held.core }
 {
     let Some(mut core) = open(alloc, map) else {
@@ -49,7 +49,7 @@ pub extern "C" fn boostmap_begin(
 /// Amortized constant time; may take memory for the history and the level.
 #[unsafe(no_mangle)]
 pub extern "C" fn boostmap_save(alloc: Global, map: &mut Handle, caller: u64, word: &mut u64) -> u32
-    ensures { Answers (λ old answer new. Move old (Step.Save caller) answer new)
+    ensures { Answers (λ old answer new. Event old (Step.Save caller) answer new)
         map.old.held.core result word.old word.new map.new.held.core }
 {
     let Some(mut core) = open(alloc, map) else {
@@ -107,7 +107,7 @@ pub extern "C" fn boostmap_commit(
     caller: u64,
     word: &mut u64,
 ) -> u32
-    ensures { Answers (λ old answer new. Move old (Step.Commit caller) answer new)
+    ensures { Answers (λ old answer new. Event old (Step.Commit caller) answer new)
         map.old.held.core result word.old word.new map.new.held.core }
 {
     let Some(mut core) = open(alloc, map) else {

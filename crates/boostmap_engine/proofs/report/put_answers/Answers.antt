@@ -10,7 +10,7 @@ pub loop-step-preserved : goal.loop-step-preserved
 loop-step-preserved c =
     let before = c.loop-step.invariant in (
       before.0 ++ c.step-answer.result ∷ [],
-      Moves-more c.args.core.now c.loop-step.core c.step-answer.new.self c.args.steps.now c.loop-step.step-index _ before.0 c.step-answer.result c.loop-step-test.true before.1 (record { move = c.step-answer.ensures.moves; lists = c.step-answer.ensures.lists; cursors = c.step-answer.ensures.cursors }),
+      Moves-more c.args.core.now c.loop-step.core c.step-answer.new.self c.args.steps.now c.loop-step.step-index _ before.0 c.step-answer.result c.loop-step-test.true before.1 c.step-answer.ensures.event,
       grind (arith, flat_map_more (λ (answer : Answer). line (text_of answer)) (string_bytes c.args.text.now) before.0 c.step-answer.result, before.2, c.writeln.ensures),
       c.step-answer.ensures.words ∙ before.3,
     )

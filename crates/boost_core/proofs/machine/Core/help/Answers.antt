@@ -34,7 +34,7 @@ loop-step-smaller c =
     let told_is : c.told.new.self ≡ told_of (sized_of c.loop-step.self.size c.loop-step.drive) c.step-answer.result = c.told.ensures.drive ∙ ap (λ (d : Drive). told_of d c.step-answer.result) c.next_step.ensures.drive in
     let goes = round c.loop-step.self c.step-answer.new.self c.args.caller c.args.key c.loop-step.drive c.in-Some.step c.step-answer.result c.next_step.ensures.whole
     (most_there c.self.inside.limits c.loop-step.self.limits limits c.callers.ensures.limits) (within_there c.self.inside.limits c.loop-step.self.limits c.args.caller c.from.result c.callers.result limits c.if-caller-from.false c.from.ensures c.callers.ensures.value)
-    so_far.caller so_far.call so_far.fits step_is c.step-answer.ensures.moves in
+    so_far.caller so_far.call so_far.fits step_is c.step-answer.ensures.event.move in
     subst (λ (d : Drive). left d.phase < left c.loop-step.drive.phase) (sym told_is) goes.fewer
 
 pub loop-step-preserved : goal.loop-step-preserved
@@ -45,13 +45,13 @@ loop-step-preserved c =
     let told_is : c.told.new.self ≡ told_of (sized_of c.loop-step.self.size c.loop-step.drive) c.step-answer.result = c.told.ensures.drive ∙ ap (λ (d : Drive). told_of d c.step-answer.result) c.next_step.ensures.drive in
     let goes = round c.loop-step.self c.step-answer.new.self c.args.caller c.args.key c.loop-step.drive c.in-Some.step c.step-answer.result c.next_step.ensures.whole
     (most_there c.self.inside.limits c.loop-step.self.limits limits c.callers.ensures.limits) (within_there c.self.inside.limits c.loop-step.self.limits c.args.caller c.from.result c.callers.result limits c.if-caller-from.false c.from.ensures c.callers.ensures.value)
-    so_far.caller so_far.call so_far.fits step_is c.step-answer.ensures.moves in
+    so_far.caller so_far.call so_far.fits step_is c.step-answer.ensures.event.move in
     record {
-      drives = λ more last new drives. so_far.drives (suc more) last new (c.in-Some.step, c.step-answer.result, c.step-answer.new.self, step_is, record { move = c.step-answer.ensures.moves; lists = c.step-answer.ensures.lists; cursors = c.step-answer.ensures.cursors }, subst (λ (d : Drive). Drives more d c.step-answer.new.self last new) told_is drives);
+      drives = λ more last new drives. so_far.drives (suc more) last new (c.in-Some.step, c.step-answer.result, c.step-answer.new.self, step_is, c.step-answer.ensures.event, subst (λ (d : Drive). Drives more d c.step-answer.new.self last new) told_is drives);
       caller = ap (λ (d : Drive). d.caller) told_is ∙ so_far.caller;
       call = ap (λ (d : Drive). d.call) told_is ∙ so_far.call;
       words = c.step-answer.ensures.words ∙ so_far.words;
-      limits = limits_stay c.loop-step.self c.step-answer.new.self c.in-Some.step c.step-answer.result c.step-answer.ensures.moves ∙ so_far.limits;
+      limits = limits_stay c.loop-step.self c.step-answer.new.self c.in-Some.step c.step-answer.result c.step-answer.ensures.event.move ∙ so_far.limits;
       fits = subst (λ (d : Drive). Fits c.step-answer.new.self c.args.caller c.args.key d.phase) (sym told_is) goes.fits;
     }
 

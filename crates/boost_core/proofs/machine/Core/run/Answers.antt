@@ -21,9 +21,9 @@ pub loop-step-preserved : goal.loop-step-preserved
 loop-step-preserved c =
     let items = rw c.unwrap.ensures at c.push.ensures.items in
     record {
-      moves = rw items (Moves-more c.args.self.now c.loop-step.self c.step-answer.new.self c.args.steps.now c.loop-step.step-index _ c.loop-step.answers.items c.step-answer.result c.loop-step-test.true c.loop-step.invariant.moves (record { move = c.step-answer.ensures.moves; lists = c.step-answer.ensures.lists; cursors = c.step-answer.ensures.cursors }));
+      moves = rw items (Moves-more c.args.self.now c.loop-step.self c.step-answer.new.self c.args.steps.now c.loop-step.step-index _ c.loop-step.answers.items c.step-answer.result c.loop-step-test.true c.loop-step.invariant.moves c.step-answer.ensures.event);
       count = let len = rw c.unwrap.ensures at c.push.ensures.len in omega (arith, len, c.loop-step.invariant.count);
-      words = words_stay _ _ _ _ c.step-answer.ensures.moves ∙ c.loop-step.invariant.words;
+      words = words_stay _ _ _ _ c.step-answer.ensures.event.move ∙ c.loop-step.invariant.words;
       room = omega (arith, c.push.ensures.capacity, c.loop-step.invariant.room);
     }
 
