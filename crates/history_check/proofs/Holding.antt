@@ -23,25 +23,15 @@ same_test a b = elim (cases_eq a b) [
   | inr other ↦ ne_eqb a b other ∙ sym (ne_eqb b a (λ is. other (sym is)))
 ]
 
-and_false : (b : Bool) → (b && false) ≡ false
-and_false true = refl
-and_false false = refl
-
-not_both : (x c : ℕ) → (not (x == c) && nat_eq c x) ≡ false
-not_both x c = elim (cases_eq x c) [
-  | inl is ↦ ap (λ b. not b && nat_eq c x) (eq-eqb x c is)
-  | inr other ↦ ap (λ b. not (x == c) && b) (ne_eqb c x (λ is. other (sym is))) ∙ and_false (not (x == c))
-]
-
-named : (x c other : ℕ) → (other ≡ c → ⊥) → (not (x == c) && nat_eq other x) ≡ (other == x)
-named x c other by_another = elim (cases_eq x c) [
-  | inl is ↦ ap (λ b. not b && nat_eq other x) (eq-eqb x c is) ∙ sym (ne_eqb other x (λ same. by_another (same ∙ is)))
-  | inr apart ↦ ap (λ b. not b && nat_eq other x) (ne_eqb x c apart)
-]
-
 without : (c : ℕ) (o : Option ℕ) → locks.without_caller c o ≡ cond {A = Option ℕ} (option_eq nat_eq o (Some c)) None o
 without c None = refl
 without c (Some d) = refl
+
+-- A Busy may not name its own caller.
+pub busy-own : {holder : Holder} (stripes : ℕ) (h : List Entry) → IsLegal holder stripes h → (c : ℕ) (op : Op) (x : ℕ) → x ≡ c → is_locked holder stripes h (Busy c op x) ≡ false
+busy-own {holder} stripes h legal c op x is =
+    is_locked-busy holder stripes h c op x legal.shape legal.locks
+    ∙ ap (λ b. not b && elim holder as (λ r. Bool) [ Now ↦ option_eq nat_eq (holder_of stripes (stripe_of stripes (key_of op)) h) (Some x) | Begun ↦ has_begun x h ]) (eq-eqb x c is)
 
 -- Where it names one that has begun, a Busy may stand where another caller than its own has.
 pub busy-begun : {holder : Holder} (stripes : ℕ) (h : List Entry) → IsLegal holder stripes h → (c : ℕ) (op : Op) → holder ≡ Begun → (x : ℕ) → x ≢ c → is_locked holder stripes h (Busy c op x) ≡ has_begun x h
@@ -68,9 +58,6 @@ module _ {holder : Holder} (stripes : ℕ) (h : List Entry) (legal : IsLegal hol
     abbrev asked_test : Option ℕ → Bool
     asked_test o = elim o as (λ o. Bool) [ None ↦ true | Some d ↦ d == c ]
 
-    abbrev busy_test : ℕ → Option ℕ → Bool
-    busy_test x o = not (x == c) && option_eq nat_eq o (Some x)
-
     -- An Asked may stand where the stripe is granted, and not where another caller holds it.
     pub asked-granted : (new : List (Option ℕ)) → locks.Grants c (key % live.stripes) live.locks new → is_locked holder stripes h (Asked c op) ≡ true
     asked-granted new is = is_locked-asked holder stripes h c op legal.shape legal.locks ∙ elim is.open_to_caller [
@@ -81,20 +68,13 @@ module _ {holder : Holder} (stripes : ℕ) (h : List Entry) (legal : IsLegal hol
     pub asked-refused : (other : ℕ) (new : List (Option ℕ)) → locks.Refuses c (key % live.stripes) other live.locks new → is_locked holder stripes h (Asked c op) ≡ false
     asked-refused other new is = is_locked-asked holder stripes h c op legal.shape legal.locks ∙ ap asked_test (sym held ∙ is.held) ∙ ne_eqb other c is.by_another
 
-    busy_now : holder ≡ Now → (x : ℕ) → is_locked holder stripes h (Busy c op x) ≡ busy_test x (holder_of stripes (stripe_of stripes (key_of op)) h)
-    busy_now now x =
+    -- Where it names a holder of now, a Busy may name the caller that holds the stripe, unless it is its own.
+    pub busy-held : holder ≡ Now → (x : ℕ) → x ≢ c → is_locked holder stripes h (Busy c op x) ≡ option_eq nat_eq (locks.holder_of live.locks (key % live.stripes)) (Some x)
+    busy-held now x other =
         is_locked-busy holder stripes h c op x legal.shape legal.locks
         ∙ ap (λ (r : Holder). not (x == c) && elim r as (λ r. Bool) [ Now ↦ option_eq nat_eq (holder_of stripes (stripe_of stripes (key_of op)) h) (Some x) | Begun ↦ has_begun x h ]) now
-
-    -- Where it names a holder of now, a Busy may stand where another caller holds the stripe, and is the one that it names.
-    pub busy-granted : holder ≡ Now → (x : ℕ) (new : List (Option ℕ)) → locks.Grants c (key % live.stripes) live.locks new → is_locked holder stripes h (Busy c op x) ≡ false
-    busy-granted now x new is = busy_now now x ∙ elim is.open_to_caller [
-      | inl none ↦ ap (busy_test x) (sym held ∙ none) ∙ and_false (not (x == c))
-      | inr mine ↦ ap (busy_test x) (sym held ∙ mine) ∙ not_both x c
-    ]
-
-    pub busy-refused : holder ≡ Now → (x other : ℕ) (new : List (Option ℕ)) → locks.Refuses c (key % live.stripes) other live.locks new → is_locked holder stripes h (Busy c op x) ≡ (other == x)
-    busy-refused now x other new is = busy_now now x ∙ ap (busy_test x) (sym held ∙ is.held) ∙ named x c other is.by_another
+        ∙ ap (λ b. not b && option_eq nat_eq (holder_of stripes (stripe_of stripes (key_of op)) h) (Some x)) (ne_eqb x c other)
+        ∙ ap (λ o. option_eq nat_eq o (Some x)) (sym held)
 
     -- A stripe that is granted is the caller's.
     pub granted : (new : List (Option ℕ)) → locks.Grants c (key % live.stripes) live.locks new → (s : ℕ) → s < stripes → locks.holder_of new s ≡ cond (stripe_of stripes (key_of op) == s) (Some c) (holder_of stripes s h)

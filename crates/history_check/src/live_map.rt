@@ -105,19 +105,21 @@ impl LiveMap {
         }
     }
 
-    /// Whether a Busy of the caller may name that one. Nothing changes if it may.
+    /// Whether a Busy of the caller may name that one.
     #[inline(always)]
-    fn may_name(&mut self, callers: &Callers, caller: u64, op: Op, named: u64) -> bool
-        requires { caller < 64 }
-        ensures { Follows (Entry.Busy caller op named) callers.now self.old result self.new }
+    fn may_name(&self, callers: &Callers, caller: u64, op: Op, named: u64) -> bool
+        ensures { Follows (Entry.Busy caller op named) callers.now self.now result self.now }
     {
+        if named == caller {
+            return false;
+        }
         match self.holder {
-            Holder::Begun => named != caller && callers.has_begun(named),
+            Holder::Begun => callers.has_begun(named),
             Holder::Now => {
                 let stripe = op.key() % self.stripes;
-                match self.locks.lock(caller as usize, stripe as usize) {
-                    LockAnswer::Granted => false,
-                    LockAnswer::Busy(other) => other as u64 == named,
+                match self.locks.holder(stripe as usize) {
+                    Some(holder) => holder as u64 == named,
+                    None => false,
                 }
             }
         }

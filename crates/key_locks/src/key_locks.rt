@@ -46,7 +46,7 @@ fn no_links(alloc: Global, count: usize) -> Result<Vec<Link>, AllocError>
 }
 
 impl KeyLocks {
-    ghost use Rattle.key_locks.specs.Locks.{Locks, Releases};
+    ghost use Rattle.key_locks.specs.Locks.{Locks, Releases, holder_of};
 
     /// This number of stripes, none of them held. It takes all the memory that the locks will ever
     /// need.
@@ -69,6 +69,13 @@ impl KeyLocks {
             older,
             newest,
         })
+    }
+
+    /// The caller that holds the stripe, if one does: none if there is no such stripe.
+    pub fn holder(&self, stripe: usize) -> Option<usize>
+        ensures { result ≡ holder_of self.now stripe }
+    {
+        self.holders.get(stripe)?.caller()
     }
 
     /// Makes the caller the holder of the stripe, unless another caller holds it: then nothing

@@ -19,7 +19,7 @@ returns-in-Asked-clause-ok c holder stripes h legal entered shows shaped answere
 
 pub returns-in-Busy-clause-ok : goal.returns-in-Busy-clause-ok
 returns-in-Busy-clause-ok c holder stripes h legal entered shows shaped answered =
-    subst (λ e. FollowsAt holder stripes h e c.may_name.result c.may_name.new.self) (sym c.in-Busy.is)
+    subst (λ e. FollowsAt holder stripes h e c.may_name.result c.args.self.now) (sym c.in-Busy.is)
     (c.may_name.ensures holder stripes h legal entered shows (subst (λ e. is_shaped h e ≡ true) c.in-Busy.is shaped) (subst (λ e. replies_hold (h ++ e ∷ []) ≡ true) c.in-Busy.is answered))
 
 pub returns-in_ok-operate-in-Did-clause-ok : goal.returns-in_ok-operate-in-Did-clause-ok
