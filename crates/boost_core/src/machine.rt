@@ -201,6 +201,7 @@ impl Core {
             return Answer::Refused(Refusal::NoMemory);
         }
         let stripes = u64::from(self.limits.stripes());
+        // The stored buckets lie below the size.
         let _size = Table::size(&self.table);
         let session = &mut self.sessions[caller as usize];
         let answer = session.answer(
@@ -225,6 +226,7 @@ impl Core {
         ensures event { Event self.old step result self.new }
         ensures words { self.new.words ≡ self.old.words }
     {
+        // The stored buckets lie below the size.
         let _size = Table::size(&self.table);
         let answer = serve(step, &mut self.table);
         self.placed = placed_after(self.placed, step, answer);
@@ -269,6 +271,7 @@ impl Core {
         ensures whole { IsWhole self.now }
         ensures order { IsInOrder self.now.nodes }
     {
+        // The stored buckets lie below the size.
         let _size = Table::size(&self.table);
         &self.history
     }

@@ -92,6 +92,7 @@ impl OwnedMap {
         ensures same { now self.new.core.history ≡ now self.old.core.history }
         ensures beside { IsBeside caller self.old.core self.new.core }
     {
+        // The history is legal.
         let _legal = self.core.trace();
         match self.take_step(Step::Begin(caller)) {
             Answer::Began(_) => Ok(()),
@@ -108,6 +109,7 @@ impl OwnedMap {
         ensures ok { IfOk result (λ reply. HasDone op reply self.old.core self.new.core) }
         ensures err { OnErr result (now self.new.core.history ≡ now self.old.core.history) }
     {
+        // The history is legal.
         let _legal = self.core.trace();
         match self.ask(caller, op) {
             Answer::Done(reply) => {
@@ -141,6 +143,7 @@ impl OwnedMap {
         ensures ok { IfOk result (λ level. IsSaved caller level self.old.core self.new.core) }
         ensures same { now self.new.core.history ≡ now self.old.core.history }
     {
+        // The history is legal.
         let _legal = self.core.trace();
         match self.take_step(Step::Save(caller)) {
             Answer::Saved(level) => Ok(level),
@@ -156,6 +159,7 @@ impl OwnedMap {
         ensures ok { OnOk result (IsBackAt caller level self.old.core self.new.core) }
         ensures err { OnErr result (now self.new.core.history ≡ now self.old.core.history) }
     {
+        // The history is legal before and after.
         let _before = self.core.trace();
         let answer = self.core.back(caller, level);
         let _legal = self.core.trace();
@@ -171,6 +175,7 @@ impl OwnedMap {
         ensures ok { IfOk result (λ place. IsCommitted caller place self.old.core self.new.core) }
         ensures err { OnErr result (GoesOn caller self.old.core self.new.core) }
     {
+        // The history is legal.
         let _legal = self.core.trace();
         match self.take_step(Step::Commit(caller)) {
             Answer::Committed(place) => Ok(place),

@@ -81,6 +81,7 @@ impl OwnedMap {
         ensures limits { self.new.core.limits ≡ self.old.core.limits }
         ensures lack { IfErr result (λ refusal. IsLack refusal) }
     {
+        // The history is legal, and there is a caller 0.
         let _legal = self.core.trace();
         let _callers = self.core.limits().callers();
         match self.take_step(Step::Begin(0)) {
@@ -105,6 +106,7 @@ impl OwnedMap {
         ensures limits { self.new.core.limits ≡ self.old.core.limits }
         ensures lack { IfErr result (λ refusal. IsLack refusal) }
     {
+        // The history is legal.
         let _legal = self.core.trace();
         match self.ask(0, Op::Put(key, value)) {
             Answer::Done(_) => {
@@ -125,6 +127,7 @@ impl OwnedMap {
         ensures map { now self.new.core.history ≡ now self.old.core.history }
         ensures limits { self.new.core.limits ≡ self.old.core.limits }
     {
+        // The history is legal.
         let _legal = self.core.trace();
         let Answer::Committed(_) = self.take_step(Step::Commit(0)) else {
             unreachable!();
