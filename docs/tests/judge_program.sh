@@ -407,12 +407,17 @@ flawed_entries() {
     <<<'["asked",0,"put_if",1,[1,2],1]'
   flawed '.entries[0][6]' '21 entry 0' "true or false; expected $caller" 2 <<<'["busy",0,"put_if",1,null,1,true]'
   flawed '.entries[0][4]' '21 entry 0' "nothing; expected $caller" 1 <<<'["busy",0,"take",1]'
+  flawed '.entries[0]' '21 entry 0' 'null; expected an array' 1 <<<'null'
+  flawed '.entries[0][1]' '21 entry 0' "a text; expected $caller" 1 <<<'["asked","0","get",1]'
+  flawed '.entries[0][5]' '21 entry 0' "nothing; expected $number" 2 <<<'["asked",0,"put_if",1,5]'
+  flawed '.entries[0][6]' '21 entry 0' "nothing; expected $caller" 3 <<<'["busy",0,"put_if",1,null,5]'
   # A wrong shape anywhere comes before a number that is out of range.
   flawed '.entries[1][2]' '21 entry 1' "nothing; expected $number" 7 <<<'["began",64,1]
 ["began",0]'
   flawed '.entries[1][1]' 22 "64; expected $caller" 1 <<<'["began",0,1]
 ["began",64,1]'
   flawed '.entries[0][5]' 22 "77; expected $caller" 1 <<<'["busy",0,"put",1,1,77]'
+  flawed '.entries[0][1]' 22 "64; expected $caller" 3 <<<'["busy",64,"get",9,64]'
   flawed '.version' 22 '4; expected a whole number from 1 to 3' 4 <<<'["began",64,1]'
 }
 
@@ -424,6 +429,8 @@ refusals() {
   wants 3 "$no 1 column 1" 'refused 20' why README.md
   refuses 20 "$no 1 column 13" '{"version":1,'
   refuses 20 "$no 1 column 0" ''
+  refuses 20 "$no 1 column 12" '{"version":NaN}'
+  refuses 20 "$no 2 column 11" $'{"version":1,\n"stripes":}'
   wants 3 "\$.entries: nothing; expected $entries" 'refused 21' why examples/scripts.json
   wants 3 "\$.entries: nothing; expected $entries" 'refused 21' why examples/first_commit.json
   refuses 21 '$: an array of length 1; expected an object' '[1]'

@@ -10,8 +10,8 @@
 //! let them begin one. No second description of the format stands in `specs/`.
 //!
 //! Proved: `flaw_in` finds no flaw exactly in a file that `read_history` takes, and else a flaw that
-//! is the cause of the refusal. It reads the whole value that the file is, which takes more memory
-//! than `read_history`; it is called only for files that are refused.
+//! is the cause of the refusal. It keeps the whole value that the file is, which takes much more
+//! memory than `read_history`; it is called only for files that are refused.
 #![tactic(auto)]
 
 mod elements;

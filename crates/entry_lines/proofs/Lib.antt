@@ -1,1 +1,2 @@
+mod ArrayLemmas
 pub mod OnLine

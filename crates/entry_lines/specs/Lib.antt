@@ -1,3 +1,4 @@
+pub mod ArrayRests
 pub mod EntryLine
 pub mod Lines
 pub mod LineText

@@ -16,6 +16,7 @@
 
 mod entry;
 mod line;
+mod plain_array;
 mod text;
 
 pub use json::Scratch;

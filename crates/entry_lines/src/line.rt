@@ -15,6 +15,7 @@ ghost use Rattle.txn_files.specs.HistoryFile.{is_in_range};
 ghost use Rattle.entry_lines.specs.EntryLine.{entry_found, entry_on, is_blank, is_space};
 
 use crate::entry::entry_with;
+use crate::plain_array::{MAX_ELEMENTS, take_elements};
 use arrayvec::ArrayVec;
 use json::{Reader, Scratch, Token};
 use piece_files::{FileFault, Plain, Stop, pass_value, plain_elements};
@@ -26,9 +27,6 @@ const MAX_LINE: usize = 1000;
 
 /// The greatest depth of nested arrays and objects.
 const MAX_DEPTH: usize = 127;
-
-/// The number of elements of the longest entry: `["busy",0,"put_if",1,10,12,2]`.
-const MAX_ELEMENTS: usize = 7;
 
 /// Whether a byte is white space in JSON.
 fn is_space(byte: u8) -> bool
@@ -110,6 +108,20 @@ fn entry_in_value(reader: &mut Reader<'_>) -> Result<Option<Entry>, Stop>
     }
 }
 
+/// The entry that a text is, or none if it is an array that is no entry. None around it if the text
+/// has no plain form.
+fn entry_in_plain(text: &str) -> Option<Option<Entry>>
+    ensures { IfSome result (λ found. (d : Data) × (read text.now ≡ Some d)
+        × (found ≡ option_and_then entry_of (elements_of d))) }
+{
+    let mut elements = ArrayVec::<Plain<'_>, MAX_ELEMENTS>::new();
+    if take_elements(text, &mut elements) {
+        Some(entry_with(&elements))
+    } else {
+        None
+    }
+}
+
 /// The entry that a text is, or none if it is another value.
 fn entry_in_text(text: &str, scratch: &mut Scratch<Global>) -> Result<Option<Entry>, FileFault>
     ensures { MatchResult result
@@ -117,6 +129,9 @@ fn entry_in_text(text: &str, scratch: &mut Scratch<Global>) -> Result<Option<Ent
         × (found ≡ option_and_then entry_of (elements_of d)))
         (λ fault. Fails fault (or_fault NotJson (read text.now))) }
 {
+    if let Some(found) = entry_in_plain(text) {
+        return Ok(found);
+    }
     let mut reader = Reader::new(text, scratch)?;
     match entry_in_value(&mut reader) {
         Ok(found) if reader.next().is_none() => Ok(found),

@@ -106,7 +106,7 @@ pub fn check<R: Read + Drop, W: Write>(
 /// # Cost
 ///
 /// That of the checker for each entry, some times over, and time and memory in proportion to the
-/// file.
+/// file; for a file that is refused, that of `bad_file`.
 pub fn why<R: Read + Drop, W: Write>(
     alloc: Global,
     by_commits: bool,

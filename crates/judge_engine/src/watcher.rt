@@ -96,6 +96,25 @@ impl Watcher {
         Ok(())
     }
 
+    /// Reads the present line, of which this is the rest. It is read where it lies, unless a part
+    /// of it came before.
+    fn read_rest(&mut self, rest: &[u8]) -> Result<Option<FileFault>, Fault>
+        ensures ok { IfOk result (λ fault. (basis : Basis) (h : List Entry) →
+            IsFedBy basis h self.old.judge →
+            ReadsLine basis h (entry_on (self.old.part.items ++ rest.now)) fault self.new.judge) }
+        ensures part { OnOk result (self.new.part.items ≡ []) }
+        ensures others { OnOk result (self.new.refused ≡ self.old.refused) }
+        ensures err { IfErr result (λ fault. fault ≡ faults.NoMemory) }
+    {
+        if self.part.is_empty() {
+            return read_line(&mut self.judge, &mut self.scratch, rest);
+        }
+        self.part.extend_from_slice(rest)?;
+        let refused = read_line(&mut self.judge, &mut self.scratch, &self.part)?;
+        self.part.clear();
+        Ok(refused)
+    }
+
     /// Takes in the rest of the present line, and its line feed.
     fn end_line(&mut self, piece: &[u8]) -> Result<(), Fault>
         requires { IsUnbroken piece.now }
@@ -107,12 +126,10 @@ impl Watcher {
         if self.refused.is_some() {
             return Ok(());
         }
-        let next = self.number.checked_add(1).ok_or(AllocError)?;
-        self.part.extend_from_slice(piece)?;
-        let refused = read_line(&mut self.judge, &mut self.scratch, &self.part)?;
-        self.part.clear();
-        if let Some(fault) = refused {
-            self.refused = Some((self.number, fault));
+        let number = self.number;
+        let next = number.checked_add(1).ok_or(AllocError)?;
+        if let Some(fault) = self.read_rest(piece)? {
+            self.refused = Some((number, fault));
             return Ok(());
         }
         self.number = next;
