@@ -1,5 +1,5 @@
 //! Transfers between the accounts of a striped map, by one caller and by several in their threads.
-use crate::calls::{Ask, NEW, Row, Told, has_left, open, play};
+use crate::calls::{Ask, NEW, Row, Told, answer, has_left, open, play};
 use accounts::transfer;
 use std::process::Abort;
 use std::sync::Wait;
@@ -96,24 +96,25 @@ fn busy_to_the_end_of_the_holder(rt: HostRuntime) -> Result<(), Fail> {
     Ok(())
 }
 
-/// Commits after a while.
-fn commit_late<R: Abort>(rt: &R, holder: &mut [Caller]) {
+/// The caller of place 0 commits after a while; the other moves 10 meanwhile.
+fn take_part<R: Abort>(rt: &R, caller: &mut Caller, place: usize) {
+    if place > 0 {
+        return must_move(rt, caller, (1, 2, 10, true));
+    }
     for _ in 0..1000u64 {
         thread::yield_now();
     }
-    play(rt, holder, &[(0, Ask::Commit, Told::Number(1))]);
+    let told = answer(caller, Ask::Commit);
+    assert_eq!(rt; told, Told::Number(1));
 }
 
-/// The one moves 10 in its thread, while the other holds a stripe that it needs and then commits.
-fn move_beside<R: Threads + Wait + Abort + Sync>(
-    rt: &R,
-    mover: &mut Caller,
-    holder: &mut [Caller],
-) {
+/// Each caller takes part in a thread of its own.
+fn take_parts<R: Threads + Wait + Abort + Sync>(rt: &R, callers: &mut [Caller]) {
     thread::scope(thread::scope_env(), rt, |scope| {
-        let started = scope.spawn(move || must_move(rt, mover, (1, 2, 10, true)));
-        assert!(rt; started.is_ok(), "a thread");
-        commit_late(rt, holder);
+        for (place, caller) in callers.iter_mut().enumerate() {
+            let started = scope.spawn(move || take_part(rt, caller, place));
+            assert!(rt; started.is_ok(), "a thread");
+        }
     });
 }
 
@@ -121,16 +122,12 @@ fn move_beside<R: Threads + Wait + Abort + Sync>(
 #[test]
 fn busy_tries_again(rt: HostRuntime) -> Result<(), Fail> {
     let (mut host, mut callers) = open(rt.alloc(), 4, 2)?;
-    let Some(mut mover) = callers.pop() else {
-        return Err("a caller".into());
-    };
     let holds = [
         (0, Ask::Begin, Told::Done),
         (0, Ask::Do(Op::Put(1, 15)), NEW),
     ];
     play(&rt, callers.as_mut_slice(), holds.as_slice());
-    move_beside(&rt, &mut mover, callers.as_mut_slice());
-    drop(mover);
+    take_parts(&rt, callers.as_mut_slice());
     drop(callers);
     has_left(&rt, &mut host, &[(1, 5), (2, 10)]);
     Ok(())

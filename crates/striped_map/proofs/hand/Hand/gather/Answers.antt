@@ -1,13 +1,8 @@
-use Rattle.std.proofs.Common.{sym, subst}
-use Rattle.striped_map.specs.Seats.{known}
-use Rattle.striped_map.specs.Sound.{IsSound}
-use Rattle.striped_map.proofs.Sounds.{sound_seen}
+use Rattle.striped_map.proofs.Sounds.{sound_looked}
 use Rattle.striped_map.proofs.hand.Hand.gather.Goals as goal
 
 pub invariant_of-self : goal.invariant_of-self
-invariant_of-self c = let me = c.args.self.now in let n = c.args.map.now.table.shared.table_id.slots in let v = known me.seat in let w = known c.gather.new.seat in
-    let s : IsSound n v me.held.items me.order.items me.levels.items = subst (λ z. IsSound z.slots v me.held.items me.order.items me.levels.items) c.requires.map me.sound in
-    record {
-      sound = subst (λ z. IsSound z.slots w me.held.items me.order.items me.levels.items) (sym c.gather.ensures.seat) (sound_seen n v w me.held.items me.order.items me.levels.items s c.gather.ensures.sees);
-      indexed = me.indexed;
-    }
+invariant_of-self c = record {
+  sound = sound_looked c.args.map.now c.args.self.now c.gather.new.seat c.requires.map c.gather.ensures.seat c.gather.ensures.sees;
+  indexed = c.args.self.now.indexed;
+}
