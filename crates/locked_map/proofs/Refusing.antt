@@ -12,8 +12,8 @@ use Rattle.txn_drive.specs.declared.call.Call.TheVariants as calls
 use Rattle.txn_drive.specs.Drives.{first_step}
 use Rattle.locked_map.specs.Calls.{refused_help, refused_at, refused_by, LeavesBy, WasRefused}
 use Rattle.locked_map.specs.Tokens.{Token}
-use Rattle.locked_map.specs.declared.stop.Stop.{Stop}
-use Rattle.locked_map.specs.declared.stop.Stop.TheVariants as stops
+use Rattle.map_answers.specs.declared.stop.Stop.{Stop}
+use Rattle.map_answers.specs.declared.stop.Stop.TheVariants as stops
 
 pub refuses : (half b : Bool) (o : Option Seat) (call : Call) (seat help r : Option Refusal) → b ≡ false → (b ≡ false → is_some o ≡ true)
     → ((s : Seat) → o ≡ Some s → seat ≡ refusal_in half s (first_step 0 call)) → help ≡ refused_help half call → r ≡ option_or seat help → r ≡ refused_at half b o call

@@ -1,5 +1,6 @@
 -- The caller after a shared call.
-use Rattle.std.specs.Prelude.{ℕ, ◌≡◌, ◌≤◌, ◌⊎◌, if◌then◌else◌, Bool, true, false, List, ◌++◌, length, Option, Some, None, is_some, Result, Ok, Err}
+use Rattle.std.specs.Prelude.{ℕ, ◌≡◌, ◌≤◌, ◌⊎◌, if◌then◌else◌, Bool, true, false, List, ◌++◌}
+use Rattle.std.specs.Prelude.{length, Option, Some, None, is_some, Result, Ok, Err}
 use Rattle.std.specs.Option.{option_or}
 use Rattle.txn_trace.specs.declared.entry.Entry.{Entry}
 use Rattle.txn_trace.specs.declared.refusal.Refusal.{Refusal}
@@ -19,8 +20,8 @@ use Rattle.locked_map.specs.Sides.{Follows}
 use Rattle.undo_log.specs.Sides.{IsSameSide}
 use Rattle.locked_map.specs.Suits.{may_refuse}
 use Rattle.locked_map.specs.Tokens.{Token, IsSameCaller, IsSameSeen}
-use Rattle.locked_map.specs.declared.stop.Stop.{Stop}
-use Rattle.locked_map.specs.declared.stop.Stop.TheVariants as stops
+use Rattle.map_answers.specs.declared.stop.Stop.{Stop}
+use Rattle.map_answers.specs.declared.stop.Stop.TheVariants as stops
 
 -- The refusal of help by its key; the argument says whether the map takes only half keys.
 abbrev pub refused_help : Bool → Call → Option Refusal

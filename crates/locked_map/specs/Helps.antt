@@ -3,7 +3,8 @@ use Rattle.std.specs.Prelude.{ℕ, ◌≡◌, ◌%◌}
 use Rattle.txn_drive.specs.declared.call.Call.TheVariants as calls
 use Rattle.txn_drive.specs.declared.drive.Drive.{Drive}
 use Rattle.txn_drive.specs.declared.phase.Phase.{Phase}
-use Rattle.txn_drive.specs.declared.phase.Phase.TheVariants.{Doubling, Initialising, Linking, Storing}
+use Rattle.txn_drive.specs.declared.phase.Phase.TheVariants.{Doubling, Initialising, Linking}
+use Rattle.txn_drive.specs.declared.phase.Phase.TheVariants.{Storing}
 
 abbrev pub IsDoubling : Phase → Type 0
 IsDoubling (Doubling seen) = Unit {0}

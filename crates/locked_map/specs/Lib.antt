@@ -6,4 +6,5 @@ pub mod Holds
 pub mod Noted
 pub mod Sides
 pub mod Suits
+pub mod Texts
 pub mod Tokens

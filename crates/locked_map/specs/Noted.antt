@@ -1,11 +1,13 @@
 -- The entries that a caller has seen, and the room for more.
-use Rattle.std.specs.Prelude.{ℕ, ◌≡◌, ◌+◌, ◌<◌, ◌≤◌, Bool, true, false, List, length, Some, is_some, vec_capacity}
+use Rattle.std.specs.Prelude.{ℕ, ◌≡◌, ◌+◌, ◌<◌, ◌≤◌, Bool, true, false, List, length, Some, is_some}
+use Rattle.std.specs.Prelude.{vec_capacity}
 use Rattle.std.specs.Global.{Vec}
 use Rattle.std.specs.List.{fold}
 use Rattle.txn_trace.specs.declared.entry.Entry.{Entry}
 use Rattle.txn_trace.specs.declared.entry.Entry.TheVariants.{Began}
 use Rattle.txn_trace.specs.declared.step.Step.{Step}
-use Rattle.txn_trace.specs.declared.step.Step.TheVariants.{Begin, Ask, Act, Save, Back, Commit, Abort}
+use Rattle.txn_trace.specs.declared.step.Step.TheVariants.{Begin, Ask, Act, Save, Back, Commit}
+use Rattle.txn_trace.specs.declared.step.Step.TheVariants.{Abort}
 use Rattle.txn_trace.specs.Shape.{RoomySeat, seat_after}
 use Rattle.txn_trace.specs.Owed.{owed_by, reserved}
 

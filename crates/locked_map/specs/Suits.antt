@@ -1,5 +1,6 @@
 -- The phases of a drive that suit a caller's seat and the core.
-use Rattle.std.specs.Prelude.{ℕ, ◌≡◌, ◌<◌, ◌≤◌, Bool, true, false, not, List, length, Option, Some, None, is_some}
+use Rattle.std.specs.Prelude.{ℕ, ◌≡◌, ◌<◌, ◌≤◌, Bool, true, false, not, List, length, Option, Some}
+use Rattle.std.specs.Prelude.{None, is_some}
 use Rattle.split_key.specs.Split.{parent_of, IsAncestor}
 use Rattle.txn_trace.specs.declared.entry.Entry.{Entry}
 use Rattle.txn_trace.specs.declared.refusal.Refusal.{Refusal}
@@ -15,7 +16,9 @@ use Rattle.txn_drive.specs.declared.drive.Drive.{Drive}
 use Rattle.txn_drive.specs.declared.«end».End.{End}
 use Rattle.txn_drive.specs.declared.«end».End.TheVariants as ends
 use Rattle.txn_drive.specs.declared.phase.Phase.{Phase}
-use Rattle.txn_drive.specs.declared.phase.Phase.TheVariants.{Fresh, Seeking, Acting, Doubling, Initialising, Linking, Storing, First, Last, Lost, Helped, Refused}
+use Rattle.txn_drive.specs.declared.phase.Phase.TheVariants.{Fresh, Seeking, Acting, Doubling}
+use Rattle.txn_drive.specs.declared.phase.Phase.TheVariants.{Initialising, Linking, Storing, First}
+use Rattle.txn_drive.specs.declared.phase.Phase.TheVariants.{Last, Lost, Helped, Refused}
 use Rattle.txn_drive.specs.declared.phase.Work.{Work}
 use Rattle.txn_drive.specs.declared.phase.Work.TheVariants.{Operation, Busy, Leaving}
 use Rattle.txn_drive.specs.declared.way.Way.{Way}

@@ -1,6 +1,7 @@
 //! A caller's token: its seat after its own entries, its rights and its side value. Invariant: its
 //! share of the ledger counts as many entries as `seen` has. The shared calls are in `calls.rt`.
-ghost use Rattle.std.specs.Prelude.{◌≡◌, ◌≢◌, ◌<◌, true, false, is_some, length, unwrap_or, Some, None, [], ◌∷◌, List, ◌+◌, IfSome, IfNone, IfErr, OnOk, OnErr};
+ghost use Rattle.std.specs.Prelude.{◌≡◌, ◌≢◌, ◌<◌, true, false, is_some, length, unwrap_or, Some};
+ghost use Rattle.std.specs.Prelude.{None, [], ◌∷◌, List, ◌+◌, IfSome, IfNone, IfErr, OnOk, OnErr};
 ghost use Rattle.txn_trace.specs.declared.entry.Entry.{Entry};
 ghost use Rattle.txn_trace.specs.declared.refusal.Refusal.{Refusal};
 ghost use Rattle.txn_trace.specs.Shape.{Seat, seat_after};
@@ -12,7 +13,8 @@ ghost use Rattle.locked_map.specs.Holds.{Held, InStep, IsGoing, GoesTo, out_if};
 ghost use Rattle.locked_map.specs.Noted.{last_txn};
 ghost use Rattle.locked_map.specs.Sides.{CanFollow, Follows, IsReadyFor};
 ghost use Rattle.undo_log.specs.Sides.{IsSameSide};
-ghost use Rattle.locked_map.specs.Tokens.{HasTried, HasTriedNext, IsSameButSide, IsSameCaller, IsSameClaims, IsSameSeen, IsSeated, is_over};
+ghost use Rattle.locked_map.specs.Tokens.{HasTried, HasTriedNext, IsSameButSide, IsSameCaller};
+ghost use Rattle.locked_map.specs.Tokens.{IsSameClaims, IsSameSeen, IsSeated, is_over};
 
 use crate::booked::Booked;
 use crate::claims::Claims;

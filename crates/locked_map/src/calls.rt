@@ -15,7 +15,8 @@
 //! - `leaves`: that the token let it pass, or the reason why it was not done and the state after
 //!   it; and that after `OutOfStep` every call is refused with it and nothing changes any more
 //!   (`Leaves` in `specs/Calls.antt`).
-ghost use Rattle.std.specs.Prelude.{◌≡◌, ◌↔◌, ℕ, ◌+◌, [], ◌∷◌, ◌++◌, length, None, Some, true, false, Err, IfOk, IfErr, OnOk};
+ghost use Rattle.std.specs.Prelude.{◌≡◌, ◌↔◌, ℕ, ◌+◌, [], ◌∷◌, ◌++◌, length, None, Some, true};
+ghost use Rattle.std.specs.Prelude.{false, Err, IfOk, IfErr, OnOk};
 ghost use Rattle.txn_trace.specs.declared.entry.Entry.TheVariants as entries;
 ghost use Rattle.txn_trace.specs.Shape.{Seat, seat_after};
 ghost use Rattle.txn_trace.specs.Sizes.{is_bad_key};
@@ -29,8 +30,8 @@ ghost use Rattle.locked_map.specs.Tokens.{IsSameButSide};
 use crate::caller::Caller;
 use crate::receipt::Receipt;
 use crate::shared_map::SharedMap;
-use crate::stop::Stop;
 use boost_core::{Call, End};
+use map_answers::Stop;
 use std::sync::Wait;
 use std::sync::ledger::Ledger;
 use txn_trace::{Answer, Op, Refusal, Reply};

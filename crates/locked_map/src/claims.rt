@@ -4,7 +4,8 @@ ghost use Rattle.std.specs.Prelude.{◌≡◌, ◌<◌, [], true, None, IfErr, O
 ghost use Rattle.txn_trace.specs.Locks.{stripe_of};
 ghost use Rattle.txn_trace.specs.Map.{key_of};
 ghost use Rattle.boost_core.specs.Words.{Goes};
-ghost use Rattle.locked_map.specs.Claims.{HasTriedAt, HasTriedStep, IsIdle, Tries, claim_in, claims_at};
+ghost use Rattle.locked_map.specs.Claims.{HasTriedAt, HasTriedStep, IsIdle, Tries, claim_in};
+ghost use Rattle.locked_map.specs.Claims.{claims_at};
 
 use boost_core::{Core, End};
 use key_words::{KeySeat, KeyWords, Rights, Tried};

@@ -5,7 +5,8 @@ ghost use Rattle.std.specs.List.{list_any, sum_by};
 ghost use Rattle.txn_trace.specs.declared.holder.Holder.TheVariants.{Begun};
 ghost use Rattle.txn_trace.specs.Legal.{IsLegal};
 ghost use Rattle.txn_trace.specs.Shape.{own};
-ghost use Rattle.locked_map.specs.Closes.{AreCounted, IsAllHere, IsBeside, IsCounted, IsOwn, IsWhy, back_of};
+ghost use Rattle.locked_map.specs.Closes.{AreCounted, IsAllHere, IsBeside, IsCounted, IsOwn, IsWhy};
+ghost use Rattle.locked_map.specs.Closes.{back_of};
 
 use crate::booked::Booked;
 use crate::caller::Caller;

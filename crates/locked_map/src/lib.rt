@@ -16,7 +16,8 @@
 //!   rights until its transaction has committed or aborted, and then gives all of them back outside
 //!   the lock. So a Busy entry may name a caller whose transaction has just ended.
 //! - Between two holds a token knows of the core only its own entries, and the seat that they give
-//!   it. If the core's answer is impossible by these, the call ends with `OutOfStep`.
+//!   it. If the core's answer is impossible by these, the call ends with `OutOfStep`, and so does
+//!   every later call of the token.
 //! - `SharedMap::close` takes all tokens back and compares: the history is legal, each caller's own
 //!   entries in it are its `seen`, and there are no others, since a ledger counts them. The ledger
 //!   is `std`'s `sync::ledger`: the lock's value, `Booked`, holds the book, each token a share. Its
@@ -56,16 +57,15 @@ mod pass;
 mod receipt;
 mod seen;
 mod shared_map;
-mod stop;
 mod turns;
 mod unclosed;
 
 pub use booked::Booked;
 pub use caller::Caller;
 pub use closed::Closed;
+pub use map_answers::Stop;
 pub use no_side::{NoJob, NoSide};
 pub use pass::Pass;
 pub use receipt::Receipt;
 pub use shared_map::{OnRelease, SharedMap};
-pub use stop::Stop;
 pub use unclosed::Unclosed;

@@ -1,6 +1,7 @@
 //! The entries that a caller has seen, with its seat after them and its share of the ledger.
 //! Invariant: there is room for all that the caller owes, and the share counts the entries.
-ghost use Rattle.std.specs.Prelude.{◌≡◌, ◌+◌, ◌<◌, ◌≤◌, ◌^◌, ℕ, true, [], ◌++◌, is_some, length, Some, OnOk, OnErr};
+ghost use Rattle.std.specs.Prelude.{◌≡◌, ◌+◌, ◌<◌, ◌≤◌, ◌^◌, ℕ, true, [], ◌++◌, is_some, length};
+ghost use Rattle.std.specs.Prelude.{Some, OnOk, OnErr};
 ghost use Rattle.txn_trace.specs.Entries.{entries_of};
 ghost use Rattle.txn_trace.specs.Owed.{owed_by};
 ghost use Rattle.txn_trace.specs.Shape.{Seat as Standing, seat_after};

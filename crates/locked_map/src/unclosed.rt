@@ -30,6 +30,11 @@ impl<L: Ledger, S: Side> fmt::Debug for Unclosed<L, S> {
 
 /// A sentence without its full stop.
 impl<L: Ledger, S: Side> fmt::Display for Unclosed<L, S> {
+    ghost use Rattle.std.specs.Prelude.{Some};
+    ghost use Rattle.locked_map.specs.Texts.{unclosed_text};
+
+    ghost output = { λ why. Some (unclosed_text why) };
+
     fn fmt<W: fmt::Write>(&self, f: &mut fmt::Formatter<W>) -> fmt::Result {
         match self {
             Unclosed::Missing(..) => {

@@ -11,8 +11,8 @@ use Rattle.txn_drive.specs.Made.{undone_by}
 use Rattle.locked_map.specs.Noted.{last_txn}
 use Rattle.locked_map.specs.Calls.{LeavesBy, Passed, Stopped}
 use Rattle.locked_map.specs.Tokens.{Token}
-use Rattle.locked_map.specs.declared.stop.Stop.{Stop}
-use Rattle.locked_map.specs.declared.stop.Stop.TheVariants as stops
+use Rattle.map_answers.specs.declared.stop.Stop.{Stop}
+use Rattle.map_answers.specs.declared.stop.Stop.TheVariants as stops
 use Rattle.shared_transactions.specs.Keeps.{Keeps}
 use Rattle.shared_transactions.specs.Within.{GoesOn, is_quiet}
 use Rattle.shared_transactions.proofs.Within.{Adds, BeginsNone, adds, adds_undoing, append_none, undone_none, same_txn, not_broken, steady_after, goes_on}

@@ -24,15 +24,16 @@ use Rattle.txn_drive.specs.Drives.{first_step}
 use Rattle.txn_drive.specs.Made.{undone_by, IsMade}
 use Rattle.locked_map.specs.Calls.{Ended, Ran, FellOut, Failed, WasRefused, refused_by, refused_at}
 use Rattle.locked_map.specs.Holds.{CommitNothing}
-use Rattle.locked_map.specs.Tokens.{Token, IsSameCaller}
+use Rattle.locked_map.specs.Tokens.{Token, IsSameCaller, is_over}
 use Rattle.locked_map.specs.Noted.{began_by, last_txn}
-use Rattle.shared_transactions.specs.Within.{is_steady, is_steady_in, is_over, IsOver, IsSince, GoesOn, IsTakenBack, IsUndone, IsBegun, IsCommitted, IsRun, is_quiet}
+use Rattle.shared_transactions.specs.Within.{is_steady, is_steady_in, IsOver, IsSince, GoesOn, IsTakenBack, IsUndone, IsBegun, IsCommitted, IsRun, is_quiet}
 use Rattle.shared_transactions.specs.Keeps.{Keeps}
+use Rattle.shared_transactions.specs.Tries.{IsNotBegun, is_busy_stop}
 use Rattle.std.specs.Borrow.{MutBor}
-use Rattle.locked_map.specs.declared.stop.Stop.{Stop}
-use Rattle.locked_map.specs.declared.stop.Stop.TheVariants as stops
+use Rattle.map_answers.specs.declared.stop.Stop.{Stop}
+use Rattle.map_answers.specs.declared.stop.Stop.TheVariants as stops
 use Rattle.locked_map.specs.Calls.{Stopped, Passed, LeavesBy}
-use Rattle.std.specs.Prelude.{Result, Err}
+use Rattle.std.specs.Prelude.{Result, Ok, Err, IfErr}
 
 undone_quiet : (c k : ℕ) → CommitNothing (undone_by c k)
 undone_quiet c zero = refl
@@ -209,6 +210,10 @@ failed : {S : Type 0} (base k : Token S) (call : Call) (refusal : Refusal) (l : 
 failed base k call OutOfStep l since free fell = fell_out base k call l since fell
 failed base k call refusal l since free found = stays base k l since found.whose found.seen (λ _. not_broken k call free)
 
+since_refused : {S : Type 0} (base k : Token S) (call : Call) (r : Refusal) (l : Token S) → IsSince base k → WasRefused k call r l → IsSince base l
+since_refused base k call r l since (inl (free, same)) = subst (IsSince base) (sym same) since
+since_refused base k call r l since (inr (free, fell)) = failed base k call r l since free fell
+
 abbrev is_refused : End → Bool
 is_refused (ends.Refused r) = true
 is_refused outcome = false
@@ -235,8 +240,7 @@ ran words base k call outcome l since inner sound did =
 
 -- A call within a transaction leaves its token in it, or has aborted it, or has broken the token.
 pub since_ended : {S : Type 0} (words : S → List ℕ) (base k : Token S) (call : Call) (outcome : End) (l : Token S) → IsSince base k → is_quiet call ≡ true → Ended words k call outcome l → IsSince base l
-since_ended words base k call (ends.Refused r) l since inner (inl (free, same)) = subst (IsSince base) (sym same) since
-since_ended words base k call (ends.Refused r) l since inner (inr (free, fell)) = failed base k call r l since free fell
+since_ended words base k call (ends.Refused r) l since inner refused = since_refused base k call r l since refused
 since_ended words base k call (ends.Answered a) l since inner did = ran words base k call (ends.Answered a) l since inner refl did
 since_ended words base k call (ends.Busy x) l since inner did = ran words base k call (ends.Busy x) l since inner refl did
 since_ended words base k call ends.Helped l since inner did = ran words base k call ends.Helped l since inner refl did
@@ -297,18 +301,6 @@ whose_ended words k call (ends.Answered a) l did = did.whose
 whose_ended words k call (ends.Busy x) l did = did.whose
 whose_ended words k call ends.Helped l did = did.whose
 
--- What a call leaves that was stopped.
-since_stopped : {S : Type 0} (words : S → List ℕ) (base k : Token S) (call : Call) (stop : Stop) (l : Token S) → IsSince base k → Stopped words k call stop l → IsSince base l
-since_stopped words base k call (stops.Refused r) l since (inl (free, same)) = subst (IsSince base) (sym same) since
-since_stopped words base k call (stops.Refused r) l since (inr (free, fell)) = failed base k call r l since free fell
-since_stopped words base k calls.Begin (stops.Busy x) l since did = absurd did.made
-since_stopped words base k calls.Commit (stops.Busy x) l since did = absurd did.made
-since_stopped words base k (calls.Op op) (stops.Busy x) l since did = ran words base k (calls.Op op) (ends.Busy x) l since refl refl did
-since_stopped words base k calls.Save (stops.Busy x) l since did = absurd did.made
-since_stopped words base k (calls.Back n) (stops.Busy x) l since did = absurd did.made
-since_stopped words base k calls.Abort (stops.Busy x) l since did = absurd did.made
-since_stopped words base k (calls.Help key) (stops.Busy x) l since did = absurd did.made
-
 over_steady : (seat : Option Seat) → is_over seat ≡ true → is_steady seat ≡ true
 over_steady None over = refl
 over_steady (Some s) over = in_phase s.phase over
@@ -336,10 +328,13 @@ over_stopped words k (stops.Refused r) l over (inl (free, same)) = subst IsOver 
 over_stopped words k (stops.Refused OutOfStep) l over (inr (free, fell)) = λ sound. absurd (false≢true (sym sound ∙ fell.broken))
 over_stopped words k (stops.Refused r) l over (inr (free, found)) = λ sound. ap (λ es. is_over (seat_after es)) found.seen ∙ over (not_broken k calls.Begin free)
 
+sound_refused : {S : Type 0} (k : Token S) (call : Call) (r : Refusal) (l : Token S) → WasRefused k call r l → l.broken ≡ false → k.broken ≡ false
+sound_refused k call r l (inl (free, same)) = λ sound. sym (ap (λ (t : Token _). t.broken) same) ∙ sound
+sound_refused k call r l (inr (free, failed)) = λ sound. not_broken k call free
+
 -- Whether a token that a call left is not broken.
 pub sound_ended : {S : Type 0} (words : S → List ℕ) (k : Token S) (call : Call) (outcome : End) (l : Token S) → Ended words k call outcome l → l.broken ≡ false → k.broken ≡ false
-sound_ended words k call (ends.Refused r) l (inl (free, same)) = λ sound. sym (ap (λ (t : Token _). t.broken) same) ∙ sound
-sound_ended words k call (ends.Refused r) l (inr (free, failed)) = λ sound. not_broken k call free
+sound_ended words k call (ends.Refused r) l refused = sound_refused k call r l refused
 sound_ended words k call (ends.Answered a) l did = λ sound. not_broken k call did.free
 sound_ended words k call (ends.Busy x) l did = λ sound. not_broken k call did.free
 sound_ended words k call ends.Helped l did = λ sound. not_broken k call did.free
@@ -367,9 +362,12 @@ txn_failed : {S : Type 0} (k : Token S) (call : Call) (r : Refusal) (l : Token S
 txn_failed k call OutOfStep l fell = λ sound. absurd (false≢true (sym sound ∙ fell.broken))
 txn_failed k call r l found = λ sound. ap last_txn found.seen
 
+txn_refused : {S : Type 0} (k : Token S) (call : Call) (r : Refusal) (l : Token S) → WasRefused k call r l → l.broken ≡ false → last_txn l.seen ≡ last_txn k.seen
+txn_refused k call r l (inl (free, same)) = λ sound. ap (λ (t : Token _). last_txn t.seen) same
+txn_refused k call r l (inr (free, failed)) = txn_failed k call r l failed
+
 txn_ended : {S : Type 0} (words : S → List ℕ) (k : Token S) (call : Call) (outcome : End) (l : Token S) → is_quiet call ≡ true → Ended words k call outcome l → l.broken ≡ false → last_txn l.seen ≡ last_txn k.seen
-txn_ended words k call (ends.Refused r) l inner (inl (free, same)) = λ sound. ap (λ (t : Token _). last_txn t.seen) same
-txn_ended words k call (ends.Refused r) l inner (inr (free, failed)) = txn_failed k call r l failed
+txn_ended words k call (ends.Refused r) l inner refused = txn_refused k call r l refused
 txn_ended words k call (ends.Answered a) l inner did = λ sound. txn_ran words k call (ends.Answered a) l inner refl did
 txn_ended words k call (ends.Busy x) l inner did = λ sound. txn_ran words k call (ends.Busy x) l inner refl did
 txn_ended words k call ends.Helped l inner did = λ sound. txn_ran words k call ends.Helped l inner refl did
@@ -383,6 +381,15 @@ goes_on words k call outcome l inner ended = record {
   txn = txn_ended words k call outcome l inner ended;
 }
 
+-- One token after another.
+pub goes_further : {S : Type 0} (k l m : Token S) → GoesOn k l → GoesOn l m → GoesOn k m
+goes_further k l m first second = record {
+  since = λ base since. second.since base (first.since base since);
+  whose = record { number = second.whose.number ∙ first.whose.number; limits = second.whose.limits ∙ first.whose.limits };
+  sound = λ sound. first.sound (second.sound sound);
+  txn = λ sound. second.txn sound ∙ first.txn (second.sound sound);
+}
+
 pub keeps_by : {S : Type 0} (words : S → List ℕ) (old new : MutBor (Token S)) (call : Call) (outcome : End) → new.ghost_name ≡ old.ghost_name → is_quiet call ≡ true → Ended words old.now call outcome new.now → Keeps old new
 keeps_by words old new call outcome same inner ended = record { same_token = same; goes_on = goes_on words old.now call outcome new.now inner ended }
 
@@ -393,29 +400,42 @@ keeps_stay me = record { same_token = refl; goes_on = record { since = λ base s
 pub keeps_on : {S : Type 0} (old between new : MutBor (Token S)) → Keeps old between → Keeps between new → Keeps old new
 keeps_on old between new first second = record {
   same_token = second.same_token ∙ first.same_token;
-  goes_on = record {
-    since = λ base since. second.goes_on.since base (first.goes_on.since base since);
-    whose = record { number = second.goes_on.whose.number ∙ first.goes_on.whose.number; limits = second.goes_on.whose.limits ∙ first.goes_on.whose.limits };
-    sound = λ sound. first.goes_on.sound (second.goes_on.sound sound);
-    txn = λ sound. second.goes_on.txn sound ∙ first.goes_on.txn (second.goes_on.sound sound);
-  };
+  goes_on = goes_further old.now between.now new.now first.goes_on second.goes_on;
 }
 
 -- An abort.
 pub taken_back_by : {S : Type 0} (words : S → List ℕ) (k : Token S) (outcome : End) (l : Token S) → Ended words k calls.Abort outcome l → IsTakenBack k l
 taken_back_by words k outcome l ended = record {
-  since = λ base since. since_ended words base k calls.Abort outcome l since refl ended;
+  goes_on = goes_on words k calls.Abort outcome l refl ended;
   over = λ base since. over_ended words base k outcome l since ended;
+}
+
+-- A call that was refused, whichever it is.
+refused_on : {S : Type 0} (k : Token S) (call : Call) (r : Refusal) (l : Token S) → WasRefused k call r l → GoesOn k l
+refused_on k call r l refused = record {
+  since = λ base since. since_refused base k call r l since refused;
+  whose = whose_refused k call r l refused;
+  sound = sound_refused k call r l refused;
+  txn = txn_refused k call r l refused;
 }
 
 -- A commit that was refused, and the abort after it.
 pub not_committed : {S T : Type 0} (words : S → List ℕ) (k : Token S) (result : Result T Stop) (stop : Stop) (l m : Token S) → result ≡ Err stop → LeavesBy words k calls.Commit result l → IsTakenBack l m → IsTakenBack k m
 not_committed words k result stop l m is leaves back =
-    let stopped : Stopped words k calls.Commit stop l = subst (λ r. LeavesBy words k calls.Commit r l) is leaves in
-    record {
-      since = λ base since. back.since base (since_stopped words base k calls.Commit stop l since stopped);
-      over = λ base since. back.over base (since_stopped words base k calls.Commit stop l since stopped);
-    }
+    after stop (subst (λ r. LeavesBy words k calls.Commit r l) is leaves)
+  where
+    after : (stop : Stop) → Stopped words k calls.Commit stop l → IsTakenBack k m
+    after (stops.Busy x) did = absurd did.made
+    after (stops.Refused r) refused =
+        let on : GoesOn k l = refused_on k calls.Commit r l refused in
+        record { goes_on = goes_further k l m on back.goes_on; over = λ base since. back.over base (on.since base since) }
+
+pub not_busy : {S T : Type 0} (words : S → List ℕ) (k : Token S) (result : Result T Stop) (stop : Stop) (l : Token S) → result ≡ Err stop → LeavesBy words k calls.Commit result l → is_busy_stop stop ≡ false
+not_busy words k result stop l is leaves = after stop (subst (λ r. LeavesBy words k calls.Commit r l) is leaves)
+  where
+    after : (stop : Stop) → Stopped words k calls.Commit stop l → is_busy_stop stop ≡ false
+    after (stops.Busy x) did = absurd did.made
+    after (stops.Refused r) refused = refl
 
 -- A commit.
 pub committed : {S : Type 0} (k l : Token S) (txn place : ℕ) → txn ≡ last_txn k.seen → l.seen ≡ k.seen ++ entries.Committed k.number place ∷ [] → Passed k calls.Commit l → IsCommitted txn place k l
@@ -446,13 +466,20 @@ over_free k free = λ sound. at k.broken (seat_after k.seen) free
 pub begun : {S : Type 0} (k l : Token S) (txn : ℕ) → l.seen ≡ k.seen ++ entries.Began k.number txn ∷ [] → Passed k calls.Begin l → IsBegun k txn l × IsOver k
 begun k l txn seen passed = (record { seen = seen; whose = passed.whose }, over_free k passed.free)
 
-pub not_begun : {S T : Type 0} (words : S → List ℕ) (k : Token S) (result : Result T Stop) (stop : Stop) (l : Token S) → result ≡ Err stop → LeavesBy words k calls.Begin result l → IsUndone k l
-not_begun words k result stop l is leaves =
-    let stopped : Stopped words k calls.Begin stop l = subst (λ r. LeavesBy words k calls.Begin r l) is leaves in
-    record {
-      since = λ base since. since_stopped words base k calls.Begin stop l since stopped;
-      over = λ over. over_stopped words k stop l over stopped;
+pub not_begun : {S T : Type 0} (words : S → List ℕ) (k : Token S) (result : Result T Stop) (l : Token S) → LeavesBy words k calls.Begin result l → IfErr result (λ stop. IsNotBegun stop k l)
+not_begun words k (Ok txn) l leaves = tt
+not_begun words k (Err stop) l leaves = after stop leaves
+  where
+    after : (stop : Stop) → Stopped words k calls.Begin stop l → IsNotBegun stop k l
+    after (stops.Busy x) did = absurd did.made
+    after (stops.Refused r) refused = record {
+      refused = refl;
+      goes_on = refused_on k calls.Begin r l refused;
+      over = λ over. over_stopped words k (stops.Refused r) l over refused;
     }
+
+pub undone_not_begun : {S : Type 0} (stop : Stop) (k l : Token S) → IsNotBegun stop k l → IsUndone k l
+undone_not_begun stop k l none = record { since = none.goes_on.since; over = none.over }
 
 since_begun : {S : Type 0} (base k l : Token S) (txn : ℕ) → IsSince base k → IsBegun k txn l → IsSince base l
 since_begun base k l txn since begun = adds base k l (entries.Began k.number txn ∷ []) since begun.whose begun.seen (record { quiet = refl; steady = λ xs. steady_after xs (entries.Began k.number txn) tt })
@@ -460,7 +487,7 @@ since_begun base k l txn since begun = adds base k l (entries.Began k.number txn
 -- A transaction that began, went on and was taken back.
 pub undone_after : {S : Type 0} (k t u m : Token S) (txn : ℕ) → IsBegun k txn t → GoesOn t u → IsTakenBack u m → IsUndone k m
 undone_after k t u m txn begun goes_on back = record {
-  since = λ base since. back.since base (goes_on.since base (since_begun base k t txn since begun));
+  since = λ base since. back.goes_on.since base (goes_on.since base (since_begun base k t txn since begun));
   over = λ over. back.over k (goes_on.since k (since_begun k k t txn (since_start k over) begun));
 }
 

@@ -1,2 +1,4 @@
 pub mod Within
 pub mod Keeps
+pub mod Tries
+pub mod Restarted

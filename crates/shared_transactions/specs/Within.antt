@@ -1,16 +1,16 @@
 -- What the calls within a transaction leave of a caller's token, and what its end does.
-use Rattle.std.specs.Prelude.{ℕ, ◌≡◌, Bool, true, false, List, [], ◌∷◌, ◌++◌, Option, Some, None, is_some}
+use Rattle.std.specs.Prelude.{ℕ, ◌≡◌, Bool, true, false, List, [], ◌∷◌, ◌++◌, Option, Some, None}
+use Rattle.std.specs.Prelude.{is_some}
 use Rattle.txn_trace.specs.declared.entry.Entry.TheVariants.{Began, Committed}
 use Rattle.txn_trace.specs.declared.entry.Entry.{Entry}
 use Rattle.txn_trace.specs.declared.seat.Phase.{Phase}
 use Rattle.txn_trace.specs.declared.seat.Phase.TheVariants.{Closed, Opened}
-use Rattle.txn_trace.specs.Seats.{is_closed}
 use Rattle.txn_trace.specs.Shape.{Seat, seat_after}
 use Rattle.txn_drive.specs.declared.call.Call.{Call}
 use Rattle.txn_drive.specs.declared.call.Call.TheVariants as calls
 use Rattle.locked_map.specs.Holds.{CommitNothing}
 use Rattle.locked_map.specs.Noted.{last_txn}
-use Rattle.locked_map.specs.Tokens.{Token, IsSameCaller}
+use Rattle.locked_map.specs.Tokens.{Token, IsSameCaller, is_over}
 
 -- Nothing is unfinished: there is no transaction, or one that can go on.
 abbrev pub is_steady_in : Phase → Bool
@@ -21,11 +21,6 @@ is_steady_in phase = false
 abbrev pub is_steady : Option Seat → Bool
 is_steady None = true
 is_steady (Some s) = is_steady_in s.phase
-
--- There is no transaction.
-abbrev pub is_over : Option Seat → Bool
-is_over None = true
-is_over (Some s) = is_closed s.phase
 
 -- The caller has no transaction. Of a broken token, of which every call is refused, nothing is
 -- said.
@@ -49,10 +44,10 @@ pub record GoesOn {S : Type 0} (k l : Token S) : Type 0 where
   pub sound : l.broken ≡ false → k.broken ≡ false
   pub txn : l.broken ≡ false → last_txn l.seen ≡ last_txn k.seen
 
--- A transaction was taken back: there is none any more, if nothing was unfinished, and nothing was
--- committed.
+-- A transaction was taken back, and no other was begun: there is none any more, if nothing was
+-- unfinished.
 pub record IsTakenBack {S : Type 0} (k l : Token S) : Type 0 where
-  pub since : (base : Token S) → IsSince base k → IsSince base l
+  pub goes_on : GoesOn k l
   pub over : (base : Token S) → IsSince base k → IsOver l
 
 -- Nothing stands of a transaction that was refused or taken back: where there was none before,

@@ -1,13 +1,15 @@
 //! Work that is run in a transaction, and begun anew if another caller holds a stripe.
 //!
-//! `Attempts` stands between `transact` and `Transaction`, since a bound cannot name the latter: its
-//! parameter `L` is owned by a ghost member of a bound.
-ghost use Rattle.std.specs.Prelude.{◌≡◌, IfOk, OnErr, Ok};
+//! `Attempts` stands between `transact` and `Transaction`, since a bound cannot name the latter:
+//! its parameter `L` is owned by a ghost member of a bound.
+ghost use Rattle.std.specs.Prelude.{◌≡◌, true, false, IfOk, IfErr, OnErr, Ok};
 ghost use Rattle.std.specs.Borrow.{MutBor};
 ghost use Rattle.locked_map.specs.Tokens.{Token};
 ghost use Rattle.locked_map.specs.declared.no_side.NoSide.{NoSide};
 ghost use Rattle.shared_transactions.specs.Keeps.{Keeps};
-ghost use Rattle.shared_transactions.specs.Within.{IsBegun, IsCommitted, IsOver, IsRun, IsTakenBack, IsUndone};
+ghost use Rattle.shared_transactions.specs.Tries.{Fails, GivesUp, HasTried, IsNotBegun, is_busy};
+ghost use Rattle.shared_transactions.specs.Within.{IsBegun, IsCommitted, IsOver, IsRun};
+ghost use Rattle.shared_transactions.specs.Within.{IsTakenBack, IsUndone};
 
 use crate::retry::Retry;
 use locked_map::{Receipt, Stop};
@@ -23,23 +25,27 @@ pub trait Attempts {
         ensures same_token { (me self.new).ghost_name ≡ (me self.old).ghost_name }
         ensures ok { IfOk result (λ txn. IsBegun (me self.old).now txn (me self.new).now
             × IsOver (me self.old).now) }
-        ensures err { OnErr result (IsUndone (me self.old).now (me self.new).now) };
+        ensures err { IfErr result (λ stop. IsNotBegun stop (me self.old).now (me self.new).now) };
 
     /// Commits, or aborts where that is refused.
     fn finish(&mut self) -> Result<Receipt, Stop>
         ensures same_token { (me self.new).ghost_name ≡ (me self.old).ghost_name }
         ensures ok { IfOk result (λ receipt. IsCommitted receipt.txn receipt.place
             (me self.old).now (me self.new).now) }
-        ensures err { OnErr result (IsTakenBack (me self.old).now (me self.new).now) };
+        ensures err { OnErr result (IsTakenBack (me self.old).now (me self.new).now) }
+        ensures refused { is_busy result ≡ false };
 
     /// Aborts.
     fn give_up(&mut self)
         ensures same_token { (me self.new).ghost_name ≡ (me self.old).ghost_name }
         ensures back { IsTakenBack (me self.old).now (me self.new).now };
+
+    /// Waits after the try of a round, from 0, as `retry` says.
+    fn wait(&self, retry: Retry, round: u64);
 }
 
 /// Begins, runs the work, and commits; or aborts.
-#[tactic(auto, using(crate::proofs::Within::undone_after))]
+#[tactic(auto, using(crate::proofs::Within::undone_after, crate::proofs::Within::undone_not_begun))]
 fn attempt<T: Drop, G: Attempts, F: Fn(&mut G) -> Result<T, Stop>>(
     it: &mut G,
     work: &F,
@@ -48,11 +54,13 @@ fn attempt<T: Drop, G: Attempts, F: Fn(&mut G) -> Result<T, Stop>>(
     requires keeps { (t : _) (r : _) (u : _) → F.post work.now t r u
         → Keeps (G.me t.now) (G.me u.now) }
     ensures same_token { (G.me it.new).ghost_name ≡ (G.me it.old).ghost_name }
+    ensures ok { IfOk result (λ r. (t : _) × (u : _) × F.post work.now t (Ok r.0) u
+        × IsOver (G.me it.old).now
+        × IsRun (G.me it.old).now (G.me t.now).now (G.me u.now).now (G.me it.new).now
+        r.1.txn r.1.place) }
     ensures err { OnErr result (IsUndone (G.me it.old).now (G.me it.new).now) }
-    ensures ok { (first : Token NoSide) → IsUndone first (G.me it.old).now → IfOk result (λ r.
-        (base : Token NoSide) × (t : _) × (u : _) × F.post work.now t (Ok r.0) u
-        × IsUndone first base × IsOver base
-        × IsRun base (G.me t.now).now (G.me u.now).now (G.me it.new).now r.1.txn r.1.place) }
+    ensures failed { IfErr result (λ stop. Fails (F.post work.now) (λ t. (G.me t.now).now) stop
+        (G.me it.old).now (G.me it.new).now) }
 {
     it.begin_anew()?;
     match work(it) {
@@ -67,21 +75,28 @@ fn attempt<T: Drop, G: Attempts, F: Fn(&mut G) -> Result<T, Stop>>(
     }
 }
 
-/// Runs the work in a transaction and commits it. If another caller held a stripe, gives way and
-/// begins anew, as often as `retry` says; so the work may run several times, and what it does but by
-/// the transaction it does each time. `it` is a `Transaction`, and the work's parameter is written
-/// with that type.
+/// Whether a try found a stripe held.
+fn found_busy<T>(outcome: &Result<T, Stop>) -> bool
+    ensures { result ≡ is_busy outcome.now }
+{
+    matches!(outcome, Err(Stop::Busy { .. }))
+}
+
+/// Runs the work in a transaction and commits it. If another caller held a stripe, waits and begins
+/// anew, as often and as long as `retry` says. So the work may run several times, and whatever it
+/// does besides the calls of its transaction is done each time. `it` is a `Transaction`, and the
+/// work's parameter is written with that type.
 ///
 /// # Errors
 ///
 /// No transaction is open if none was before, and nothing was committed.
-/// - `Busy` if a stripe was held at the last try.
-/// - `Refused` with the first refusal of the work's calls, of `begin` or of `commit`, or what else the
-///   work answers.
+/// - `Busy` if a stripe was held at each try: at the first one, and at as many more as `retry` has.
+/// - What `begin` or `commit` was refused with, or what else the work answers: that is not tried
+///   again.
 ///
 /// # Cost
 ///
-/// A begin, the work, and a commit or an abort, for each try.
+/// A begin, the work, and a commit or an abort, for each try; and the waits between them.
 #[tactic(auto, using(crate::proofs::Within::undone_same, crate::proofs::Within::undone_on))]
 pub fn transact<T: Drop, G: Attempts, F: Fn(&mut G) -> Result<T, Stop>>(
     it: &mut G,
@@ -92,17 +107,21 @@ pub fn transact<T: Drop, G: Attempts, F: Fn(&mut G) -> Result<T, Stop>>(
     requires keeps { (t : _) (r : _) (u : _) → F.post work t r u
         → Keeps (G.me t.now) (G.me u.now) }
     ensures same_token { (G.me it.new).ghost_name ≡ (G.me it.old).ghost_name }
-    ensures err { OnErr result (IsUndone (G.me it.old).now (G.me it.new).now) }
     ensures ok { IfOk result (λ r.
         (base : Token NoSide) × (t : _) × (u : _) × F.post work t (Ok r.0) u
-        × IsUndone (G.me it.old).now base × IsOver base
+        × HasTried (F.post work) (λ t. (G.me t.now).now) retry.times (G.me it.old).now base
+        × IsOver base
         × IsRun base (G.me t.now).now (G.me u.now).now (G.me it.new).now r.1.txn r.1.place) }
+    ensures err { OnErr result (IsUndone (G.me it.old).now (G.me it.new).now) }
+    ensures tries { IfErr result (λ stop. GivesUp (F.post work) (λ t. (G.me t.now).now)
+        retry.times stop (G.me it.old).now (G.me it.new).now) }
 {
     for round in 0..retry.times() {
-        match attempt(it, &work) {
-            Err(Stop::Busy { .. }) => retry.give_way(round),
-            outcome => return outcome,
+        let outcome = attempt(it, &work);
+        if !found_busy(&outcome) {
+            return outcome;
         }
+        it.wait(retry, round);
     }
     attempt(it, &work)
 }

@@ -3,11 +3,13 @@
 //!
 //! - A `Transaction` is a caller's token with its map. It is begun, worked in, and committed; if it
 //!   is dropped before it is committed, at a `?` or an early return, it is aborted.
-//! - `transact` begins, runs the work and commits. If another caller held a stripe, the thread gives
-//!   way and the work begins anew, as often as its `Retry` says; any other refusal takes everything
-//!   back and is handed on.
+//! - `transact` begins, runs the work and commits. If another caller held a stripe, the thread
+//!   gives way or sleeps, and the work begins anew, as often and as long as its `Retry` says. Any
+//!   other refusal takes everything back and is handed on.
 //! - `run_session` makes the map and hands it, with a pass for each caller, to a `Session` that
 //!   starts no threads, so that its user names no ledger. `callers_of` makes tokens of the passes.
+//! - `restart` goes on with a new map after one was closed, so that no history grows without end:
+//!   the new one has the old one's pairs, by one committed transaction.
 //!
 //! ```text
 //! fn count<L: Ledger, R: Wait>(t: &mut Transaction<'_, L, R>) -> Result<u64, Stop>
@@ -25,29 +27,36 @@
 //!
 //! The model is the caller's token: the entries that its calls have added to the history. Promised:
 //! - With `Ok` the token's last entries are one run of the work, begun from a token that has no
-//!   transaction, and its commit, with the number and the place of the receipt (`IsRun`); what came
-//!   before since the call committed nothing.
-//! - With `Err` there is no transaction if there was none before, and of what was added nothing
-//!   is committed (`IsUndone`). A drop says the same of the transaction that it ends (`IsTakenBack`).
+//!   transaction, and its commit, with the number and the place of the receipt (`IsRun`).
+//! - With `Err` there is no transaction if there was none before, and of what was added nothing is
+//!   committed (`IsUndone`). A drop says the same of the transaction that it ends (`IsTakenBack`).
+//! - Each try before the last began one transaction, ran the work, which found a stripe held, and
+//!   was taken back (`BusyTries`). `Busy` is answered only after all tries, and any other refusal
+//!   by the try that met it (`GivesUp`).
+//! - All that the first caller of a restarted map has seen is one committed transaction, which puts
+//!   the pairs of the old map in the order of its list (`IsRefilled`).
 //! - A session's own promise holds of what it answers (`Session::promises`).
 //!
-//! What a map holds afterwards is said when it is closed, as `locked_map` says: other callers' steps
-//! come between. No clause speaks of time: not that a call returns, nor how often it tried.
+//! What a map holds afterwards is said when it is closed, as `locked_map` says: other callers'
+//! steps come between. No clause speaks of time: not that a call returns, nor how long it waits.
 //!
 //! A work states what every call keeps by one definition, `Keeps`; `proofs/Within.antt` has
 //! `keeps_stay` and `keeps_on`, by which the check joins the calls of a work. The side value is
 //! `NoSide`.
 //!
-//! A transaction costs what its calls do. The idea of a transaction that is taken back and run again
-//! is that of Herlihy and Koskinen, "Transactional Boosting" (PPoPP 2008), section 2.
+//! A transaction costs what its calls do. The idea of a transaction that is taken back and run
+//! again is that of Herlihy and Koskinen, "Transactional Boosting" (PPoPP 2008), section 2.
 #![tactic(auto)]
 
 mod attempts;
+mod restarting;
 mod retry;
 mod session;
 mod transaction;
 
 pub use attempts::{Attempts, transact};
+pub use map_answers::{Stop, Swapped};
+pub use restarting::{Restarted, restart};
 pub use retry::Retry;
 pub use session::{Session, callers_of, run_session};
 pub use transaction::Transaction;

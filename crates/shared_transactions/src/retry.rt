@@ -1,39 +1,76 @@
-//! How often a transaction is begun anew, and how a thread gives way before.
+//! How often a transaction is begun anew, and how long a thread waits before each further try.
 //!
-//! No contract speaks of it: it is a matter of time. It sleeps nowhere, since sleeping takes a clock,
-//! a handle that no caller of a map need have.
+//! Its contracts speak of the number of tries. How long a thread waits is a matter of time, and no
+//! contract speaks of that.
 ghost use Rattle.std.specs.Prelude.{◌≡◌, ◌≤◌};
 
+use std::sync::Wait;
 use std::thread;
+use std::thread::Parker;
+use std::time::Duration;
 
-/// The most times in a row that a thread gives way between two tries: 2 to this power.
-const MOST: u64 = 10;
+/// In so many rounds a thread gives way before it sleeps.
+const YIELDING: u64 = 6;
+/// The first sleep, in microseconds.
+const FIRST_SLEEP: u64 = 16;
+/// How often a sleep is doubled at most.
+const DOUBLINGS: u64 = 40;
 
-/// How often a transaction is begun anew if another caller holds a stripe. Between two tries the
-/// thread gives way: once, then twice, four times and so on, up to 1,024 times in a row.
+/// How often a transaction is begun anew if another caller holds a stripe, and how long the thread
+/// waits before. At first it gives way: once, then twice, four times and so on, up to 32 times in a
+/// row. Then it sleeps: 16 microseconds, then twice as long and so on, up to the longest sleep.
+/// That is a millisecond, unless `sleeping_at_most` says otherwise; the system may wake a thread a
+/// little later.
 #[derive(Clone, Copy, Debug, PartialEq, Eq)]
 pub struct Retry {
     times: u64,
+    // In microseconds.
+    longest: u64,
 }
 
 impl Retry {
-    /// As often as it takes.
-    pub const FOREVER: Retry = Retry { times: u64::MAX };
+    /// As often as it takes: 2^64 - 1 times.
+    pub const FOREVER: Retry = Retry {
+        times: u64::MAX,
+        longest: 1000,
+    };
 
-    /// At most so many times after the first try.
-    pub fn times_at_most(times: u64) -> Retry {
-        Retry { times }
+    /// At most so many times after the first try. Constant time.
+    pub fn times_at_most(times: u64) -> Retry
+        ensures { result.times ≡ times }
+    {
+        Retry {
+            times,
+            ..Retry::FOREVER
+        }
     }
 
-    /// How many times after the first try.
-    pub(crate) fn times(self) -> u64 {
+    /// The same number of tries, with no longer sleeps than this. If it is below a microsecond, the
+    /// thread never sleeps, and gives way 32 times in a row instead. Constant time.
+    pub fn sleeping_at_most(self, longest: Duration) -> Retry
+        ensures { result.times ≡ self.times }
+    {
+        let longest = longest.as_micros().min(u128::from(u64::MAX)) as u64;
+        Retry { longest, ..self }
+    }
+
+    /// How many times after the first try. Constant time.
+    pub fn times(self) -> u64
+        ensures { result ≡ self.times }
+    {
         self.times
     }
 
-    /// Gives way after a try.
-    pub(crate) fn give_way(self, round: u64) {
-        for _ in 0..1u64 << round.min(MOST) {
-            thread::yield_now();
+    /// Waits after the try of a round, from 0.
+    pub(crate) fn wait<R: Wait>(self, rt: &R, round: u64) {
+        if round < YIELDING || self.longest == 0 {
+            for _ in 0..1u64 << round.min(YIELDING - 1) {
+                thread::yield_now();
+            }
+        } else {
+            let doublings = (round - YIELDING).min(DOUBLINGS);
+            let sleep = (FIRST_SLEEP << doublings).min(self.longest);
+            Parker::new().park_timeout(rt, Duration::from_micros(sleep));
         }
     }
 }

@@ -2,17 +2,23 @@
 //!
 //! It stands apart from the token so that no other call can be made with it meanwhile. It has no
 //! state of its own: whether a transaction is open, the token says.
-ghost use Rattle.std.specs.Prelude.{◌≡◌, ◌+◌, ◌++◌, [], ◌∷◌, ℕ, Option, Some, is_some, length, true, IfOk, OnErr, OnOk};
+ghost use Rattle.std.specs.Prelude.{◌≡◌, ◌+◌, ◌++◌, [], ◌∷◌, ℕ, Option, Some, is_some, length};
+ghost use Rattle.std.specs.Prelude.{nat_eq, true, false, IfErr, IfOk, OnErr, OnOk};
+ghost use Rattle.std.specs.Option.{option_eq};
 ghost use Rattle.txn_trace.specs.declared.entry.Entry.TheVariants as entries;
 ghost use Rattle.txn_trace.specs.Shape.{Seat, seat_after};
 ghost use Rattle.txn_drive.specs.Made.{undone_by};
 ghost use Rattle.locked_map.specs.Calls.{Ended};
 ghost use Rattle.shared_transactions.specs.Keeps.{Keeps};
-ghost use Rattle.shared_transactions.specs.Within.{IsBegun, IsCommitted, IsOver, IsTakenBack, IsUndone, is_quiet};
+ghost use Rattle.shared_transactions.specs.Tries.{IsNotBegun, is_busy};
+ghost use Rattle.shared_transactions.specs.Within.{IsBegun, IsCommitted, IsOver, IsTakenBack};
+ghost use Rattle.shared_transactions.specs.Within.{is_quiet};
 
 use crate::attempts::Attempts;
+use crate::retry::Retry;
 use boost_core::{Call, End};
-use locked_map::{Caller, NoSide, OnRelease, Receipt, SharedMap, Stop};
+use locked_map::{Caller, NoSide, OnRelease, Receipt, SharedMap};
+use map_answers::{Stop, Swapped};
 use std::sync::Wait;
 use std::sync::ledger::Ledger;
 use txn_trace::{Answer, Op, Refusal, Reply};
@@ -25,9 +31,9 @@ impl OnRelease for Unheard {
     fn on_release(&self) {}
 }
 
-/// A caller on a map of threads, in a transaction or about to begin one. A transaction that is still
-/// open when this is dropped is aborted: at every `?` and every early return its changes are taken
-/// back, and no stripe stays held. If none is open, a drop leaves the token unchanged.
+/// A caller on a map of threads, in a transaction or about to begin one. If a transaction is still
+/// open when this is dropped, it is aborted: at every `?` and every early return its changes are
+/// taken back, and no stripe stays held. If none is open, a drop leaves the token unchanged.
 pub struct Transaction<'a, L: Ledger, R: Wait> {
     rt: &'a R,
     map: &'a SharedMap<L>,
@@ -51,8 +57,7 @@ impl<'a, L: Ledger, R: Wait> Transaction<'a, L, R> {
     ///
     /// # Errors
     ///
-    /// `Refused` as the map's `begin` is: nothing was committed, and if the caller had no
-    /// transaction, it has none.
+    /// `Refused` as the map's `begin` is: no transaction was begun, and nothing was committed.
     ///
     /// # Cost
     ///
@@ -62,7 +67,7 @@ impl<'a, L: Ledger, R: Wait> Transaction<'a, L, R> {
         ensures same_token { self.new.me.ghost_name ≡ self.old.me.ghost_name }
         ensures ok { IfOk result (λ txn. IsBegun self.old.me.now txn self.new.me.now
             × IsOver self.old.me.now) }
-        ensures err { OnErr result (IsUndone self.old.me.now self.new.me.now) }
+        ensures err { IfErr result (λ stop. IsNotBegun stop self.old.me.now self.new.me.now) }
     {
         self.map.begin(self.rt, self.me)
     }
@@ -160,6 +165,28 @@ impl<'a, L: Ledger, R: Wait> Transaction<'a, L, R> {
             ∷ entries.Did self.old.me.now.number reply ∷ []) }
     {
         self.operate_growing(Op::PutIf(key, expected, value))
+    }
+
+    /// Puts a value at a key exactly if the key has what is expected, a value or none, and answers
+    /// whether it did. It is `put_if` for who need not know what the key had.
+    ///
+    /// # Errors
+    ///
+    /// Those of `put_if`.
+    ///
+    /// # Cost
+    ///
+    /// That of `put_if`.
+    pub fn swap(&mut self, key: u64, expected: Option<u64>, value: u64) -> Result<Swapped, Stop>
+        ensures keeps { Keeps self.old.me self.new.me }
+        ensures ok { IfOk result (λ swapped. (reply : Option ℕ)
+            × (swapped.0 ≡ option_eq nat_eq reply expected)
+            × (self.new.me.now.seen ≡ self.old.me.now.seen
+            ++ entries.Asked self.old.me.now.number (Op.PutIf key expected value)
+            ∷ entries.Did self.old.me.now.number reply ∷ [])) }
+    {
+        let had = self.put_if(key, expected, value)?;
+        Ok(Swapped(had == expected))
     }
 
     /// Sets a savepoint, and answers its level, from 1.
@@ -296,6 +323,10 @@ impl<L: Ledger, R: Wait> Attempts for Transaction<'_, L, R> {
     fn give_up(&mut self) {
         take_back(self.rt, self.map, self.me);
     }
+
+    fn wait(&self, retry: Retry, round: u64) {
+        retry.wait(self.rt, round);
+    }
 }
 
 impl<L: Ledger, R: Wait> Drop for Transaction<'_, L, R> {
@@ -316,6 +347,7 @@ fn end<L: Ledger, R: Wait>(
 ) -> Result<Receipt, Stop>
     ensures ok { IfOk result (λ receipt. IsCommitted receipt.txn receipt.place me.old me.new) }
     ensures err { OnErr result (IsTakenBack me.old me.new) }
+    ensures refused { is_busy result ≡ false }
 {
     match map.commit(rt, me) {
         Ok(receipt) => Ok(receipt),

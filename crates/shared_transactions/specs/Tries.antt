@@ -1,0 +1,71 @@
+-- Tries of one work, one after the other, each in a transaction that is begun for it. `work`
+-- relates what holds the token as the work found it, its answer, and what holds the token as it
+-- left it; `me` is the token at such a moment.
+use Rattle.std.specs.Prelude.{ℕ, ◌≡◌, ◌≤◌, ◌⊎◌, zero, suc, Bool, true, false, Result, Ok, Err}
+use Rattle.map_answers.specs.declared.stop.Stop.{Stop}
+use Rattle.map_answers.specs.declared.stop.Stop.TheVariants.{Busy, Refused}
+use Rattle.locked_map.specs.Tokens.{Token}
+use Rattle.shared_transactions.specs.Within.{GoesOn, IsBegun, IsOver, IsTakenBack, IsUndone}
+
+-- Whether a call stopped because a stripe was held.
+abbrev pub is_busy_stop : Stop → Bool
+is_busy_stop (Busy holder) = true
+is_busy_stop (Refused refusal) = false
+
+abbrev pub is_busy : {T : Type 0} → Result T Stop → Bool
+is_busy (Ok value) = false
+is_busy (Err stop) = is_busy_stop stop
+
+-- Why a try failed after its begin: the work did; or the commit was refused.
+abbrev pub IsWhy : {T : Type 0} → Result T Stop → Stop → Type 0
+IsWhy (Err found) stop = stop ≡ found
+IsWhy (Ok value) stop = is_busy_stop stop ≡ false
+
+-- A try that failed: a transaction was begun, the work ran in it, and it was taken back.
+pub record IsFailedTry {S X T : Type 0} (work : X → Result T Stop → X → Type 0)
+    (me : X → Token S) (stop : Stop) (old new : Token S) : Type 0 where
+  pub begun : X
+  pub left : X
+  pub txn : ℕ
+  pub answer : Result T Stop
+  pub began : IsBegun old txn (me begun)
+  pub worked : work begun answer left
+  pub why : IsWhy answer stop
+  pub goes_on : GoesOn (me begun) (me left)
+  pub back : IsTakenBack (me left) new
+
+-- A begin that was refused: no transaction was begun.
+pub record IsNotBegun {S : Type 0} (stop : Stop) (old new : Token S) : Type 0 where
+  pub refused : is_busy_stop stop ≡ false
+  pub goes_on : GoesOn old new
+  pub over : IsOver old → IsOver new
+
+-- One try without a commit.
+abbrev pub Fails : {S X T : Type 0} → (X → Result T Stop → X → Type 0) → (X → Token S) → Stop
+    → Token S → Token S → Type 0
+Fails work me stop old new = IsFailedTry work me stop old new ⊎ IsNotBegun stop old new
+
+-- This many tries in a row found a stripe held.
+abbrev pub BusyTries : {S X T : Type 0} → (X → Result T Stop → X → Type 0) → (X → Token S) → ℕ
+    → Token S → Token S → Type 0
+BusyTries work me zero old new = new ≡ old
+BusyTries {S} work me (suc n) old new =
+    (between : Token S) × (holder : ℕ) × BusyTries work me n old between
+    × IsFailedTry work me (Busy holder) between new
+
+-- At most this many tries found a stripe held, and nothing else was done.
+pub record HasTried {S X T : Type 0} (work : X → Result T Stop → X → Type 0) (me : X → Token S)
+    (most : ℕ) (old new : Token S) : Type 0 where
+  pub busy : ℕ
+  pub within : busy ≤ most
+  pub tries : BusyTries work me busy old new
+  pub undone : IsUndone old new
+
+-- Tries that were given up: each before the last found a stripe held, and the last failed. If that
+-- one found a stripe held too, it was the last that there could be.
+pub record GivesUp {S X T : Type 0} (work : X → Result T Stop → X → Type 0) (me : X → Token S)
+    (most : ℕ) (stop : Stop) (old new : Token S) : Type 0 where
+  pub last : Token S
+  pub tried : HasTried work me most old last
+  pub all : is_busy_stop stop ≡ true → tried.busy ≡ most
+  pub failed : Fails work me stop last new
