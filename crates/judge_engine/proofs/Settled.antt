@@ -1,16 +1,12 @@
 -- A bad entry stays the first bad one, whatever comes after.
-use Rattle.std.proofs.Common.{◌≡◌, ℕ, ◌+◌, List, [], ◌∷◌, ◌++◌, length, Option, Some, None, refl, sym, ap, subst, ◌∙◌, arith}
-use Rattle.std.specs.Prelude.{◌↔◌}
+use Rattle.std.proofs.Common.{◌≡◌, ℕ, ◌+◌, List, [], ◌∷◌, ◌++◌, Option, Some, None, refl, ◌∙◌}
 use Rattle.txn_trace.specs.declared.entry.Entry.{Entry}
 use Rattle.txn_trace.specs.declared.holder.Holder.{Holder}
-use Rattle.txn_trace.specs.History.{is_commit}
-use Rattle.txn_trace.specs.Shape.{how_many}
 use Rattle.txn_trace.specs.Legal as legal
 use Rattle.txn_trace.proofs.Judging.{legal_iff}
 use Rattle.serial_check.specs.Serializable as serializable
 use Rattle.serial_check.proofs.Judging.{serializable_iff}
 use Rattle.history_check.specs.declared.verdict.Rule.{Rule}
-use Rattle.history_check.specs.declared.verdict.Verdict.{Verdict}
 use Rattle.history_check.specs.declared.verdict.Verdict.TheVariants.{Legal, Illegal}
 use Rattle.history_check.specs.Verdicts.{number_of}
 use Rattle.judge_engine.specs.declared.basis.Basis.{Basis}

@@ -1,12 +1,11 @@
 -- The text of outcomes as it grows, their counts, and the scripts that are given up.
-use Rattle.std.proofs.Common.{◌≡◌, ℕ, zero, suc, ◌+◌, ◌%◌, ◌<◌, ◌≤◌, Bool, true, false, cond, List, [], ◌∷◌, ◌++◌, length, take, get_or, Option, Some, Ok, Err, refl, sym, ap, subst, ◌∙◌, arith, append_assoc, append-nil, length-append, length-take-le}
-use Rattle.std.proofs.lemmas.List.{take_more, take_all, drop_more}
+use Rattle.std.proofs.Common.{◌≡◌, ℕ, suc, ◌+◌, ◌<◌, Bool, true, false, cond, List, [], ◌∷◌, ◌++◌, length, take, get_or, Option, Ok, refl, sym, ap, subst, ◌∙◌, arith, append_assoc, append-nil, length-append, length-take-le}
+use Rattle.std.proofs.lemmas.List.{take_more}
 use Rattle.std.proofs.lemmas.List.Elements.{filter-append}
 use Rattle.std.specs.List.{filter}
 use Rattle.script_outcomes.specs.declared.outcome.Outcome.{Outcome}
 use Rattle.judge_engine.specs.declared.outcomes.Kind.{Kind}
 use Rattle.std.specs.Prelude.{◌↔◌, IfSome}
-use Rattle.std.specs.Io.KnownBytes.{Keeps}
 use Rattle.txn_trace.specs.declared.entry.Entry.{Entry}
 use Rattle.txn_trace.specs.Work.{Work}
 use Rattle.txn_files.specs.HistoryFile.{history_of}
@@ -16,7 +15,6 @@ use Rattle.piece_files.specs.declared.file_fault.FileFault.{FileFault}
 use Rattle.piece_files.specs.declared.file_fault.FileFault.TheVariants as files
 use Rattle.script_outcomes.specs.Outcomes.{AreOutcomes}
 use Rattle.judge_engine.specs.Files.{OfFile, max_read}
-use Rattle.judge_engine.specs.declared.outcomes.OutcomesFault.{OutcomesFault}
 use Rattle.judge_engine.specs.Outcomes.{is_kind, how_many, outcome_line, lines_from, outcomes_text, IsWell, HistoryOf, FailsForScripts, FailsForHistory, of_scripts, of_history, Tells}
 
 count_push : (kind : Kind) (os : List Outcome) (o : Outcome) → how_many kind (os ++ o ∷ []) ≡ how_many kind os + cond (is_kind kind o) 1 0

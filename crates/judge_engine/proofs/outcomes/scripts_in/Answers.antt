@@ -1,4 +1,4 @@
-use Rattle.std.proofs.Common.{◌≡◌, List, Ok, Err, subst, sym}
+use Rattle.std.proofs.Common.{◌≡◌, Ok, subst, sym}
 use Rattle.piece_files.specs.Faults.{Fails}
 use Rattle.txn_files.specs.ScriptFile.{scripts_of}
 use Rattle.judge_engine.specs.Outcomes.{FailsForScripts}

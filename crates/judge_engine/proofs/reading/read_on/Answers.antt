@@ -1,4 +1,4 @@
-use Rattle.std.proofs.Common.{◌≡◌, [], ◌++◌, take, subst, append-nil, arith}
+use Rattle.std.proofs.Common.{[], ◌++◌, take, subst, append-nil, arith}
 use Rattle.std.proofs.lemmas.Result.{err_from_is_err_and}
 use Rattle.std.specs.Io.KnownBytes.{Consumes}
 use Rattle.judge_engine.specs.Watchers.{TookIn}

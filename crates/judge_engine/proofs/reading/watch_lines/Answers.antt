@@ -1,4 +1,3 @@
-use Rattle.std.proofs.Common.{arith}
 use Rattle.std.proofs.lemmas.Result.{IfOk-weaker}
 use Rattle.judge_engine.proofs.Ends.{err_more}
 use Rattle.judge_engine.proofs.reading.watch_lines.Goals as goal

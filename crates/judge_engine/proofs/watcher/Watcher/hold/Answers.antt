@@ -1,5 +1,5 @@
 use Rattle.std.proofs.Common.{◌++◌, ◌<◌, length, ◌∙◌, sym, arith, length-append}
-use Rattle.judge_engine.proofs.LineLemmas.{stands_held, stands_long}
+use Rattle.judge_engine.proofs.LineLemmas.{stands_long}
 use Rattle.judge_engine.proofs.Taking.{none_yet}
 use Rattle.judge_engine.proofs.watcher.Watcher.hold.Goals as goal
 
