@@ -102,3 +102,37 @@ write_run_file() {
       print "]}"
     }' >"$work/run.json"
 }
+
+# Lays out the crates of the maps as a repository of their own, in $work/maps, over the proofs that this one keeps in out/.
+lay_out_maps() {
+  local crate
+  quietly docs/library/new.sh "$work/maps"
+  for crate in owned_map stripe_part striped_map; do
+    mkdir "$work/maps/crates/$crate"
+    cp -r crates/$crate/{src,specs,proofs} "$work/maps/crates/$crate/"
+    grep "^$crate\b" crates.txt >>"$work/maps/crates.txt"
+  done
+  for crate in "$work"/maps/crates/*; do
+    if [ -d "crates/${crate##*/}/out" ]; then cp -r "crates/${crate##*/}/out" "$crate/"; fi
+  done
+}
+
+# Proves and builds the program of docs/speed/NAME.rt.txt on those crates, and runs it once: NAME, its line of crates.txt after the
+# name, and words for that run. docs/speed/NAME/F.antt.txt has the invariants of its function F. It is then `NAME` in $work.
+build_on_maps() {
+  local there=$work/maps/crates/$1 file function
+  [ -e "$work/maps" ] || lay_out_maps
+  mkdir -p "$there"/{src,specs,proofs}
+  touch "$there"/{specs,proofs}/Lib.antt
+  cp "docs/speed/$1.rt.txt" "$there/src/main.rt"
+  for file in docs/speed/"$1"/*.antt.txt; do
+    if [ -e "$file" ]; then
+      function=$(basename "$file" .antt.txt)
+      mkdir "$there/proofs/$function"
+      cp "$file" "$there/proofs/$function/Invariants.antt"
+    fi
+  done
+  echo "$1$2" >>"$work/maps/crates.txt"
+  (cd "$there" && quietly ${RT:-rt} run -- "${@:3}")
+  cp "$there/out/$1" "$work/"
+}

@@ -1,12 +1,12 @@
 -- How a row of tries grows, and what its end says.
-use Rattle.std.proofs.Common.{◌≡◌, ◌⊎◌, ℕ, ◌+◌, ◌≤◌, suc, Bool, true, false, refl, sym, subst, inl, inr, arith}
+use Rattle.std.proofs.Common.{◌≡◌, ℕ, ◌+◌, ◌≤◌, suc, true, false, sym, subst, inl, inr, arith}
 use Rattle.std.specs.Prelude.{Result, Ok, Err, IfOk, IfErr, OnErr}
 use Rattle.std.proofs.lemmas.Bool.{false≢true}
 use Rattle.map_answers.specs.declared.stop.Stop.{Stop}
 use Rattle.map_answers.specs.declared.stop.Stop.TheVariants.{Busy, Refused}
 use Rattle.locked_map.specs.Tokens.{Token}
 use Rattle.shared_transactions.specs.Within.{GoesOn, IsBegun, IsTakenBack, IsUndone}
-use Rattle.shared_transactions.specs.Tries.{is_busy_stop, is_busy, IsWhy, IsFailedTry, IsNotBegun, Fails, BusyTries, HasTried, GivesUp}
+use Rattle.shared_transactions.specs.Tries.{is_busy_stop, is_busy, IsWhy, Fails, BusyTries, HasTried, GivesUp}
 
 -- A result that says that a stripe was held is an error.
 pub if_busy : {R P : Type 0} (result : Result R Stop) → is_busy result ≡ true → OnErr result P → P

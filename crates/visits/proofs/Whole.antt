@@ -13,7 +13,7 @@ use Rattle.txn_trace.specs.declared.op.Op.TheVariants.{Put, Get}
 use Rattle.std.proofs.Common.{append_assoc}
 use Rattle.std.specs.Prelude.{Err}
 use Rattle.txn_trace.specs.declared.entry.Entry.TheVariants.{Began}
-use Rattle.locked_map.specs.declared.stop.Stop.{Stop}
+use Rattle.map_answers.specs.declared.stop.Stop.{Stop}
 use Rattle.locked_map.specs.Tokens.{IsSameCaller}
 use Rattle.std.specs.Borrow.{MutBor}
 use Rattle.shared_transactions.specs.Keeps.{Keeps}

@@ -1,4 +1,4 @@
-use Rattle.std.proofs.Common.{◌≡◌, ◌<◌, length, refl, sym, ◌∙◌, arith}
+use Rattle.std.proofs.Common.{◌<◌, length, sym, ◌∙◌, arith}
 use Rattle.shared_transactions.proofs.Refilling.{some_ticket, tickets_left}
 use Rattle.shared_transactions.proofs.restarting.restart.Goals as goal
 
