@@ -1,0 +1,4 @@
+pub mod Lookups
+pub mod Pairs
+pub mod Passes
+pub mod Rounds
