@@ -2,3 +2,4 @@ pub mod Lookups
 pub mod Pairs
 pub mod Passes
 pub mod Rounds
+pub mod Tables

@@ -1,13 +1,14 @@
 -- What the pairs of the slots have at a key, if at most one slot has it.
-use Rattle.std.proofs.Common.{◌≡◌, ◌≢◌, ℕ, zero, suc, ◌+◌, ◌==◌, ◌<◌, ◌⊎◌, Bool, true, false, cond, List, [], ◌∷◌, length, Option, None, Some, sum_by, count_by, sym, refl, ◌∙◌, ap, subst, nat_eq, arith, inl, inr, ⊎_elim, eq-eqb, ne_eqb, set, get_or}
+use Rattle.std.proofs.Common.{◌≡◌, ◌≢◌, ℕ, zero, suc, ◌+◌, ◌==◌, ◌<◌, ◌⊎◌, Bool, true, false, cond, List, [], ◌∷◌, length, Option, None, Some, sum_by, count_by, sym, refl, ◌∙◌, ap, subst, nat_eq, arith, inl, inr, ⊎_elim, eq-eqb, ne_eqb, set, get_or, drop, replicate, ◌≤◌}
 use Rattle.std.specs.List.{AllByRecursion, IsDistinct}
 use Rattle.std.specs.Map.{keys_of, lookup}
+use Rattle.std.proofs.lemmas.List.{drop_more}
 use Rattle.std.proofs.lemmas.List.Sums.{sum_by-cons}
 use Rattle.probe_map.specs.declared.slot.Slot.{Slot}
 use Rattle.probe_map.specs.declared.slot.Slot.TheVariants.{Empty, Removed, Full}
 use Rattle.probe_map.specs.Slots.{is_empty, is_full, key_at, key_in, pairs_of, slot_at, value_in}
 
-abbrev found : List Slot → ℕ → Option ℕ
+abbrev pub found : List Slot → ℕ → Option ℕ
 found slots key = lookup (nat_eq key) (pairs_of slots)
 
 some_apart : (a b : ℕ) → a ≢ b → Some a ≢ Some b
@@ -72,3 +73,27 @@ distinct (Removed k ∷ slots) one = distinct slots (λ key i j li lj a b. let e
 distinct (Full k v ∷ slots) one = (
     others slots k (λ m lt is. let e = one k 0 (suc m) (omega arith) (omega arith) refl is in absurd (omega arith)),
     distinct slots (λ key i j li lj a b. let e = one key (suc i) (suc j) (omega arith) (omega arith) a b in omega arith))
+
+-- The pairs from one place on are those of its slot and those behind it.
+pub pairs_of-drop : (slots : List Slot) (i : ℕ) (d : Slot) → i < length slots → pairs_of (drop i slots) ≡ pairs_of (get_or slots i d ∷ drop (i + 1) slots)
+pairs_of-drop slots i d lt = ap pairs_of (drop_more slots i d lt)
+
+pub length-pairs_of-drop : (slots : List Slot) (i : ℕ) → length (pairs_of (drop i slots)) ≤ length (pairs_of slots)
+length-pairs_of-drop slots zero = omega arith
+length-pairs_of-drop [] (suc i) = omega arith
+length-pairs_of-drop (Empty ∷ slots) (suc i) = length-pairs_of-drop slots i
+length-pairs_of-drop (Removed k ∷ slots) (suc i) = length-pairs_of-drop slots i
+length-pairs_of-drop (Full k v ∷ slots) (suc i) = let rest = length-pairs_of-drop slots i in omega arith
+
+pub pairs_of-replicate : (n : ℕ) → pairs_of (replicate n Empty) ≡ []
+pairs_of-replicate zero = refl
+pairs_of-replicate (suc n) = pairs_of-replicate n
+
+-- A pair more in front of those from a place on, and still no more than all.
+pub pairs_more : (slots : List Slot) (i left : ℕ) (d : Slot) (k v : ℕ) → i + 1 ≡ left → left ≤ length slots → get_or slots i d ≡ Full k v
+    → length (pairs_of (drop left slots)) + 1 ≤ length (pairs_of slots)
+pairs_more slots i left d k v next within is =
+    let all = length-pairs_of-drop slots i in
+    let here : length (pairs_of (drop i slots)) ≡ length (pairs_of (Full k v ∷ drop left slots)) =
+        ap length (pairs_of-drop slots i d (omega arith) ∙ ap (λ s. pairs_of (s ∷ drop (i + 1) slots)) is ∙ ap (λ n. pairs_of (Full k v ∷ drop n slots)) next) in
+    omega arith

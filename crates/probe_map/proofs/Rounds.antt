@@ -25,7 +25,7 @@ not_before home i j (inr (inr b)) same = let low = b.0 in let high = b.1 in absu
 stops_none : (o : Option ℕ) (key : ℕ) → o ≡ None → stops o key ≡ true
 stops_none o key is = ap (λ x. stops x key) is
 
-stops_some : (o : Option ℕ) (key : ℕ) → o ≡ Some key → stops o key ≡ true
+pub stops_some : (o : Option ℕ) (key : ℕ) → o ≡ Some key → stops o key ≡ true
 stops_some o key is = ap (λ x. stops x key) is ∙ eq-eqb key key refl
 
 pub stopped : (o : Option ℕ) (key : ℕ) → stops o key ≡ true → (o ≡ None) ⊎ (o ≡ Some key)
@@ -33,7 +33,7 @@ stopped None key is = inl refl
 stopped (Some other) key is = inr (ap Some (eqb-true other key is))
 
 -- A key is at one place.
-unique : (keys : ℕ → Option ℕ) (count : ℕ) (home : ℕ → ℕ) (key i j : ℕ) → IsProbed keys count home → i < count → j < count
+pub unique : (keys : ℕ → Option ℕ) (count : ℕ) (home : ℕ → ℕ) (key i j : ℕ) → IsProbed keys count home → i < count → j < count
     → keys i ≡ Some key → keys j ≡ Some key → i ≡ j
 unique keys count home key i j probed li lj at_i at_j = ⊎_elim (λ (e : i ≡ j). e)
     (λ (other : i ≢ j). ⊎_elim

@@ -13,7 +13,7 @@ const SPREAD: u64 = 0x9E37_79B9_7F4A_7C15;
 /// The place where the probe for a key begins.
 #[inline(always)]
 #[tactic(auto, unfolding(crate::specs::Slots::home))]
-pub(crate) fn home_of(count: usize, shift: u32, key: u64) -> usize
+fn home_of(count: usize, shift: u32, key: u64) -> usize
     ensures home { result ≡ home count shift key }
     ensures within { result ≤ count }
 {
@@ -37,9 +37,9 @@ fn first_stop(slots: &[Slot], key: u64) -> Option<usize>
     None
 }
 
-/// The place at which the probe for a key stops, if it does not come back to where it began.
+/// The place at which a probe stops, if it does not come back to its start.
 #[inline(always)]
-pub(crate) fn find(slots: &[Slot], start: usize, key: u64) -> Option<usize>
+fn probe(slots: &[Slot], start: usize, key: u64) -> Option<usize>
     requires { start ≤ length slots.now }
     ensures some { IfSome result (λ place. StopsAt slots.now start key place) }
     ensures none { result ≡ None → (j : ℕ) → j < length slots.now
@@ -50,4 +50,16 @@ pub(crate) fn find(slots: &[Slot], start: usize, key: u64) -> Option<usize>
         Some(i) => Some(start + i),
         None => first_stop(front, key),
     }
+}
+
+/// The place at which the probe for a key stops, if it does not come back to the key's home.
+#[inline(always)]
+pub(crate) fn find(slots: &Vec<Slot>, shift: u32, key: u64) -> Option<usize>
+    ensures some { IfSome result (λ place.
+        StopsAt slots.now.items (home (length slots.now.items) shift key) key place) }
+    ensures none { result ≡ None → (j : ℕ) → j < length slots.now.items
+        → stops (key_at slots.now.items j) key ≡ false }
+{
+    let slots = slots.as_slice();
+    probe(slots, home_of(slots.len(), shift, key), key)
 }

@@ -1,5 +1,5 @@
 use Rattle.probe_map.proofs.Passes.{IsCut, stops_back, stops_nowhere, stops_somewhere}
-use Rattle.probe_map.proofs.probe.find.Goals as goal
+use Rattle.probe_map.proofs.probe.probe.Goals as goal
 
 pub returns-in-Some-clause-some : goal.returns-in-Some-clause-some
 returns-in-Some-clause-some c =
