@@ -71,8 +71,9 @@ distinct [] one = tt
 distinct (Empty ∷ slots) one = distinct slots (λ key i j li lj a b. let e = one key (suc i) (suc j) (omega arith) (omega arith) a b in omega arith)
 distinct (Removed k ∷ slots) one = distinct slots (λ key i j li lj a b. let e = one key (suc i) (suc j) (omega arith) (omega arith) a b in omega arith)
 distinct (Full k v ∷ slots) one = (
-    others slots k (λ m lt is. let e = one k 0 (suc m) (omega arith) (omega arith) refl is in absurd (omega arith)),
-    distinct slots (λ key i j li lj a b. let e = one key (suc i) (suc j) (omega arith) (omega arith) a b in omega arith))
+  others slots k (λ m lt is. let e = one k 0 (suc m) (omega arith) (omega arith) refl is in absurd (omega arith)),
+  distinct slots (λ key i j li lj a b. let e = one key (suc i) (suc j) (omega arith) (omega arith) a b in omega arith),
+)
 
 -- The pairs from one place on are those of its slot and those behind it.
 pub pairs_of-drop : (slots : List Slot) (i : ℕ) (d : Slot) → i < length slots → pairs_of (drop i slots) ≡ pairs_of (get_or slots i d ∷ drop (i + 1) slots)
@@ -95,5 +96,5 @@ pub pairs_more : (slots : List Slot) (i left : ℕ) (d : Slot) (k v : ℕ) → i
 pairs_more slots i left d k v next within is =
     let all = length-pairs_of-drop slots i in
     let here : length (pairs_of (drop i slots)) ≡ length (pairs_of (Full k v ∷ drop left slots)) =
-        ap length (pairs_of-drop slots i d (omega arith) ∙ ap (λ s. pairs_of (s ∷ drop (i + 1) slots)) is ∙ ap (λ n. pairs_of (Full k v ∷ drop n slots)) next) in
+    ap length (pairs_of-drop slots i d (omega arith) ∙ ap (λ s. pairs_of (s ∷ drop (i + 1) slots)) is ∙ ap (λ n. pairs_of (Full k v ∷ drop n slots)) next) in
     omega arith

@@ -67,6 +67,7 @@ stops_front slots front back start key i cut behind lt stop passed = record {
   where
     low : i < start
     low = let e = length_front slots front back start cut in omega arith
+
     leads : LeadsTo (key_at slots) (length slots) start key i
     leads j lj (inl b) = let le = b.0 in let high = b.1 in let l : i < start = low in absurd (omega arith)
     leads j lj (inr (inl b)) = let before = b.0 in let l : i < start = low in passed_front slots front back start key j cut (omega arith) (passed j before)

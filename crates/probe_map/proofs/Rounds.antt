@@ -7,8 +7,8 @@ use Rattle.probe_map.specs.Probes.{IsBefore, IsProbed, LeadsTo, stops}
 from_less : (home i j : ℕ) → i < j → IsBefore home i j ⊎ IsBefore home j i
 from_less home i j less = ⊎_elim
     (λ (low : i < home). ⊎_elim
-        (λ (l : j < home). inl (inr (inl (less, l))))
-        (λ (h : home ≤ j). inr (inr (inr (low, h)))) (cases_lt j home))
+    (λ (l : j < home). inl (inr (inl (less, l))))
+    (λ (h : home ≤ j). inr (inr (inr (low, h)))) (cases_lt j home))
     (λ (high : home ≤ i). inl (inl (high, less))) (cases_lt i home)
 
 -- Of two places one is before the other.
@@ -37,9 +37,9 @@ pub unique : (keys : ℕ → Option ℕ) (count : ℕ) (home : ℕ → ℕ) (key
     → keys i ≡ Some key → keys j ≡ Some key → i ≡ j
 unique keys count home key i j probed li lj at_i at_j = ⊎_elim (λ (e : i ≡ j). e)
     (λ (other : i ≢ j). ⊎_elim
-        (λ (b : IsBefore (home key) i j). absurd (false≢true (sym (probed j key at_j i li b) ∙ stops_some (keys i) key at_i)))
-        (λ (b : IsBefore (home key) j i). absurd (false≢true (sym (probed i key at_i j lj b) ∙ stops_some (keys j) key at_j)))
-        (either (home key) i j other)) (cases_eq i j)
+    (λ (b : IsBefore (home key) i j). absurd (false≢true (sym (probed j key at_j i li b) ∙ stops_some (keys i) key at_i)))
+    (λ (b : IsBefore (home key) j i). absurd (false≢true (sym (probed i key at_i j lj b) ∙ stops_some (keys j) key at_j)))
+    (either (home key) i j other)) (cases_eq i j)
 
 -- A key whose probe stops at an empty place is nowhere.
 absent : (keys : ℕ → Option ℕ) (count : ℕ) (home : ℕ → ℕ) (key i m : ℕ) → IsProbed keys count home → i < count → m < count
@@ -47,9 +47,9 @@ absent : (keys : ℕ → Option ℕ) (count : ℕ) (home : ℕ → ℕ) (key i m
 absent keys count home key i m probed li lm none leads at_m = ⊎_elim
     (λ (e : i ≡ m). cc)
     (λ (other : i ≢ m). ⊎_elim
-        (λ (b : IsBefore (home key) i m). false≢true (sym (probed m key at_m i li b) ∙ stops_none (keys i) key none))
-        (λ (b : IsBefore (home key) m i). false≢true (sym (leads m lm b) ∙ stops_some (keys m) key at_m))
-        (either (home key) i m other)) (cases_eq i m)
+    (λ (b : IsBefore (home key) i m). false≢true (sym (probed m key at_m i li b) ∙ stops_none (keys i) key none))
+    (λ (b : IsBefore (home key) m i). false≢true (sym (leads m lm b) ∙ stops_some (keys m) key at_m))
+    (either (home key) i m other)) (cases_eq i m)
 
 -- No place has the key but the one at which its probe stops.
 pub no_other : (keys : ℕ → Option ℕ) (count : ℕ) (home : ℕ → ℕ) (key i : ℕ) → IsProbed keys count home → i < count
@@ -64,15 +64,15 @@ pub put_there : (keys later : ℕ → Option ℕ) (count : ℕ) (home : ℕ → 
     → later i ≡ Some key → ((j : ℕ) → j ≢ i → later j ≡ keys j) → IsProbed later count home
 put_there keys later count home key i probed li stop leads here same m k at_m j lj before = ⊎_elim
     (λ (e : m ≡ i).
-        let is : Some key ≡ Some k = sym here ∙ ap later (sym e) ∙ at_m in
-        let k_is : key ≡ k = cc in
-        let way : IsBefore (home key) j i = subst (λ n. IsBefore (home n) j i) (sym k_is) (subst (λ n. IsBefore (home k) j n) e before) in
-        ap (λ o. stops o k) (same j (not_before (home key) i j way)) ∙ ap (stops (keys j)) (sym k_is) ∙ leads j lj way)
+    let is : Some key ≡ Some k = sym here ∙ ap later (sym e) ∙ at_m in
+    let k_is : key ≡ k = cc in
+    let way : IsBefore (home key) j i = subst (λ n. IsBefore (home n) j i) (sym k_is) (subst (λ n. IsBefore (home k) j n) e before) in
+    ap (λ o. stops o k) (same j (not_before (home key) i j way)) ∙ ap (stops (keys j)) (sym k_is) ∙ leads j lj way)
     (λ (other : m ≢ i).
-        let was : keys m ≡ Some k = sym (same m other) ∙ at_m in
-        let passes : stops (keys j) k ≡ false = probed m k was j lj before in
-        ⊎_elim
-        (λ (e : j ≡ i). ⊎_elim
-            (λ (none : keys i ≡ None). absurd (false≢true (sym passes ∙ stops_none (keys j) k (ap keys e ∙ none))))
-            (λ (there : keys i ≡ Some key). ap (λ o. stops o k) (ap later e ∙ here ∙ sym there ∙ sym (ap keys e)) ∙ passes) (stopped (keys i) key stop))
-        (λ (ne : j ≢ i). ap (λ o. stops o k) (same j ne) ∙ passes) (cases_eq j i)) (cases_eq m i)
+    let was : keys m ≡ Some k = sym (same m other) ∙ at_m in
+    let passes : stops (keys j) k ≡ false = probed m k was j lj before in
+    ⊎_elim
+    (λ (e : j ≡ i). ⊎_elim
+    (λ (none : keys i ≡ None). absurd (false≢true (sym passes ∙ stops_none (keys j) k (ap keys e ∙ none))))
+    (λ (there : keys i ≡ Some key). ap (λ o. stops o k) (ap later e ∙ here ∙ sym there ∙ sym (ap keys e)) ∙ passes) (stopped (keys i) key stop))
+    (λ (ne : j ≢ i). ap (λ o. stops o k) (same j ne) ∙ passes) (cases_eq j i)) (cases_eq m i)

@@ -44,9 +44,9 @@ pub get_there : (slots : List Slot) (room len shift key place : ℕ) → IsTable
     → get (content slots) key ≡ value_in (slot_at slots place)
 get_there slots room len shift key place table at = get-map_of (pairs_of slots) key ∙ ⊎_elim
     (λ (none : key_at slots place ≡ None). found_nowhere slots key (λ m lt is. ⊎_elim
-        (λ (e : m ≡ place). let both : None ≡ Some key = sym none ∙ sym (ap (key_at slots) e) ∙ is in absurd (cc))
-        (λ (ne : m ≢ place). only slots room len shift key place table at m lt ne is) (cases_eq m place))
-        ∙ sym (valueless (slot_at slots place) none))
+    (λ (e : m ≡ place). let both : None ≡ Some key = sym none ∙ sym (ap (key_at slots) e) ∙ is in absurd (cc))
+    (λ (ne : m ≢ place). only slots room len shift key place table at m lt ne is) (cases_eq m place))
+    ∙ sym (valueless (slot_at slots place) none))
     (λ (here : key_at slots place ≡ Some key). found_at slots key place at.within here (only slots room len shift key place table at))
     (stopped (key_at slots place) key at.stops)
 
@@ -67,19 +67,23 @@ pub content_set : (slots : List Slot) (room len shift key place : ℕ) (slot : S
 content_set slots room len shift key place slot table at is = set_lookups (pairs_of slots) (pairs_of later) key (value_in slot) (λ q. ⊎_elim
     (λ (e : key ≡ q). ap (found later) (sym e) ∙ here ∙ sym (ap (λ b. cond b (value_in slot) (found slots q)) (eq-eqb key q e)))
     (λ (ne : key ≢ q). found_set slots q place slot (was q ne) (λ s. ne (ap (λ (o : Option ℕ). num o) (sym is ∙ s)))
-        ∙ sym (ap (λ b. cond b (value_in slot) (found slots q)) (ne_eqb key q ne))) (cases_eq key q))
+    ∙ sym (ap (λ b. cond b (value_in slot) (found slots q)) (ne_eqb key q ne))) (cases_eq key q))
   where
     later : List Slot
     later = set slots place slot
+
     num : Option ℕ → ℕ
     num None = 0
     num (Some n) = n
+
     long : length later ≡ length slots
     long = length-set slots place slot
+
     here : found later key ≡ value_in slot
     here = let e : length later ≡ length slots = long in let w = at.within in found_at later key place (omega arith) (key_at-set_here slots place slot at.within ∙ is)
         (λ m lt ne there. only slots room len shift key place table at m (omega arith) ne (sym (key_at-set_other slots place slot m ne) ∙ there))
         ∙ ap value_in (get_or-set_same slots place slot Empty at.within)
+
     was : (q : ℕ) → key ≢ q → key_at slots place ≢ Some q
     was q ne there = ⊎_elim (λ (none : key_at slots place ≡ None). let both : None ≡ Some q = sym none ∙ there in absurd (cc))
         (λ (same : key_at slots place ≡ Some key). ne (ap num (sym same ∙ there))) (stopped (key_at slots place) key at.stops)
@@ -91,15 +95,16 @@ pub table_set : (slots : List Slot) (room len shift key place : ℕ) (slot : Slo
     → IsTable (set slots place slot) fewer more shift
 table_set slots room len shift key place slot fewer more table at is less counts = record {
   probed = subst (λ n. IsProbed (key_at later) n (home n shift)) (sym (length-set slots place slot))
-    (put_there (key_at slots) (key_at later) (length slots) (home (length slots) shift) key place table.probed at.within at.stops at.leads
+      (put_there (key_at slots) (key_at later) (length slots) (home (length slots) shift) key place table.probed at.within at.stops at.leads
       (key_at-set_here slots place slot at.within ∙ is) (λ j ne. key_at-set_other slots place slot j ne));
   room_is = let sum = sum_by-set (λ s. cond (is_empty s) 1 0) slots place slot Empty at.within in let none = not_empty slot is in
-    let e : tally (is_empty slot) ≡ 0 = ap tally none in let r = table.room_is in omega arith;
+      let e : tally (is_empty slot) ≡ 0 = ap tally none in let r = table.room_is in omega arith;
   len_is = let sum = sum_by-set (λ s. cond (is_full s) 1 0) slots place slot Empty at.within in let l = table.len_is in omega arith;
 }
   where
     later : List Slot
     later = set slots place slot
+
     not_empty : (s : Slot) → key_in s ≡ Some key → is_empty s ≡ false
     not_empty Empty h = cc
     not_empty (Removed k) h = refl

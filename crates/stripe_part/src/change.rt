@@ -72,11 +72,7 @@ fn act(map: &mut ProbeMap, op: Op) -> Reply
 /// Does an operation, and adds it to the log as the newest, if it is a change.
 #[inline(always)]
 #[tactic(auto, using(crate::proofs::Calls::looked))]
-pub(crate) fn apply(
-    map: &mut ProbeMap,
-    log: &mut Vec<Change>,
-    op: Op,
-) -> Result<Reply, Refusal>
+pub(crate) fn apply(map: &mut ProbeMap, log: &mut Vec<Change>, op: Op) -> Result<Reply, Refusal>
     requires { vec_len log.old ≤ map.old.spare }
     ensures ok { IfOk result (Does (part_of map.old.content log.old.items)
         (part_of map.new.content log.new.items) op) }

@@ -109,7 +109,12 @@ fn step_both(
 }
 
 /// Checks that both have the same pairs.
-fn is_alike(rt: &impl Abort, alloc: Global, map: &ProbeMap, plain: &mut Vec<(u64, u64)>) -> Result<(), Fail> {
+fn is_alike(
+    rt: &impl Abort,
+    alloc: Global,
+    map: &ProbeMap,
+    plain: &mut Vec<(u64, u64)>,
+) -> Result<(), Fail> {
     let rows = rows_of(alloc, map)?;
     plain.sort()?;
     assert!(rt; rows.as_slice() == plain.as_slice());

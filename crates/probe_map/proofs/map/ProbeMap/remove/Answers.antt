@@ -17,8 +17,8 @@ returns-in_default-clause-content c = removed_none c.args.self.now.content c.arg
 pub returns-in_default-index : goal.returns-in_default-index
 returns-in_default-index c = let m = c.self.inside in
     let none : get c.args.self.now.content c.args.key ≡ None = ap (λ (p : MapAt). get p.content c.args.key) (sym c.self.view_is)
-        ∙ sym (get_read m.slots.items m.room m.len m.shift c.args.key c.in-Some.place c.index.result.now c.self.invariant c.in-Some.ensures.some c.index.ensures)
-        ∙ no_value c.index.result.now c.in_default-index.not-Full in
+    ∙ sym (get_read m.slots.items m.room m.len m.shift c.args.key c.in-Some.place c.index.result.now c.self.invariant c.in-Some.ensures.some c.index.ensures)
+    ∙ no_value c.index.result.now c.in_default-index.not-Full in
     record { before = sym none; content = removed_none c.args.self.now.content c.args.key none; spare = omega arith }
 
 pub invariant_of-self : goal.invariant_of-self
