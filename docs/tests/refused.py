@@ -28,6 +28,7 @@ table_tests bucket_table_tests::refused_allocations
 table_tests map_ops_tests::refused_memory_for_puts
 table_tests map_ops_tests::refused_memory_for_a_preparation
 table_tests map_ops_tests::refused_memory_for_a_link
+table_tests probe_map_tests::refused_memory
 table_tests stripe_part_tests::refused_memory
 striped_tests refused::refused_memory
 thread_tests lock_tests::a_stripe_is_held_until_its_holder_releases
@@ -60,9 +61,11 @@ program_tests engines::failing::run_without_memory
 program_tests commands::refused_allocations
 """
 # Tests that ask for no more bytes at once than this, and for so many once: the list's counts of
-# marked nodes, 4,096 of 8 bytes, are the largest that a small core wants.
+# marked nodes, 4,096 of 8 bytes, are the largest that a small core wants; 32 slots of 24 bytes are
+# the largest array of a map of eleven keys.
 LARGEST = """
 core_tests cores::nine_undone_newest_first 32768
+table_tests probe_map_tests::removed_keys 768
 """
 # What an assertion says of a call that was refused memory.
 OF_MEMORY = re.compile("AllocError|AllocFailed|NoMemory")

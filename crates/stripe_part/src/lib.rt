@@ -1,8 +1,8 @@
 //! The map of one stripe of a map that is cut into stripes, with its own undo log.
 //!
 //! Whoever holds a stripe has its `Part` for himself, as plain memory. So a part needs none of what
-//! callers in steps need: no cursors, no marked nodes, no buckets in split order. Inside is std's
-//! hash map.
+//! callers in steps need: no cursors, no marked nodes, no buckets in split order. Inside is a
+//! `ProbeMap`.
 //!
 //! A contract sees a part as a `PartAt`: its `content`, a finite map, and its `log`, for each
 //! change of the open transaction, newest first, the key with the value before it. That is the log

@@ -7,21 +7,20 @@ ghost use Rattle.stripe_part.specs.PartAt.{nothing};
 ghost use Rattle.stripe_part.specs.Calls.{Does, IsRefused, TakesBack};
 
 use crate::change::{Change, apply, take_back};
+use probe_map::ProbeMap;
 use std::alloc::{AllocError, Global};
-use std::collections::HashMap;
 use std::marker::Model;
 use txn_trace::{Op, Refusal, Reply};
 
 /// A map, and the keys of the open transaction's changes with the values before them, newest last.
 #[derive(Drop)]
 pub(crate) struct LoggedMap {
-    map: HashMap<u64, u64>,
+    map: ProbeMap,
     log: Vec<Change>,
 }
 
 impl Model for LoggedMap {
     ghost use Rattle.std.specs.Prelude.{◌≤◌, vec_len};
-    ghost use Rattle.std.specs.HashMap.{spare};
     ghost use Rattle.stripe_part.specs.PartAt.{PartAt, part_code};
     ghost use Rattle.stripe_part.specs.Stored.{part_of};
 
@@ -29,9 +28,9 @@ impl Model for LoggedMap {
 
     ghost coded = { part_code };
 
-    ghost view = { λ l. part_of l.map.entries l.log.items };
+    ghost view = { λ l. part_of l.map.content l.log.items };
 
-    ghost invariant = { λ l. vec_len l.log ≤ spare l.map };
+    ghost invariant = { λ l. vec_len l.log ≤ l.map.spare };
 }
 
 impl LoggedMap {
@@ -40,7 +39,7 @@ impl LoggedMap {
         ensures { result ≡ nothing }
     {
         LoggedMap {
-            map: HashMap::new(alloc),
+            map: ProbeMap::new(alloc),
             log: Vec::new(alloc),
         }
     }
@@ -91,10 +90,7 @@ impl LoggedMap {
     pub(crate) fn pairs(&self, alloc: Global) -> Result<Vec<(u64, u64)>, AllocError>
         ensures { IfOk result (λ pairs. pairs.items ≡ self.now.content.rows) }
     {
-        let mut pairs = Vec::with_capacity(alloc, self.map.len())?;
-        for (key, value) in &self.map {
-            pairs.push((*key, *value))?;
-        }
+        let mut pairs = self.map.pairs(alloc)?;
         pairs.sort()?;
         Ok(pairs)
     }

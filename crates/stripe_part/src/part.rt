@@ -38,7 +38,7 @@ impl Model for Part {
 
 /// Does a change on a new map.
 #[inline(never)]
-#[tactic(auto, using(crate::proofs::Entries::may_be))]
+#[tactic(auto, using(crate::proofs::Calls::may_be))]
 fn begin(alloc: Global, op: Op) -> Result<(Box<LoggedMap>, Reply), Refusal>
     requires { changes op Option.None ≡ true }
     ensures ok { IfOk result (λ made. Does nothing made.0.value op made.1) }

@@ -1,5 +1,5 @@
 //! Tests of the crates of the table: `split_key`, `node_list`, `list_steps`, `bucket_table`,
-//! `undo_log`, `map_ops` and `stripe_part`, one module for each.
+//! `undo_log`, `map_ops`, `probe_map` and `stripe_part`, one module for each.
 //!
 //! They test what no contract says: that each call succeeds while there is memory, the state after
 //! a refused allocation, and worked runs with their values. They are a separate crate, since a
@@ -15,6 +15,8 @@ mod list_steps_tests;
 mod map_ops_tests;
 #[cfg(test)]
 mod node_list_tests;
+#[cfg(test)]
+mod probe_map_tests;
 #[cfg(test)]
 mod split_key_tests;
 #[cfg(test)]

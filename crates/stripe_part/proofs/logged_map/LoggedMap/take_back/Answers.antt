@@ -6,5 +6,5 @@ use Rattle.stripe_part.proofs.logged_map.LoggedMap.take_back.Goals as goal
 
 pub returns : goal.returns
 returns c key before older is =
-    subst (λ (p : PartAt). TakesBack p (part_of c.take_back.new.map.entries c.take_back.new.log.items) key before older) c.self.view_is
+    subst (λ (p : PartAt). TakesBack p (part_of c.take_back.new.map.content c.take_back.new.log.items) key before older) c.self.view_is
     (c.take_back.ensures.back key before older (ap (λ (p : PartAt). p.log) c.self.view_is ∙ is))

@@ -1,7 +1,7 @@
 use Rattle.std.proofs.Common.{◌≡◌, None, subst, sym, ◌∙◌}
 use Rattle.stripe_part.specs.PartAt.{PartAt, nothing}
 use Rattle.stripe_part.specs.Calls.{Does}
-use Rattle.stripe_part.proofs.Entries.{nothing_done}
+use Rattle.stripe_part.proofs.Calls.{nothing_done}
 use Rattle.stripe_part.proofs.part.Part.apply.Goals as goal
 
 pub returns-then-not-changes-clause-ok : goal.returns-then-not-changes-clause-ok

@@ -1,26 +1,17 @@
 -- The map of a list of pairs: what it has at each key, and its rows.
-use Rattle.std.proofs.Common.{◌≡◌, ℕ, ◌==◌, Bool, true, false, cond, List, [], ◌∷◌, ◌++◌, length, reverse, drop, get_or, Option, None, Some, sym, refl, ◌∙◌, ap, subst, IsPermutation, is_eq, is_some, nat_cmp, nat_eq, Ordering, Less, Equal, Greater}
+use Rattle.std.proofs.Common.{◌≡◌, ℕ, ◌==◌, Bool, true, false, cond, List, [], ◌∷◌, length, Option, None, Some, sym, refl, ◌∙◌, ap, subst, IsPermutation, is_eq, is_some, nat_cmp, nat_eq, Ordering, Less, Equal, Greater}
 use Rattle.std.specs.FinMap.Entries.{by_order, find, put}
 use Rattle.std.specs.List.{AllByRecursion, IsDistinct}
 use Rattle.std.specs.Map.{keys_of, lookup}
 use Rattle.std.proofs.lemmas.Bool.{false≢true, cases_eq, eq-eqb, ne_eqb}
-use Rattle.std.proofs.lemmas.List.{reverse-append}
 use Rattle.std.proofs.lemmas.List.Sorted.{IsPermutation-refl, IsPermutation-sym, IsPermutation-trans, IsPermutation-cons, IsPermutation-middle, length_permutation}
 use Rattle.std.proofs.lemmas.Map.Keys.{IsDistinct-head, IsDistinct-tail}
 use mathlib.Core.Logic.{◌⊎◌, inl, inr}
-use Rattle.txn_trace.specs.declared.op.Op.{Op}
-use Rattle.txn_trace.specs.declared.op.Op.TheVariants.{Get, Put, PutIf, Take}
-use Rattle.txn_trace.specs.Map.{Map, after, empty, get, key_of, reply_of}
+use Rattle.txn_trace.specs.Map.{Map, get}
 use Rattle.txn_trace.specs.Now.{set_at}
-use Rattle.txn_trace.specs.Owed.{may_change}
-use Rattle.txn_trace.specs.Shape.{changes}
-use Rattle.txn_trace.proofs.Acting.{after_unchanged}
-use Rattle.txn_trace.proofs.Fits.{changes-reply}
 use Rattle.txn_trace.proofs.Maps.{get-insert, same_map}
 use Rattle.txn_trace.proofs.Table.{get-set_at}
-use Rattle.stripe_part.specs.Calls.{Does, TakesBack}
-use Rattle.stripe_part.specs.PartAt.{nothing}
-use Rattle.stripe_part.specs.Stored.{map_of, part_of}
+use Rattle.probe_map.specs.MapAt.{map_of}
 
 abbrev Pair : Type 0
 Pair = ℕ × ℕ
@@ -29,10 +20,6 @@ Pair = ℕ × ℕ
 pub get-map_of : (pairs : List Pair) (q : ℕ) → get (map_of pairs) q ≡ lookup (nat_eq q) pairs
 get-map_of [] q = refl
 get-map_of (pair ∷ pairs) q = get-insert (map_of pairs) pair.0 pair.1 q ∙ ap (cond (q == pair.0) (Some pair.1)) (get-map_of pairs q)
-
--- Lists that have the same at each key are of one map.
-pub same_lookups : (es fs : List Pair) → ((q : ℕ) → lookup (nat_eq q) fs ≡ lookup (nat_eq q) es) → map_of fs ≡ map_of es
-same_lookups es fs same = same_map (map_of fs) (map_of es) (λ q. get-map_of fs q ∙ same q ∙ sym (get-map_of es q))
 
 same_eqb : (a b : ℕ) → (a == b) ≡ (b == a)
 same_eqb a b = elim (cases_eq a b) [
@@ -74,49 +61,3 @@ rows_map_of (pair ∷ pairs) distinct =
 
 pub count_map_of : (pairs : List Pair) → IsDistinct nat_eq (keys_of pairs) → length pairs ≡ length (map_of pairs).rows
 count_map_of pairs distinct = length_permutation (map_of pairs).rows pairs (rows_map_of pairs distinct)
-
--- An operation that may not be a change is a look.
-pub looked : (es : List Pair) (log : List (ℕ × Option ℕ)) (op : Op) (reply : Option ℕ) → may_change op ≡ false → reply ≡ get (map_of es) (key_of op) → Does (part_of es log) (part_of es log) op reply
-looked es log (Get key) reply looks is = record { reply_is = is; content_is = refl; log_is = refl }
-looked es log (Put key v) reply looks is = absurd (false≢true (sym looks))
-looked es log (Take key) reply looks is = absurd (false≢true (sym looks))
-looked es log (PutIf key expected v) reply looks is = absurd (false≢true (sym looks))
-
--- An operation was done, and its change is in the log, if it is one.
-pub done : (es fs : List Pair) (log : List (ℕ × Option ℕ)) (op : Op) (reply : Option ℕ) → reply ≡ reply_of (map_of es) op → map_of fs ≡ after (map_of es) op
-    → (later : List (ℕ × Option ℕ)) → later ≡ cond (changes op reply) (log ++ (key_of op, reply) ∷ []) log → Does (part_of es log) (part_of fs later) op reply
-done es fs log op reply replies leaves later is = record {
-  reply_is = replies;
-  content_is = leaves;
-  log_is = ap reverse is ∙ newest_first (changes op reply);
-}
-  where
-    newest_first : (b : Bool) → reverse (cond b (log ++ (key_of op, reply) ∷ []) log) ≡ cond b ((key_of op, reply) ∷ reverse log) (reverse log)
-    newest_first true = reverse-append log ((key_of op, reply) ∷ [])
-    newest_first false = refl
-
--- The newest change was taken back.
-pub back_done : (es fs : List Pair) (older : List (ℕ × Option ℕ)) (key : ℕ) (before : Option ℕ) → map_of fs ≡ set_at (map_of es) key before
-    → (k : ℕ) (b : Option ℕ) (rest : List (ℕ × Option ℕ)) → reverse (older ++ (key, before) ∷ []) ≡ (k, b) ∷ rest → TakesBack (part_of es (older ++ (key, before) ∷ [])) (part_of fs older) k b rest
-back_done es fs older key before leaves k b rest is =
-    let parts : (key, before) ∷ reverse older ≡ (k, b) ∷ rest = sym (reverse-append older ((key, before) ∷ [])) ∙ is in
-    let head : (key, before) ≡ (k, b) = ap (λ (l : List (ℕ × Option ℕ)). get_or l 0 (k, b)) parts in
-    record {
-      content_is = leaves ∙ ap (λ (j : ℕ × Option ℕ). set_at (map_of es) j.0 j.1) head;
-      log_is = ap (drop 1) parts;
-    }
-
--- What is a change of a key without a value may be a change.
-pub may_be : (op : Op) → changes op None ≡ true → may_change op ≡ true
-may_be (Get key) is = is
-may_be (Put key v) is = refl
-may_be (Take key) is = refl
-may_be (PutIf key expected v) is = refl
-
--- On an empty part an operation that is no change does nothing.
-pub nothing_done : (op : Op) → changes op None ≡ false → Does nothing nothing op None
-nothing_done op stays = record {
-  reply_is = refl;
-  content_is = sym (after_unchanged empty op (sym (changes-reply empty op) ∙ stays));
-  log_is = sym (ap (λ b. cond b ((key_of op, None) ∷ []) []) stays);
-}

@@ -1,0 +1,5 @@
+pub mod Lookups
+pub mod Pairs
+pub mod Passes
+pub mod Rounds
+pub mod Tables

@@ -1,0 +1,7 @@
+use Rattle.std.proofs.Common.{◌≡◌, ◌++◌, drop}
+use Rattle.probe_map.specs.Slots.{pairs_of}
+use Rattle.probe_map.proofs.map.list.Given as goal
+
+-- The pairs so far and those of the slots that are left are all.
+abbrev pub invariant-loop-slot : goal.invariant-loop-slot
+invariant-loop-slot l = l.pairs.items ++ pairs_of (drop l.slot-index l.slots) ≡ pairs_of l.slots

@@ -1,0 +1,3 @@
+pub mod MapAt
+pub mod Probes
+pub mod Slots

@@ -1,0 +1,35 @@
+-- A contract sees a map as its content, and as the number of new keys that it has room for.
+use Rattle.std.specs.Prelude.{◌≡◌, ℕ, List, [], ◌∷◌, refl}
+use Rattle.std.proofs.Common.{ap}
+use Rattle.std.specs.Coded.{Coded, code_by, coded×, coded_list, coded_ℕ}
+use Rattle.std.specs.FinMap.Entries.{find}
+use Rattle.std.specs.Ordering.{nat_cmp}
+use base.Stored.{coded_via}
+use Rattle.txn_trace.specs.Map.{Map, empty, insert}
+use Rattle.txn_trace.proofs.Maps.{same_map}
+
+-- The content, and how many keys can be put without memory that are not there.
+pub record MapAt : Type 0 where
+  pub content : Map
+  pub spare : ℕ
+
+-- No key, and no room.
+abbrev pub nothing : MapAt
+nothing = record { content = empty; spare = 0 }
+
+-- Maps of the same pairs are equal.
+pub same_rows : (m n : Map) → m.rows ≡ n.rows → m ≡ n
+same_rows m n rows = same_map m n (λ k. ap (find nat_cmp k) rows)
+
+-- A finite map is stored as its pairs, and this view as the pair of its fields.
+abbrev pub content_code : Coded Map
+content_code = coded_via (coded_list (coded× coded_ℕ coded_ℕ)) (λ m. m.rows) same_rows
+
+abbrev pub map_code : Coded MapAt
+map_code = code_by (Map × ℕ) (coded× content_code coded_ℕ) (λ p. (p.content, p.spare))
+    (λ t. record { content = t.0; spare = t.1 }) (λ _. refl)
+
+-- The map of these pairs.
+abbrev pub map_of : List (ℕ × ℕ) → Map
+map_of [] = empty
+map_of (pair ∷ pairs) = insert (map_of pairs) pair.0 pair.1

@@ -1,0 +1,231 @@
+//! The public type: the slots, with the numbers that say how many more may be used and how many
+//! have a value.
+ghost use Rattle.std.specs.Prelude.{◌≡◌, ℕ, ◌+◌, ◌<◌, ◌≤◌, Option, IfOk, OnOk, OnErr, IfSome, length};
+ghost use Rattle.std.specs.List.Sorted.{IsPermutation};
+ghost use Rattle.txn_trace.specs.Map.{count_of, empty, get};
+ghost use Rattle.txn_trace.specs.Now.{set_at};
+ghost use Rattle.probe_map.specs.MapAt.{map_of, nothing};
+ghost use Rattle.probe_map.specs.Slots.{most_used, pairs_of};
+
+use crate::probe::find;
+use crate::slot::Slot;
+use std::alloc::{AllocError, Global};
+use std::marker::Model;
+
+/// A map from whole numbers to whole numbers.
+///
+/// A contract sees a `MapAt`: the content, a finite map, and the number of new keys that it has
+/// room for.
+///
+/// # Cost
+///
+/// An empty map takes no memory. A new array has 4 slots or more, of 24 bytes, and at most 4 for
+/// each key and for what is reserved.
+#[derive(Drop)]
+pub struct ProbeMap {
+    slots: Vec<Slot>,
+    // How many of the empty slots may be used.
+    room: usize,
+    // How many slots have a value.
+    len: usize,
+    // Which bits of a product are a key's home.
+    shift: u32,
+}
+
+impl Model for ProbeMap {
+    ghost use Rattle.probe_map.specs.MapAt.{MapAt, map_code, map_of};
+    ghost use Rattle.probe_map.specs.Slots.{IsTable, pairs_of};
+
+    ghost Value = { MapAt };
+
+    ghost coded = { map_code };
+
+    ghost view = { λ m. record { content = map_of (pairs_of m.slots.items); spare = m.room } };
+
+    ghost invariant = { λ m. IsTable m.slots.items m.room m.len m.shift };
+}
+
+/// How many slots a new array has, so that at most half of them have a key at first.
+fn count_for(keys: usize) -> Option<usize>
+    ensures { IfSome result (λ count. keys ≤ most_used count) }
+{
+    keys.checked_mul(2)?.max(4).checked_next_power_of_two()
+}
+
+/// An empty map with room for this number of keys.
+fn with_room(alloc: Global, keys: usize) -> Result<ProbeMap, AllocError>
+    ensures empty { IfOk result (λ map. map.content ≡ empty) }
+    ensures room { IfOk result (λ map. keys ≤ map.spare) }
+{
+    let Some(count) = count_for(keys) else {
+        return Err(AllocError);
+    };
+    Ok(ProbeMap {
+        slots: vec![in alloc; Slot::Empty; count]?,
+        room: count - count / 8,
+        len: 0,
+        shift: count.leading_zeros().wrapping_add(1),
+    })
+}
+
+/// Puts the keys that have values into an empty map.
+fn put_all(map: &mut ProbeMap, slots: &[Slot])
+    requires empty { map.old.content ≡ empty }
+    requires room { length (pairs_of slots.now) ≤ map.old.spare }
+    ensures content { map.new.content ≡ map_of (pairs_of slots.now) }
+    ensures room { map.old.spare ≤ map.new.spare + length (pairs_of slots.now) }
+{
+    let mut left = slots.len();
+    while left > 0 {
+        left -= 1;
+        match slots[left] {
+            Slot::Empty => {}
+            Slot::Removed(_) => {}
+            Slot::Full(key, value) => {
+                let _ = map.insert(key, value);
+            }
+        }
+    }
+}
+
+/// The keys that have values, with them.
+fn list(alloc: Global, slots: &[Slot], len: usize) -> Result<Vec<(u64, u64)>, AllocError>
+    ensures { IfOk result (λ pairs. pairs.items ≡ pairs_of slots.now) }
+{
+    let mut pairs = Vec::with_capacity(alloc, len)?;
+    for slot in slots {
+        match *slot {
+            Slot::Empty => {}
+            Slot::Removed(_) => {}
+            Slot::Full(key, value) => pairs.push((key, value))?,
+        }
+    }
+    Ok(pairs)
+}
+
+impl ProbeMap {
+    /// An empty map.
+    ///
+    /// # Cost
+    ///
+    /// Constant time; takes no memory.
+    pub fn new(alloc: Global) -> ProbeMap
+        ensures { result ≡ nothing }
+    {
+        ProbeMap {
+            slots: Vec::new(alloc),
+            room: 0,
+            len: 0,
+            shift: 0,
+        }
+    }
+
+    /// The value of a key. Takes amortized constant time.
+    #[inline(always)]
+    pub fn get(&self, key: u64) -> Option<u64>
+        ensures { result ≡ get self.now.content key }
+    {
+        let Some(place) = find(&self.slots, self.shift, key) else {
+            return None;
+        };
+        self.slots[place].value()
+    }
+
+    /// How many keys there are. Constant time.
+    pub fn len(&self) -> usize
+        ensures { result ≡ count_of self.now.content }
+    {
+        self.len
+    }
+
+    /// Gives a key a value, and answers the value before it.
+    #[inline(always)]
+    pub fn insert(&mut self, key: u64, value: u64) -> Option<u64>
+        requires { 0 < self.old.spare }
+        ensures before { result ≡ get self.old.content key }
+        ensures content { self.new.content ≡ set_at self.old.content key (Option.Some value) }
+        ensures spare { self.old.spare ≤ self.new.spare + 1 }
+    {
+        let Some(place) = find(&self.slots, self.shift, key) else {
+            unreachable!();
+        };
+        let slot = self.slots[place];
+        let before = slot.value();
+        self.slots[place] = Slot::Full(key, value);
+        self.room -= usize::from(slot.is_empty());
+        self.len += usize::from(before.is_none());
+        before
+    }
+
+    /// Takes a key out, and answers the value that it had.
+    #[inline(always)]
+    pub fn remove(&mut self, key: u64) -> Option<u64>
+        ensures before { result ≡ get self.old.content key }
+        ensures content { self.new.content ≡ set_at self.old.content key Option.None }
+        ensures spare { self.old.spare ≤ self.new.spare }
+    {
+        let Some(place) = find(&self.slots, self.shift, key) else {
+            return None;
+        };
+        let Slot::Full(_, before) = self.slots[place] else {
+            return None;
+        };
+        self.slots[place] = Slot::Removed(key);
+        self.len -= 1;
+        Some(before)
+    }
+
+    /// Makes room for this number of new keys.
+    ///
+    /// # Errors
+    ///
+    /// `AllocError` if memory is refused. It leaves the map unchanged.
+    ///
+    /// # Cost
+    ///
+    /// Amortized constant time for each key that is then put. Takes memory, if room lacks.
+    #[inline(always)]
+    pub fn reserve(&mut self, keys: usize) -> Result<(), AllocError>
+        ensures content { self.new.content ≡ self.old.content }
+        ensures room { OnOk result (keys ≤ self.new.spare) }
+        ensures spare { self.old.spare ≤ self.new.spare }
+        ensures err { OnErr result (self.new ≡ self.old) }
+    {
+        if keys <= self.room {
+            return Ok(());
+        }
+        self.rebuild(keys)
+    }
+
+    /// Lays the keys that have values into a new array, with room for more.
+    #[cold]
+    #[inline(never)]
+    fn rebuild(&mut self, more: usize) -> Result<(), AllocError>
+        ensures content { self.new.content ≡ self.old.content }
+        ensures room { OnOk result (more ≤ self.new.spare) }
+        ensures err { OnErr result (self.new ≡ self.old) }
+    {
+        let Some(keys) = self.len.checked_add(more) else {
+            return Err(AllocError);
+        };
+        let mut later = with_room(*self.slots.allocator(), keys)?;
+        put_all(&mut later, &self.slots);
+        *self = later;
+        Ok(())
+    }
+
+    /// The keys with their values, in no order.
+    ///
+    /// # Errors
+    ///
+    /// `AllocError` if memory is refused.
+    ///
+    /// # Cost
+    ///
+    /// Memory in proportion to the keys, and the time of a walk over the slots.
+    pub fn pairs(&self, alloc: Global) -> Result<Vec<(u64, u64)>, AllocError>
+        ensures { IfOk result (λ pairs. IsPermutation self.now.content.rows pairs.items) }
+    {
+        list(alloc, &self.slots, self.len)
+    }
+}

@@ -1,0 +1,65 @@
+//! Probes over the slots. These are functions of the slots, and not methods of the map, so that
+//! they serve while its other fields change.
+ghost use Rattle.std.specs.Prelude.{◌≡◌, ℕ, ◌<◌, ◌≤◌, Some, None, true, false, length, IfSome, unwrap_or};
+ghost use Rattle.probe_map.specs.Probes.{stops};
+ghost use Rattle.probe_map.specs.Slots.{StopsAt, home, key_at};
+
+use crate::slot::Slot;
+
+/// 2^64 divided by the golden ratio: the high bits of a product with it are spread well, also for
+/// keys in a row.
+const SPREAD: u64 = 0x9E37_79B9_7F4A_7C15;
+
+/// The place where the probe for a key begins.
+#[inline(always)]
+#[tactic(auto, unfolding(crate::specs::Slots::home))]
+fn home_of(count: usize, shift: u32, key: u64) -> usize
+    ensures home { result ≡ home count shift key }
+    ensures within { result ≤ count }
+{
+    let high = key.wrapping_mul(SPREAD).wrapping_shr(shift) as usize;
+    if high < count { high } else { 0 }
+}
+
+/// The first of the slots at which the probe for a key stops.
+#[inline(always)]
+fn first_stop(slots: &[Slot], key: u64) -> Option<usize>
+    ensures some { IfSome result (λ i. i < length slots.now
+        × (stops (key_at slots.now i) key ≡ true)) }
+    ensures passed { (j : ℕ) → j < unwrap_or result (length slots.now)
+        → stops (key_at slots.now j) key ≡ false }
+{
+    for (i, slot) in slots.iter().enumerate() {
+        if slot.stops(key) {
+            return Some(i);
+        }
+    }
+    None
+}
+
+/// The place at which a probe stops, if it does not come back to its start.
+#[inline(always)]
+fn probe(slots: &[Slot], start: usize, key: u64) -> Option<usize>
+    requires { start ≤ length slots.now }
+    ensures some { IfSome result (λ place. StopsAt slots.now start key place) }
+    ensures none { result ≡ None → (j : ℕ) → j < length slots.now
+        → stops (key_at slots.now j) key ≡ false }
+{
+    let (front, back) = slots.split_at(start);
+    match first_stop(back, key) {
+        Some(i) => Some(start + i),
+        None => first_stop(front, key),
+    }
+}
+
+/// The place at which the probe for a key stops, if it does not come back to the key's home.
+#[inline(always)]
+pub(crate) fn find(slots: &Vec<Slot>, shift: u32, key: u64) -> Option<usize>
+    ensures some { IfSome result (λ place.
+        StopsAt slots.now.items (home (length slots.now.items) shift key) key place) }
+    ensures none { result ≡ None → (j : ℕ) → j < length slots.now.items
+        → stops (key_at slots.now.items j) key ≡ false }
+{
+    let slots = slots.as_slice();
+    probe(slots, home_of(slots.len(), shift, key), key)
+}

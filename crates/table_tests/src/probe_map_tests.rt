@@ -1,0 +1,234 @@
+//! Tests of `probe_map`: drawn calls compared with a plain list, keys that share a home, growth,
+//! removed keys, and refused allocations.
+use probe_map::ProbeMap;
+use std::alloc::{AllocError, Global};
+use std::process::Abort;
+use std::test::Fail;
+
+/// Its product with the map's multiplier is 1, so that a small multiple of it has the first slot as
+/// its home, and the opposite of one the last slot.
+const APART: u64 = 0xf1de_83e1_9937_733d;
+
+/// Drawn numbers, by a linear congruence (Knuth, "The Art of Computer Programming", volume 2,
+/// section 3.3.4, table 1, line 26).
+#[derive(Drop)]
+struct Draws(u64);
+
+/// The next number, below a limit.
+fn draw(draws: &mut Draws, limit: u64) -> u64 {
+    draws.0 = draws
+        .0
+        .wrapping_mul(6_364_136_223_846_793_005)
+        .wrapping_add(1_442_695_040_888_963_407);
+    (draws.0 >> 33).checked_rem(limit).unwrap_or(0)
+}
+
+/// Makes room for a key, and asks once more if memory is refused: the map is unchanged then.
+fn reserve_again(rt: &impl Abort, map: &mut ProbeMap, key: u64) -> Result<(), AllocError> {
+    let seen = (map.len(), map.get(key));
+    match map.reserve(1) {
+        Ok(()) => Ok(()),
+        Err(AllocError) => {
+            assert!(rt; (map.len(), map.get(key)) == seen);
+            map.reserve(1)
+        }
+    }
+}
+
+/// Puts a value at a key.
+fn put(rt: &impl Abort, map: &mut ProbeMap, key: u64, value: u64) -> Result<Option<u64>, Fail> {
+    reserve_again(rt, map, key)?;
+    put_reserved(map, key, value)
+}
+
+/// Puts a value at a key for which there is room.
+fn put_reserved(map: &mut ProbeMap, key: u64, value: u64) -> Result<Option<u64>, Fail> {
+    map.reserve(1)?;
+    Ok(map.insert(key, value))
+}
+
+fn take(map: &mut ProbeMap, key: u64) -> Option<u64> {
+    map.remove(key)
+}
+
+/// The pairs by rising keys, asked for once more if memory is refused.
+fn rows_of(alloc: Global, map: &ProbeMap) -> Result<Vec<(u64, u64)>, Fail> {
+    let mut pairs = match map.pairs(alloc) {
+        Ok(pairs) => pairs,
+        Err(AllocError) => map.pairs(alloc)?,
+    };
+    if pairs.sort().is_err() {
+        pairs.sort()?;
+    }
+    Ok(pairs)
+}
+
+/// The value that a plain list has at a key.
+fn plain_get(plain: &Vec<(u64, u64)>, key: u64) -> Option<u64> {
+    for pair in plain {
+        if pair.0 == key {
+            return Some(pair.1);
+        }
+    }
+    None
+}
+
+/// Takes a key out of a plain list.
+fn plain_take(plain: &mut Vec<(u64, u64)>, key: u64) -> Option<u64> {
+    let before = plain_get(plain, key);
+    plain.retain(|pair| pair.0 != key);
+    before
+}
+
+/// One call on both, drawn: half puts, a quarter takes, a quarter gets.
+fn step_both(
+    rt: &impl Abort,
+    draws: &mut Draws,
+    key: u64,
+    map: &mut ProbeMap,
+    plain: &mut Vec<(u64, u64)>,
+) -> Result<(), Fail> {
+    match draw(draws, 4) {
+        0 => {
+            let value = map.get(key);
+            assert!(rt; value == plain_get(plain, key));
+        }
+        1 => {
+            let before = take(map, key);
+            assert!(rt; before == plain_take(plain, key));
+        }
+        _ => {
+            let value = draw(draws, 1_000);
+            let before = put(rt, map, key, value)?;
+            assert!(rt; before == plain_take(plain, key));
+            plain.push((key, value))?;
+        }
+    }
+    assert!(rt; map.len() == plain.len());
+    Ok(())
+}
+
+/// Checks that both have the same pairs.
+fn is_alike(
+    rt: &impl Abort,
+    alloc: Global,
+    map: &ProbeMap,
+    plain: &mut Vec<(u64, u64)>,
+) -> Result<(), Fail> {
+    let rows = rows_of(alloc, map)?;
+    plain.sort()?;
+    assert!(rt; rows.as_slice() == plain.as_slice());
+    Ok(())
+}
+
+/// A key drawn from a few: small ones, ones that share the first home or the last, and high ones.
+fn draw_key(draws: &mut Draws, keys: u64) -> u64 {
+    let number = draw(draws, keys);
+    match draw(draws, 4) {
+        0 => number,
+        1 => number.wrapping_mul(APART),
+        2 => u64::MAX.wrapping_sub(number).wrapping_mul(APART),
+        _ => u64::MAX.wrapping_sub(number),
+    }
+}
+
+fn run_drawn(rt: &impl Abort, alloc: Global, seed: u64, keys: u64, steps: u64) -> Result<(), Fail> {
+    let mut draws = Draws(seed);
+    let mut map = ProbeMap::new(alloc);
+    let mut plain = Vec::new(alloc);
+    for _ in 0..steps {
+        let key = draw_key(&mut draws, keys);
+        step_both(rt, &mut draws, key, &mut map, &mut plain)?;
+    }
+    is_alike(rt, alloc, &map, &mut plain)
+}
+
+#[test]
+fn drawn_calls_beside_a_plain_list(rt: HostRuntime) -> Result<(), Fail> {
+    for keys in [1, 4, 30, 200] {
+        for seed in 0..4 {
+            run_drawn(&rt, rt.alloc(), seed, keys, 4_000)?;
+        }
+    }
+    Ok(())
+}
+
+/// The first and the last key, and one in the middle: put, replaced, taken, and put again.
+#[test]
+fn outermost_keys(rt: HostRuntime) -> Result<(), Fail> {
+    let mut map = ProbeMap::new(rt.alloc());
+    for (count, key) in [(1, 0), (2, 1 << 63), (3, u64::MAX)] {
+        let first = put(&rt, &mut map, key, 7)?;
+        let second = put(&rt, &mut map, key, key)?;
+        let taken = take(&mut map, key);
+        let absent = (map.get(key), take(&mut map, key));
+        let again = put(&rt, &mut map, key, 9)?;
+        assert!(rt; first == None && second == Some(7) && taken == Some(key));
+        assert!(rt; absent == (None, None) && again == None && map.len() == count);
+    }
+    let rows = rows_of(rt.alloc(), &map)?;
+    assert!(rt; rows.as_slice() == [(0, 9), (1 << 63, 9), (u64::MAX, 9)].as_slice());
+    Ok(())
+}
+
+/// An empty map takes no memory, and has no key.
+#[test]
+fn empty(rt: HostRuntime) -> Result<(), Fail> {
+    let mut map = ProbeMap::new(rt.alloc());
+    let taken = take(&mut map, 0);
+    assert!(rt; taken == None && map.get(u64::MAX) == None && map.len() == 0);
+    let rows = rows_of(rt.alloc(), &map)?;
+    assert!(rt; rows.is_empty());
+    Ok(())
+}
+
+/// This test is also run with each allocation refused in turn.
+#[test]
+fn refused_memory(rt: HostRuntime) -> Result<(), Fail> {
+    let mut map = ProbeMap::new(rt.alloc());
+    for key in 0..100 {
+        let before = put(&rt, &mut map, key, key)?;
+        assert!(rt; before == None);
+    }
+    for key in 0..50 {
+        let before = take(&mut map, key);
+        assert!(rt; before == Some(key));
+    }
+    let rows = rows_of(rt.alloc(), &map)?;
+    assert!(rt; rows.len() == 50 && map.len() == 50);
+    for (place, pair) in rows.iter().enumerate() {
+        assert!(rt; pair.0 == 50 + place as u64 && pair.1 == pair.0);
+    }
+    Ok(())
+}
+
+/// Keys that are removed take no room for good: of 100,000 keys ten are there at a time. The
+/// largest allocation is that of 32 slots, which docs/tests/refused.py looks at.
+#[test]
+fn removed_keys(rt: HostRuntime) -> Result<(), Fail> {
+    let mut map = ProbeMap::new(rt.alloc());
+    for key in 0..100_000u64 {
+        let before = put_reserved(&mut map, key, key)?;
+        let oldest = key.checked_sub(10).and_then(|old| take(&mut map, old));
+        assert!(rt; before == None && oldest == key.checked_sub(10));
+    }
+    assert!(rt; map.len() == 10);
+    Ok(())
+}
+
+/// The time of a test is enough for a million rising keys only if the map grows, and keys in a row
+/// have homes apart.
+#[test]
+fn rising_keys(rt: HostRuntime) -> Result<(), Fail> {
+    let mut map = ProbeMap::new(rt.alloc());
+    for key in 0..1_000_000 {
+        let before = put_reserved(&mut map, key, key)?;
+        assert!(rt; before == None);
+    }
+    for key in 0..1_000_000 {
+        let value = map.get(key);
+        assert!(rt; value == Some(key));
+    }
+    assert!(rt; map.len() == 1_000_000);
+    Ok(())
+}
