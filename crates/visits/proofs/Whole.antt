@@ -14,7 +14,6 @@ use Rattle.std.proofs.Common.{append_assoc}
 use Rattle.std.specs.Prelude.{Err}
 use Rattle.txn_trace.specs.declared.entry.Entry.TheVariants.{Began}
 use Rattle.map_answers.specs.declared.stop.Stop.{Stop}
-use Rattle.locked_map.specs.Tokens.{IsSameCaller}
 use Rattle.std.specs.Borrow.{MutBor}
 use Rattle.shared_transactions.specs.Keeps.{Keeps}
 use Rattle.shared_transactions.specs.Within.{IsRun}
