@@ -13,13 +13,13 @@ fn texts_of_stops(rt: HostRuntime) -> Result<(), Fail> {
     for (stop, wanted) in [
         (
             Stop::Busy { holder: 10 },
-            "caller 10 held the stripe of the key; the transaction was taken back",
+            "caller 10 held the stripe of the key",
         ),
         (
             Stop::from(Refusal::NotOpen),
-            "the call was refused (refusal 3)",
+            "the caller has no open transaction",
         ),
-        (Stop::from(AllocError), "the call was refused (refusal 14)"),
+        (Stop::from(AllocError), "memory was refused"),
     ] {
         let text = text_of(rt.alloc(), stop)?;
         assert_eq!(&rt; text.as_str(), wanted);
