@@ -1,12 +1,12 @@
 -- What the pairs of the slots have at a key, if at most one slot has it.
-use Rattle.std.proofs.Common.{◌≡◌, ◌≢◌, ℕ, zero, suc, ◌+◌, ◌==◌, ◌<◌, ◌⊎◌, Bool, true, false, cond, List, [], ◌∷◌, length, Option, None, Some, sum_by, count_by, sym, refl, ◌∙◌, ap, subst, nat_eq, arith, inl, inr, ⊎_elim, eq-eqb, ne_eqb, set, get_or, drop, replicate, ◌≤◌}
+use Rattle.std.proofs.Common.{◌≡◌, ◌≢◌, ℕ, zero, suc, ◌+◌, ◌<◌, false, cond, List, [], ◌∷◌, length, Option, None, Some, count_by, sym, refl, ◌∙◌, ap, nat_eq, arith, eq-eqb, ne_eqb, set, get_or, drop, replicate, ◌≤◌}
 use Rattle.std.specs.List.{AllByRecursion, IsDistinct}
 use Rattle.std.specs.Map.{keys_of, lookup}
 use Rattle.std.proofs.lemmas.List.{drop_more}
 use Rattle.std.proofs.lemmas.List.Sums.{sum_by-cons}
 use Rattle.probe_map.specs.declared.slot.Slot.{Slot}
 use Rattle.probe_map.specs.declared.slot.Slot.TheVariants.{Empty, Removed, Full}
-use Rattle.probe_map.specs.Slots.{is_empty, is_full, key_at, key_in, pairs_of, slot_at, value_in}
+use Rattle.probe_map.specs.Slots.{is_full, key_at, key_in, pairs_of, slot_at, value_in}
 
 abbrev pub found : List Slot → ℕ → Option ℕ
 found slots key = lookup (nat_eq key) (pairs_of slots)

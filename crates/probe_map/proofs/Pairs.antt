@@ -1,13 +1,13 @@
 -- The map of a list of pairs: what it has at each key, and its rows.
-use Rattle.std.proofs.Common.{◌≡◌, ℕ, ◌==◌, Bool, true, false, cond, List, [], ◌∷◌, length, Option, None, Some, sym, refl, ◌∙◌, ap, subst, IsPermutation, is_eq, is_some, nat_cmp, nat_eq, Ordering, Less, Equal, Greater}
+use Rattle.std.proofs.Common.{◌≡◌, ℕ, ◌==◌, false, cond, List, [], ◌∷◌, length, Option, None, Some, sym, refl, ◌∙◌, ap, subst, IsPermutation, is_eq, is_some, nat_cmp, nat_eq, Ordering, Less, Equal, Greater}
 use Rattle.std.specs.FinMap.Entries.{by_order, find, put}
 use Rattle.std.specs.List.{AllByRecursion, IsDistinct}
 use Rattle.std.specs.Map.{keys_of, lookup}
 use Rattle.std.proofs.lemmas.Bool.{false≢true, cases_eq, eq-eqb, ne_eqb}
 use Rattle.std.proofs.lemmas.List.Sorted.{IsPermutation-refl, IsPermutation-sym, IsPermutation-trans, IsPermutation-cons, IsPermutation-middle, length_permutation}
 use Rattle.std.proofs.lemmas.Map.Keys.{IsDistinct-head, IsDistinct-tail}
-use mathlib.Core.Logic.{◌⊎◌, inl, inr}
-use Rattle.txn_trace.specs.Map.{Map, get}
+use mathlib.Core.Logic.{inl, inr}
+use Rattle.txn_trace.specs.Map.{get}
 use Rattle.txn_trace.specs.Now.{set_at}
 use Rattle.txn_trace.proofs.Maps.{get-insert, same_map}
 use Rattle.txn_trace.proofs.Table.{get-set_at}

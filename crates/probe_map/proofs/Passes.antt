@@ -1,10 +1,10 @@
 -- A probe in two passes: over the slots from its start on, and then over those in front of it.
-use Rattle.std.proofs.Common.{◌≡◌, ℕ, ◌+◌, ◌-◌, ◌<◌, ◌≤◌, true, false, Option, Some, None, IfSome, unwrap_or, List, length, take, drop, get_or, inl, inr, ⊎_elim, arith, refl, sym, ap, subst, ◌∙◌, length-drop}
+use Rattle.std.proofs.Common.{◌≡◌, ℕ, ◌+◌, ◌-◌, ◌<◌, ◌≤◌, true, false, Option, Some, None, IfSome, unwrap_or, List, length, take, drop, inl, inr, ⊎_elim, arith, refl, sym, ap, subst, ◌∙◌, length-drop}
 use Rattle.std.proofs.lemmas.Bool.{cases_lt}
 use Rattle.std.proofs.lemmas.List.{get_or-drop, get_or-take, length-take}
 use Rattle.probe_map.specs.declared.slot.Slot.{Slot}
 use Rattle.probe_map.specs.declared.slot.Slot.TheVariants.{Empty}
-use Rattle.probe_map.specs.Probes.{IsBefore, LeadsTo, stops}
+use Rattle.probe_map.specs.Probes.{LeadsTo, stops}
 use Rattle.probe_map.specs.Slots.{StopsAt, key_at, key_in}
 
 -- The probe goes on over a slot, and over each below a limit.

@@ -1,6 +1,6 @@
 -- What follows from where the probes stop: a key is at one place, and at none if its probe stops at
 -- an empty place; and the probes of all others go on as before if a key is put there.
-use Rattle.std.proofs.Common.{◌≡◌, ◌≢◌, ℕ, ◌==◌, ◌<◌, ◌≤◌, ◌⊎◌, Bool, true, false, Option, Some, None, inl, inr, ⊎_elim, arith, refl, sym, ap, subst, ◌∙◌, eq-eqb}
+use Rattle.std.proofs.Common.{◌≡◌, ◌≢◌, ℕ, ◌<◌, ◌≤◌, ◌⊎◌, true, false, Option, Some, None, inl, inr, ⊎_elim, arith, refl, sym, ap, subst, ◌∙◌, eq-eqb}
 use Rattle.std.proofs.lemmas.Bool.{cases_eq, cases_lt, eqb-true, false≢true}
 use Rattle.probe_map.specs.Probes.{IsBefore, IsProbed, LeadsTo, stops}
 

@@ -120,7 +120,11 @@ impl ProbeMap {
         }
     }
 
-    /// The value of a key. Takes amortized constant time.
+    /// The value of a key.
+    ///
+    /// # Cost
+    ///
+    /// Constant time on the average, but for keys whose homes collide: the hash is fixed.
     #[inline(always)]
     pub fn get(&self, key: u64) -> Option<u64>
         ensures { result ≡ get self.now.content key }
@@ -138,7 +142,11 @@ impl ProbeMap {
         self.len
     }
 
-    /// Gives a key a value, and answers the value before it.
+    /// Gives a key a value, and answers the value before it. Wants room for a key (`reserve`).
+    ///
+    /// # Cost
+    ///
+    /// That of `get`; takes no memory.
     #[inline(always)]
     pub fn insert(&mut self, key: u64, value: u64) -> Option<u64>
         requires { 0 < self.old.spare }
@@ -158,6 +166,10 @@ impl ProbeMap {
     }
 
     /// Takes a key out, and answers the value that it had.
+    ///
+    /// # Cost
+    ///
+    /// That of `get`; takes no memory, and gives none back.
     #[inline(always)]
     pub fn remove(&mut self, key: u64) -> Option<u64>
         ensures before { result ≡ get self.old.content key }
@@ -183,7 +195,8 @@ impl ProbeMap {
     ///
     /// # Cost
     ///
-    /// Amortized constant time for each key that is then put. Takes memory, if room lacks.
+    /// Constant time if there is room; else the time of a walk over the slots, and memory. That is
+    /// amortized constant time for each new key.
     #[inline(always)]
     pub fn reserve(&mut self, keys: usize) -> Result<(), AllocError>
         ensures content { self.new.content ≡ self.old.content }

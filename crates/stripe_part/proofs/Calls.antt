@@ -1,5 +1,5 @@
 -- What the calls of a part leave, from what they do to its map and its log.
-use Rattle.std.proofs.Common.{◌≡◌, ℕ, Bool, true, false, cond, List, [], ◌∷◌, ◌++◌, reverse, drop, get_or, Option, None, Some, sym, refl, ◌∙◌, ap}
+use Rattle.std.proofs.Common.{◌≡◌, ℕ, Bool, true, false, cond, List, [], ◌∷◌, ◌++◌, reverse, drop, get_or, Option, None, sym, refl, ◌∙◌, ap}
 use Rattle.std.proofs.lemmas.Bool.{false≢true}
 use Rattle.std.proofs.lemmas.List.{reverse-append}
 use Rattle.txn_trace.specs.declared.op.Op.{Op}

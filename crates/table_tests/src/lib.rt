@@ -10,6 +10,8 @@
 #[cfg(test)]
 mod bucket_table_tests;
 #[cfg(test)]
+mod draws;
+#[cfg(test)]
 mod list_steps_tests;
 #[cfg(test)]
 mod map_ops_tests;

@@ -1,5 +1,6 @@
 //! Tests of `probe_map`: drawn calls compared with a plain list, keys that share a home, growth,
 //! removed keys, and refused allocations.
+use crate::draws::{Draws, draw};
 use probe_map::ProbeMap;
 use std::alloc::{AllocError, Global};
 use std::process::Abort;
@@ -8,20 +9,6 @@ use std::test::Fail;
 /// Its product with the map's multiplier is 1, so that a small multiple of it has the first slot as
 /// its home, and the opposite of one the last slot.
 const APART: u64 = 0xf1de_83e1_9937_733d;
-
-/// Drawn numbers, by a linear congruence (Knuth, "The Art of Computer Programming", volume 2,
-/// section 3.3.4, table 1, line 26).
-#[derive(Drop)]
-struct Draws(u64);
-
-/// The next number, below a limit.
-fn draw(draws: &mut Draws, limit: u64) -> u64 {
-    draws.0 = draws
-        .0
-        .wrapping_mul(6_364_136_223_846_793_005)
-        .wrapping_add(1_442_695_040_888_963_407);
-    (draws.0 >> 33).checked_rem(limit).unwrap_or(0)
-}
 
 /// Makes room for a key, and asks once more if memory is refused: the map is unchanged then.
 fn reserve_again(rt: &impl Abort, map: &mut ProbeMap, key: u64) -> Result<(), AllocError> {
@@ -209,8 +196,11 @@ fn removed_keys(rt: HostRuntime) -> Result<(), Fail> {
     let mut map = ProbeMap::new(rt.alloc());
     for key in 0..100_000u64 {
         let before = put_reserved(&mut map, key, key)?;
-        let oldest = key.checked_sub(10).and_then(|old| take(&mut map, old));
-        assert!(rt; before == None && oldest == key.checked_sub(10));
+        assert!(rt; before == None);
+        if let Some(oldest) = key.checked_sub(10) {
+            let taken = take(&mut map, oldest);
+            assert!(rt; taken == Some(oldest));
+        }
     }
     assert!(rt; map.len() == 10);
     Ok(())

@@ -1,25 +1,12 @@
 //! Tests of `stripe_part`: drawn operations compared with std's map, growth, and refused
 //! allocations.
+use crate::draws::{Draws, draw};
 use std::alloc::{AllocError, Global};
 use std::collections::BTreeMap;
 use std::process::Abort;
 use std::test::Fail;
 use stripe_part::Part;
 use txn_trace::{Op, Refusal, Reply};
-
-/// Drawn numbers, by a linear congruence (Knuth, "The Art of Computer Programming", volume 2,
-/// section 3.3.4, table 1, line 26).
-#[derive(Drop)]
-struct Draws(u64);
-
-/// The next number, below a limit.
-fn draw(draws: &mut Draws, limit: u64) -> u64 {
-    draws.0 = draws
-        .0
-        .wrapping_mul(6_364_136_223_846_793_005)
-        .wrapping_add(1_442_695_040_888_963_407);
-    (draws.0 >> 33).checked_rem(limit).unwrap_or(0)
-}
 
 /// A plain map with the changes that can be taken back.
 #[derive(Drop)]

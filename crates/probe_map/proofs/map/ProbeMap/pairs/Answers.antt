@@ -1,4 +1,4 @@
-use Rattle.std.proofs.Common.{◌≡◌, ℕ, List, Result, Ok, Err, IfOk, IsPermutation, sym, ap, subst, ◌∙◌}
+use Rattle.std.proofs.Common.{◌≡◌, ℕ, List, Result, Ok, Err, IfOk, IsPermutation, sym, ap, subst}
 use Rattle.probe_map.specs.MapAt.{MapAt}
 use Rattle.probe_map.specs.Slots.{pairs_of}
 use Rattle.probe_map.proofs.Tables.{rows_content}

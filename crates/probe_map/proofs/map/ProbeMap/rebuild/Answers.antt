@@ -1,4 +1,4 @@
-use Rattle.std.proofs.Common.{◌≡◌, ◌+◌, length, arith, ap, ◌∙◌}
+use Rattle.std.proofs.Common.{◌≡◌, ◌+◌, length, arith, ap}
 use Rattle.probe_map.specs.MapAt.{MapAt}
 use Rattle.probe_map.specs.Slots.{pairs_of}
 use Rattle.probe_map.proofs.Lookups.{length-pairs_of}
