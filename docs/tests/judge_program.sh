@@ -542,6 +542,31 @@ many() {
   judge "watch $*: 1,200,000 entries" 0 'legal 300000 commits 0 open' ''
 }
 
+# With too little memory for the input, only the line of the fault is printed.
+little_memory() {
+  awk 'BEGIN {
+    print "[\"began\",0,1]"
+    for (k = 1; k <= 330000; k++) printf "[\"asked\",0,\"put\",%d,%d]\n[\"did\",0,null]\n", k, k
+  }' >"$work/lines"
+  { printf '{"entries":[' && paste -sd , "$work/lines" && echo '],"stripes":8,"version":3}'; } >"$work/long.json"
+  local words limit
+  for words in check 'check --serializable' why 'why --serializable' 'outcomes examples/scripts.json'; do
+    for limit in 8000 16000 24000 32000; do
+      # The words are several.
+      # shellcheck disable=SC2086
+      (ulimit -v "$limit"; exec "$program" $words "$work/long.json") >"$work/out" 2>"$work/err"
+      echo $? >"$work/status"
+      judge "$words with $limit kB" 4 '' 'no memory'
+    done
+  done
+  for words in watch 'watch --serializable'; do
+    # shellcheck disable=SC2086
+    (ulimit -v 16000; exec "$program" $words <"$work/lines") >"$work/out" 2>"$work/err"
+    echo $? >"$work/status"
+    judge "$words with 16000 kB" 4 '' 'no memory'
+  done
+}
+
 # It answers at the first bad entry, while the input goes on.
 early() {
   { printf '["began",0,2]\n'; sleep 30; } 2>/dev/null |
@@ -626,6 +651,7 @@ input
 limits
 many
 many --serializable
+little_memory
 early
 parts
 stores
