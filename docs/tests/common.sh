@@ -6,6 +6,8 @@ if [ ! -x "$program" ]; then
   echo "$name: there is no $program: ./${program##*/} or rt ci builds it" >&2
   exit 1
 fi
+# What stands last in a pipeline is judged in this shell, so that it counts.
+shopt -s lastpipe
 work=$(mktemp -d)
 trap 'rm -rf "$work"' EXIT
 passed=0 failed=0

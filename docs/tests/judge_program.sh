@@ -132,6 +132,14 @@ input() {
   printf '["began",0,2]\nno\n' | watches 1 'illegal entry 0 rule 3' '' 'a bad entry before a line that is none'
   printf '["beg\\u0061n",0,1]\n' | watches 0 'legal 0 commits 1 open' '' 'an escape'
   printf '["began",63,1]\n' | watches 0 'legal 0 commits 1 open' '' 'the last caller'
+  printf '["began", 0, 1]\r \n' | watches 0 'legal 0 commits 1 open' '' 'white space within and after an entry'
+  for line in '["began",00,1]' '["began",0,01]' '["began",0,1,]' '["began",,0,1]' '["did",0,nul]' '["began",0,1' \
+    '["beg\tan",0,1]' '["began",0,1]\rx'; do
+    printf '%b\n' "$line" | watches 3 '' 'refused 20 line 1' "no JSON: $line"
+  done
+  for line in '[]' '["began",0,-1]' '["began",0,18446744073709551616]' '["busy",0,"put_if",1,10,12,2,3]'; do
+    printf '%s\n' "$line" | watches 3 '' 'refused 21 line 1' "no entry: $line"
+  done
 }
 
 # explains STATUS OUT ERR WHAT VERSION WORD..: why, of a history of this version, whose entries are

@@ -1,9 +1,10 @@
 -- Arrays in plain form, as the reader of JSON reads them: an element, a comma, the end.
-use Rattle.std.proofs.Common.{◌≡◌, ℕ, suc, ◌+◌, ◌-◌, ◌^◌, ◌<◌, ◌≤◌, Bool, true, false, cond, List, [], ◌∷◌, ◌++◌, length, take, drop, get_or, map, Some, None, option_map, refl, sym, ap, ap₂, ◌∙◌, add-one, append_assoc, arith, drop-cons, take-append-drop}
+use Rattle.std.proofs.Common.{◌≡◌, ℕ, suc, ◌+◌, ◌-◌, ◌^◌, ◌<◌, ◌≤◌, Bool, true, false, cond, List, [], ◌∷◌, ◌++◌, length, take, drop, get_or, map, Some, None, option_map, refl, sym, ap, ap₂, subst, ◌∙◌, add-one, append_assoc, arith, drop-cons, take-append-drop}
 use Rattle.std.specs.Prelude.{option_and_then, ◌==◌, ◌||◌}
 use Rattle.std.specs.Char.{is_ascii_digit}
 use Rattle.std.specs.List.{All, prefix_len}
 use Rattle.std.specs.Str.Parse.{AllDigits, IsNumeral, digits_value}
+use Rattle.std.proofs.Math.ListN.{drop_of_length-le}
 use Rattle.std.proofs.Math.Seq.{drop-length}
 use Rattle.std.proofs.lemmas.Bool.{eqb-true, eqb-false, ne_eqb, ltb-false, le-leb, or_parts, not-true}
 use Rattle.std.proofs.lemmas.List.{drop-drop, map-append}
@@ -36,9 +37,14 @@ no_place e = absurd (grind (arith, e))
 
 -- ---- what stands after an element
 
-pub ended : Follow (93 ∷ []) []
+ended : Follow (93 ∷ []) []
 unfolding lex punctuate
 ended = record { ended = refl; no_colon = refl; rest = items_over (value 126) 1 (spec.end_array ∷ []) [] (omega arith) refl }
+
+-- With a carriage return behind it.
+ended_by_return : Follow (93 ∷ 13 ∷ []) []
+unfolding lex punctuate
+ended_by_return = record { ended = refl; no_colon = refl; rest = items_over (value 126) 1 (spec.end_array ∷ []) [] (omega arith) refl }
 
 pub separated : (bytes : List ℕ) (ds : List Data) → Begin bytes ds → Follow (44 ∷ bytes) ds
 unfolding lex punctuate
@@ -186,3 +192,17 @@ text_off bytes i j k n first next far within opens closes =
     one_off bytes i j 34 first (omega arith) opens
     ∙ ap (λ r. 34 ∷ r) (sym (take-append-drop (k - j) (drop j bytes))
     ∙ ap (λ r. take (k - j) (drop j bytes) ++ r) (drop-drop (k - j) j bytes ∙ ap (λ m. drop m bytes) end ∙ one_off bytes k n 34 next within closes))
+
+past : (bytes : List ℕ) (n : ℕ) → length bytes ≤ n → drop n bytes ≡ []
+past bytes n long = drop_of_length-le bytes long
+
+pub ends_at : (bytes : List ℕ) (i : ℕ) → i + 1 ≡ length bytes → get_or bytes i 0 ≡ 93 → Follow (drop i bytes) []
+ends_at bytes i last is =
+    let rest : drop i bytes ≡ 93 ∷ [] = one_off bytes i (i + 1) 93 refl (omega (arith, last)) is ∙ ap (λ r. 93 ∷ r) (past bytes (i + 1) (omega (arith, last))) in
+    subst (λ b. Follow b []) (sym rest) ended
+
+pub ends_by_return : (bytes : List ℕ) (i : ℕ) → i + 2 ≡ length bytes → get_or bytes i 0 ≡ 93 → get_or bytes (i + 1) 0 ≡ 13 → Follow (drop i bytes) []
+ends_by_return bytes i last is return =
+    let second : drop (i + 1) bytes ≡ 13 ∷ [] = one_off bytes (i + 1) (i + 2) 13 (omega arith) (omega (arith, last)) return ∙ ap (λ r. 13 ∷ r) (past bytes (i + 2) (omega (arith, last))) in
+    let rest : drop i bytes ≡ 93 ∷ 13 ∷ [] = one_off bytes i (i + 1) 93 refl (omega (arith, last)) is ∙ ap (λ r. 93 ∷ r) second in
+    subst (λ b. Follow b []) (sym rest) ended_by_return

@@ -2,7 +2,7 @@
 //! digits and `null`, with at most one space after each comma. Entries are mostly written so. The
 //! reader of JSON makes an index of a text first, which costs more than all else for a short line.
 //! It reads what has another form.
-ghost use Rattle.std.specs.Prelude.{◌≡◌, ◌+◌, ◌∷◌, ◌<◌, ◌≤◌, List, true, length, take, drop, get_or, map, Some, IfSome};
+ghost use Rattle.std.specs.Prelude.{◌≡◌, ◌+◌, ◌∷◌, ◌<◌, ◌≤◌, [], List, true, length, take, drop, get_or, map, Some, IfSome};
 ghost use Rattle.std.specs.List.{All};
 ghost use Rattle.std.specs.Str.Parse.{AllDigits, digits_value};
 ghost use Rattle.json.specs.Run.{is_plain};
@@ -152,6 +152,23 @@ fn after_comma(bytes: &[u8], at: usize) -> Option<usize>
     Some(next)
 }
 
+/// Whether the bracket that closes the array stands at a place, and nothing after it but the
+/// carriage return of a line that ends with one.
+#[inline(always)]
+fn is_end(bytes: &[u8], at: usize) -> bool
+    requires { at ≤ length bytes.now }
+    ensures { result ≡ true → Follow (drop at bytes.now) [] }
+{
+    if at == bytes.len() || bytes[at] != b']' {
+        return false;
+    }
+    let next = at + 1;
+    if next == bytes.len() {
+        return true;
+    }
+    bytes.len() - next == 1 && bytes[next] == b'\r'
+}
+
 /// Takes the elements of an array that is all of a text into `elements`, in place of what is there,
 /// if the array has plain form and at most seven elements. Answers whether it has.
 pub(crate) fn take_elements<'a>(
@@ -173,7 +190,7 @@ pub(crate) fn take_elements<'a>(
         }
         elements.push(element);
         let Some(next) = after_comma(bytes, end) else {
-            return bytes.len() - end == 1 && bytes[end] == b']';
+            return is_end(bytes, end);
         };
         at = next;
     }
