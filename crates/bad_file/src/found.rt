@@ -45,7 +45,7 @@ impl fmt::Display for Found {
     }
 }
 
-/// What a value is. Constant time.
+/// What kind of value this is. Constant time.
 #[tactic(auto, using(crate::proofs::Founds::null_found, crate::proofs::Founds::bool_found, crate::proofs::Founds::number_found, crate::proofs::Founds::other_found, crate::proofs::Founds::text_found, crate::proofs::Founds::array_found, crate::proofs::Founds::object_found))]
 fn kind_of(value: &Value) -> Found
     ensures { result ≡ kind_of (view value.now) }

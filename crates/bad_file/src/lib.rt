@@ -5,9 +5,9 @@
 //! This crate says of such a file what its writer wants to know next: the element of the entry, the
 //! words and numbers that are allowed there, or the member that is missing.
 //!
-//! The model is what `read_history` reads. An element of an entry is at fault if the elements
-//! before it begin some entry, and with it they begin none; what may stand there is just what would
-//! let them begin one. No second description of the format stands in `specs/`.
+//! The format is that of `txn_files`, in its own definitions. An element of an entry is at fault if
+//! some entry begins with the elements before it, and none with it too; what may stand there is
+//! exactly what some entry may go on with.
 //!
 //! Proved: `flaw_in` finds no flaw exactly in a file that `read_history` takes, and else a flaw that
 //! is the cause of the refusal. It keeps the whole value that the file is, which takes much more
