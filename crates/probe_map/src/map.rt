@@ -19,8 +19,8 @@ use std::marker::Model;
 ///
 /// # Cost
 ///
-/// An empty map takes no memory. A new array has 4 slots or more, of 24 bytes, and at most 4 for
-/// each key and for what is reserved.
+/// An empty map takes no memory. A new array has at least 4 slots, each of 24 bytes, and at most 4
+/// for each key that is there or reserved. It shrinks only when it is rebuilt.
 #[derive(Drop)]
 pub struct ProbeMap {
     slots: Vec<Slot>,
