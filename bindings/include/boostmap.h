@@ -174,7 +174,7 @@ boostmap_status boostmap_read(boostmap *map, boostmap_pair *pairs, size_t places
  * 0; 3; 28; 32; 30 */
 boostmap_status boostmap_help(boostmap *map, uint64_t caller, uint64_t key);
 
-/* Begins a transaction; *word: its number, from 1.    0; 3; 18; 20; 30 */
+/* Begins a transaction; *word: its number, from 1.    0; 3; 18; 20; 22; 30 */
 boostmap_status boostmap_begin(boostmap *map, uint64_t caller, uint64_t *word);
 
 /* Commits; *word: the place in the order of commits, from 1.    0; 3; 18; 19; 22 */

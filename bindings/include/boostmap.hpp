@@ -76,6 +76,15 @@ public:
     }
     void help(std::uint64_t caller, std::uint64_t key) { told(boostmap_help(&handle_, caller, key), 0); }
 
+    // The pairs of the map, with the changes of open transactions, in no particular order.
+    std::vector<boostmap_pair> pairs() {
+        std::vector<boostmap_pair> all(count() + 1);
+        std::uint64_t word = 0;
+        boostmap_status status = boostmap_read(&handle_, all.data(), all.size(), &word);
+        all.resize(*told(status, word));
+        return all;
+    }
+
     // Begins a transaction, which aborts if it is destroyed before it is committed.
     transaction begin(std::uint64_t caller);
 

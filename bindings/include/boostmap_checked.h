@@ -1,7 +1,8 @@
-/* The calls of boostmap.h behind a door: instead of undefined behaviour, a null handle is answered
- * BOOSTMAP_NULL, and a handle that is in another call BOOSTMAP_IN_CALL. So any thread may call at any
- * time: the door is a seq_cst exchange, which also orders the calls. `word` may be null if the number
- * is not needed. Needs C11. This header is only tested. A door costs about 20 ns a call.
+/* The calls of boostmap.h behind a door: instead of undefined behaviour, a null handle, array, entry
+ * or verdict is answered BOOSTMAP_NULL, and a handle that is in another call BOOSTMAP_IN_CALL. So any
+ * thread may call at any time: the door is a seq_cst exchange, which also orders the calls. `word` may
+ * be null if the number is not needed. Needs C11. This header is only tested. A door costs about 20 ns
+ * a call.
  *
  *     boostmap_door map = BOOSTMAP_DOOR_INIT;
  *     boostmap_checked_new(&map, 2, 64, 1024);
@@ -50,6 +51,8 @@ BOOSTMAP_CHECKED(new, (boostmap_door *door, uint64_t callers, uint64_t stripes, 
 BOOSTMAP_CHECKED(free, (boostmap_door *door), boostmap_free(&door->map))
 BOOSTMAP_CHECKED(help, (boostmap_door *door, uint64_t caller, uint64_t key), boostmap_help(&door->map, caller, key))
 BOOSTMAP_CHECKED_WORD(count, (boostmap_door *door, uint64_t *word), boostmap_count(&door->map, word))
+BOOSTMAP_CHECKED_WORD(read, (boostmap_door *door, boostmap_pair *pairs, size_t places, uint64_t *word),
+                      pairs ? boostmap_read(&door->map, pairs, places, word) : BOOSTMAP_NULL)
 BOOSTMAP_CHECKED_WORD(begin, (boostmap_door *door, uint64_t caller, uint64_t *word),
                       boostmap_begin(&door->map, caller, word))
 BOOSTMAP_CHECKED_WORD(commit, (boostmap_door *door, uint64_t caller, uint64_t *word),
@@ -104,12 +107,31 @@ BOOSTMAP_CHECKED_WORD(striped_save, (boostmap_caller_door *door, uint64_t *word)
                       boostmap_striped_save(&door->caller, word))
 BOOSTMAP_CHECKED_WORD(striped_count, (boostmap_caller_door *door, uint64_t *word),
                       boostmap_striped_count(&door->caller, word))
+BOOSTMAP_CHECKED_WORD(striped_read, (boostmap_caller_door *door, boostmap_pair *pairs, size_t places, uint64_t *word),
+                      pairs ? boostmap_striped_read(&door->caller, pairs, places, word) : BOOSTMAP_NULL)
 
 /* The inner half of a join, behind the second door. */
 BOOSTMAP_CHECKED_WORD(striped_joined_to, (boostmap_caller_door *door, boostmap_caller *first, uint64_t *word),
                       boostmap_striped_join(first, &door->caller, word))
 BOOSTMAP_CHECKED(striped_join, (boostmap_caller_door *door, boostmap_caller_door *next, uint64_t *word),
                  boostmap_checked_striped_joined_to(next, &door->caller, word))
+
+/* A judge behind its own door. */
+typedef struct boostmap_judge_door {
+    boostmap_judge judge;
+    atomic_uint is_in_call;
+} boostmap_judge_door;
+
+BOOSTMAP_CHECKED(judge_new, (boostmap_judge_door *door, uint64_t stripes, uint32_t rule),
+                 boostmap_judge_new(&door->judge, stripes, rule))
+BOOSTMAP_CHECKED(judge_free, (boostmap_judge_door *door), boostmap_judge_free(&door->judge))
+BOOSTMAP_CHECKED(judge_feed, (boostmap_judge_door *door, const boostmap_entry *entry),
+                 entry ? boostmap_judge_feed(&door->judge, entry) : BOOSTMAP_NULL)
+BOOSTMAP_CHECKED_WORD(judge_feed_all,
+                      (boostmap_judge_door *door, const boostmap_entry *entries, size_t count, uint64_t *word),
+                      entries ? boostmap_judge_feed_all(&door->judge, entries, count, word) : BOOSTMAP_NULL)
+BOOSTMAP_CHECKED(judge_verdict, (boostmap_judge_door *door, boostmap_verdict *verdict),
+                 verdict ? boostmap_judge_verdict(&door->judge, verdict) : BOOSTMAP_NULL)
 
 #undef BOOSTMAP_CHECKED
 #undef BOOSTMAP_CHECKED_WORD

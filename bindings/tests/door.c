@@ -47,13 +47,34 @@ static void at_a_caller(void) {
     CHECK(boostmap_checked_striped_take(&next, 1, &w) == BOOSTMAP_BUSY && w == 2);
     for (int i = 0; i < THREADS; i++) CHECK(!pthread_create(&threads[i], 0, adds, 0));
     for (int i = 0; i < THREADS; i++) CHECK(!pthread_join(threads[i], 0));
+    CHECK(boostmap_checked_striped_read(&caller, 0, 0, &w) == BOOSTMAP_NULL);
+    boostmap_pair pair;
+    CHECK(boostmap_checked_striped_read(&caller, &pair, 1, 0) == BOOSTMAP_DONE && pair.value == 10);
     CHECK(boostmap_checked_striped_commit(&caller, &w) == BOOSTMAP_DONE && w == 1);
     CHECK(boostmap_checked_striped_free(&caller) == BOOSTMAP_DONE);
     CHECK(boostmap_checked_striped_free(&next) == BOOSTMAP_DONE);
 }
 
+static void at_a_judge(void) {
+    uint64_t w;
+    boostmap_judge_door judge = BOOSTMAP_DOOR_INIT;
+    boostmap_entry entries[] = {{.kind = BOOSTMAP_BEGAN, .number = 1}, {.kind = BOOSTMAP_COMMITTED, .number = 1}};
+    boostmap_verdict verdict;
+    CHECK(boostmap_checked_judge_new(0, 8, 0) == BOOSTMAP_NULL);
+    CHECK(boostmap_checked_judge_free(&judge) == BOOSTMAP_EMPTY);
+    CHECK(boostmap_checked_judge_new(&judge, 8, 0) == BOOSTMAP_DONE);
+    CHECK(boostmap_checked_judge_feed(&judge, 0) == BOOSTMAP_NULL);
+    CHECK(boostmap_checked_judge_feed(&judge, &entries[0]) == BOOSTMAP_DONE);
+    CHECK(boostmap_checked_judge_feed_all(&judge, 0, 1, &w) == BOOSTMAP_NULL);
+    CHECK(boostmap_checked_judge_feed_all(&judge, entries + 1, 1, 0) == BOOSTMAP_DONE);
+    CHECK(boostmap_checked_judge_verdict(&judge, 0) == BOOSTMAP_NULL);
+    CHECK(boostmap_checked_judge_verdict(&judge, &verdict) == BOOSTMAP_DONE && verdict.commits == 1);
+    CHECK(boostmap_checked_judge_free(&judge) == BOOSTMAP_DONE);
+}
+
 int main(void) {
     uint64_t w;
+    boostmap_pair pair;
     pthread_t threads[THREADS];
     CHECK(boostmap_checked_get(0, 0, 0, &w) == BOOSTMAP_NULL);
     CHECK(boostmap_checked_free(&map) == BOOSTMAP_EMPTY);
@@ -61,10 +82,13 @@ int main(void) {
     CHECK(boostmap_checked_begin(&map, 0, 0) == BOOSTMAP_DONE);
     CHECK(boostmap_checked_put(&map, 0, 1, 2, 0) == BOOSTMAP_ABSENT);
     CHECK(boostmap_checked_commit(&map, 0, &w) == BOOSTMAP_DONE && w == 1);
+    CHECK(boostmap_checked_read(&map, 0, 1, &w) == BOOSTMAP_NULL);
+    CHECK(boostmap_checked_read(&map, &pair, 1, 0) == BOOSTMAP_DONE && pair.key == 1 && pair.value == 2);
     for (int i = 0; i < THREADS; i++) CHECK(!pthread_create(&threads[i], 0, counts, 0));
     for (int i = 0; i < THREADS; i++) CHECK(!pthread_join(threads[i], 0));
     CHECK(boostmap_checked_free(&map) == BOOSTMAP_DONE);
     at_a_caller();
+    at_a_judge();
     CHECK(other == 0);
     return 0;
 }

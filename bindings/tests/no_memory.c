@@ -40,8 +40,31 @@ static long refusals;
 
 enum { TRANSACTIONS = 20, KEYS = 8 };
 
+/* The operations of a transaction: KEYS new keys, and changes above a level that are taken back. */
+static void operations(boostmap *m, uint64_t t) {
+    boostmap_status status;
+    uint64_t w;
+    for (uint64_t k = 0; k < KEYS; k++) {
+        AGAIN(boostmap_put(m, 0, KEYS * t + k, t, &w));
+        CHECK(status == BOOSTMAP_ABSENT);
+    }
+    AGAIN(boostmap_save(m, 0, &w));
+    CHECK(status == BOOSTMAP_DONE && w == 1);
+    AGAIN(boostmap_take(m, 0, KEYS * t, &w));
+    CHECK(status == BOOSTMAP_DONE && w == t);
+    AGAIN(boostmap_put_if_absent(m, 0, KEYS * t, t + 1, &w));
+    CHECK(status == BOOSTMAP_ABSENT);
+    AGAIN(boostmap_put_if_equal(m, 0, KEYS * t + 1, t, t + 1, &w));
+    CHECK(status == BOOSTMAP_DONE && w == t);
+    AGAIN(boostmap_back(m, 0, 1, &w));
+    CHECK(status == BOOSTMAP_DONE && w == 1);
+    AGAIN(boostmap_get(m, 0, KEYS * t, &w));
+    CHECK(status == BOOSTMAP_DONE && w == t);
+}
+
 /* Even transactions commit KEYS new keys, odd ones abort. */
 static void round_trip(void) {
+    static boostmap_pair pairs[KEYS * TRANSACTIONS];
     boostmap m = BOOSTMAP_INIT;
     boostmap_status status;
     uint64_t w;
@@ -50,19 +73,42 @@ static void round_trip(void) {
     for (uint64_t t = 0; t < TRANSACTIONS; t++) {
         AGAIN(boostmap_begin(&m, 0, &w));
         CHECK(status == BOOSTMAP_DONE && w == t + 1);
-        for (uint64_t k = 0; k < KEYS; k++) {
-            AGAIN(boostmap_put(&m, 0, KEYS * t + k, t, &w));
-            CHECK(status == BOOSTMAP_ABSENT);
-        }
-        AGAIN(boostmap_save(&m, 0, &w));
-        CHECK(status == BOOSTMAP_DONE && w == 1);
+        operations(&m, t);
         if (t % 2) CHECK(boostmap_abort(&m, 0, &w) == BOOSTMAP_DONE);
         else CHECK(boostmap_commit(&m, 0, &w) == BOOSTMAP_DONE && w == t / 2 + 1);
         AGAIN(boostmap_help(&m, 0, KEYS * t));
         CHECK(status == BOOSTMAP_DONE);
+        AGAIN(boostmap_read(&m, pairs, KEYS * TRANSACTIONS, &w));
+        CHECK(status == BOOSTMAP_DONE && w == KEYS * (t / 2 + 1));
     }
     CHECK(boostmap_count(&m, &w) == BOOSTMAP_DONE && w == KEYS * TRANSACTIONS / 2);
     CHECK(boostmap_free(&m) == BOOSTMAP_DONE);
+}
+
+/* The same of a caller of a striped map, which then looks at the whole map. */
+static void striped_operations(boostmap_caller *c, uint64_t t) {
+    static boostmap_pair pairs[KEYS * TRANSACTIONS];
+    boostmap_status status;
+    uint64_t w, keys = KEYS * ((t + 1) / 2 + 1);
+    for (uint64_t k = 0; k < KEYS; k++) {
+        AGAIN(boostmap_striped_put(c, KEYS * t + k, t, &w));
+        CHECK(status == BOOSTMAP_ABSENT);
+        AGAIN(boostmap_striped_get(c, KEYS * t + k, &w));
+        CHECK(status == BOOSTMAP_DONE && w == t);
+    }
+    AGAIN(boostmap_striped_save(c, &w));
+    CHECK(status == BOOSTMAP_DONE && w == 1);
+    AGAIN(boostmap_striped_take(c, KEYS * t, &w));
+    CHECK(status == BOOSTMAP_DONE && w == t);
+    AGAIN(boostmap_striped_put_if_absent(c, KEYS * t, t + 1, &w));
+    CHECK(status == BOOSTMAP_ABSENT);
+    AGAIN(boostmap_striped_put_if_equal(c, KEYS * t + 1, t, t + 1, &w));
+    CHECK(status == BOOSTMAP_DONE && w == t);
+    CHECK(boostmap_striped_back(c, 1) == BOOSTMAP_DONE);
+    AGAIN(boostmap_striped_count(c, &w));
+    CHECK(status == BOOSTMAP_DONE && w == keys);
+    AGAIN(boostmap_striped_read(c, pairs, KEYS * TRANSACTIONS, &w));
+    CHECK(status == BOOSTMAP_DONE && w == keys);
 }
 
 /* A round on a striped map, with two callers. */
@@ -77,23 +123,49 @@ static void striped_round_trip(void) {
     for (uint64_t t = 0; t < TRANSACTIONS; t++) {
         boostmap_caller *c = t % 4 < 2 ? &first : &next;
         CHECK(boostmap_striped_begin(c) == BOOSTMAP_DONE);
-        for (uint64_t k = 0; k < KEYS; k++) {
-            AGAIN(boostmap_striped_put(c, KEYS * t + k, t, &w));
-            CHECK(status == BOOSTMAP_ABSENT);
-            AGAIN(boostmap_striped_get(c, KEYS * t + k, &w));
-            CHECK(status == BOOSTMAP_DONE && w == t);
-        }
-        AGAIN(boostmap_striped_save(c, &w));
-        CHECK(status == BOOSTMAP_DONE && w == 1);
-        AGAIN(boostmap_striped_take(c, KEYS * t, &w));
-        CHECK(status == BOOSTMAP_DONE && w == t);
-        CHECK(boostmap_striped_back(c, 1) == BOOSTMAP_DONE);
+        striped_operations(c, t);
         if (t % 2) CHECK(boostmap_striped_abort(c) == BOOSTMAP_DONE);
         else CHECK(boostmap_striped_commit(c, &w) == BOOSTMAP_DONE && w == t / 2 + 1);
     }
     CHECK(boostmap_striped_free(&first) == BOOSTMAP_DONE);
     CHECK(boostmap_striped_free(&next) == BOOSTMAP_DONE);
 }
+
+/* A judge is fed a transaction of each of 64 callers, entry by entry or as an array. What is refused is
+ * fed again. */
+static void judged(uint32_t rule) {
+    enum { CALLERS = 64, ENTRIES = 6 };
+    boostmap_judge judge = BOOSTMAP_INIT;
+    boostmap_verdict verdict;
+    boostmap_status status;
+    uint64_t w;
+    AGAIN(boostmap_judge_new(&judge, 16, rule));
+    CHECK(status == BOOSTMAP_DONE);
+    for (uint64_t c = 0; c < CALLERS; c++) {
+        boostmap_entry entries[ENTRIES] = {{.kind = BOOSTMAP_BEGAN, .caller = c, .number = c + 1},
+                                           {.kind = BOOSTMAP_SAVED, .caller = c},
+                                           {.kind = BOOSTMAP_ASKED, .caller = c, .operation = BOOSTMAP_PUT, .key = c, .value = c},
+                                           {.kind = BOOSTMAP_DID, .caller = c},
+                                           {.kind = BOOSTMAP_SAVED, .caller = c},
+                                           {.kind = BOOSTMAP_COMMITTED, .caller = c, .number = c + 1}};
+        for (uint64_t fed = 0; fed < ENTRIES; fed += w) {
+            if (c % 2) {
+                status = boostmap_judge_feed_all(&judge, entries + fed, ENTRIES - fed, &w);
+            } else {
+                status = boostmap_judge_feed(&judge, &entries[fed]);
+                w = status == BOOSTMAP_DONE;
+            }
+            if (status == BOOSTMAP_NO_MEMORY) refusals++;
+            else CHECK(status == BOOSTMAP_DONE && w > 0);
+        }
+    }
+    CHECK(boostmap_judge_verdict(&judge, &verdict) == BOOSTMAP_DONE);
+    CHECK(verdict.is_legal && verdict.commits == CALLERS && verdict.running == 0);
+    CHECK(boostmap_judge_free(&judge) == BOOSTMAP_DONE);
+}
+
+static void judged_by_locks(void) { judged(BOOSTMAP_HOLDER_NOW); }
+static void judged_by_commits(void) { judged(BOOSTMAP_BY_COMMITS); }
 
 /* Each allocation of a round is refused in turn. Each refusal is told by a status, and nothing is lost. */
 static void each_refused(const char *name, void (*round)(void)) {
@@ -113,5 +185,7 @@ static void each_refused(const char *name, void (*round)(void)) {
 int main(void) {
     each_refused("a map", round_trip);
     each_refused("a striped map", striped_round_trip);
+    each_refused("a judge by locks", judged_by_locks);
+    each_refused("a judge by commits", judged_by_commits);
     return 0;
 }

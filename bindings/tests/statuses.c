@@ -47,13 +47,26 @@ static void limits(void) {
     }
 }
 
+/* Each call that works in a transaction, and does not end it by an abort, has this answer. */
+static void all_answer(boostmap *m, uint64_t caller, boostmap_status status) {
+    uint64_t w;
+    ANSWERS(boostmap_get(m, caller, 5, &w), status, UNTOUCHED);
+    ANSWERS(boostmap_take(m, caller, 5, &w), status, UNTOUCHED);
+    ANSWERS(boostmap_put(m, caller, 5, 50, &w), status, UNTOUCHED);
+    ANSWERS(boostmap_put_if_absent(m, caller, 5, 50, &w), status, UNTOUCHED);
+    ANSWERS(boostmap_put_if_equal(m, caller, 5, 49, 50, &w), status, UNTOUCHED);
+    ANSWERS(boostmap_save(m, caller, &w), status, UNTOUCHED);
+    ANSWERS(boostmap_back(m, caller, 0, &w), status, UNTOUCHED);
+    ANSWERS(boostmap_commit(m, caller, &w), status, UNTOUCHED);
+}
+
 static void order(boostmap *m) {
     uint64_t w;
     ANSWERS(boostmap_new(m, 2, 16, 16), BOOSTMAP_DONE, UNTOUCHED);
     ANSWERS(boostmap_new(m, 1, 1, 2), BOOSTMAP_FULL, UNTOUCHED);
-    ANSWERS(boostmap_put(m, 0, 5, 50, &w), BOOSTMAP_NOT_OPEN, UNTOUCHED);
-    ANSWERS(boostmap_commit(m, 0, &w), BOOSTMAP_NOT_OPEN, UNTOUCHED);
+    all_answer(m, 0, BOOSTMAP_NOT_OPEN);
     ANSWERS(boostmap_abort(m, 0, &w), BOOSTMAP_NOT_OPEN, UNTOUCHED);
+    all_answer(m, 2, BOOSTMAP_NO_SUCH_CALLER);
     ANSWERS(boostmap_begin(m, 2, &w), BOOSTMAP_NO_SUCH_CALLER, UNTOUCHED);
     ANSWERS(boostmap_abort(m, UINT64_MAX, &w), BOOSTMAP_NO_SUCH_CALLER, UNTOUCHED);
     ANSWERS(boostmap_begin(m, 0, &w), BOOSTMAP_DONE, 1);
@@ -76,20 +89,32 @@ static void operations(boostmap *m) {
     ANSWERS(boostmap_get(m, 0, 5, &w), BOOSTMAP_DONE, 52);
 }
 
+/* Caller 0 has key 5 in a transaction: each operation of caller 1 finds it, by its number. */
+static boostmap_status operation(boostmap *m, int number, uint64_t *w) {
+    switch (number) {
+    case 0: return boostmap_get(m, 1, 5, w);
+    case 1: return boostmap_take(m, 1, 5, w);
+    case 2: return boostmap_put(m, 1, 5, 50, w);
+    case 3: return boostmap_put_if_absent(m, 1, 5 + 16, 50, w);
+    default: return boostmap_put_if_equal(m, 1, 5 + 16, 49, 50, w);
+    }
+}
+
 static void two_callers(boostmap *m) {
     uint64_t w;
-    ANSWERS(boostmap_begin(m, 1, &w), BOOSTMAP_DONE, 2);
-    ANSWERS(boostmap_get(m, 1, 5, &w), BOOSTMAP_BUSY, 0);
-    ANSWERS(boostmap_get(m, 1, 6, &w), BOOSTMAP_LEAVING, UNTOUCHED);
-    ANSWERS(boostmap_commit(m, 1, &w), BOOSTMAP_LEAVING, UNTOUCHED);
-    ANSWERS(boostmap_save(m, 1, &w), BOOSTMAP_LEAVING, UNTOUCHED);
-    ANSWERS(boostmap_abort(m, 1, &w), BOOSTMAP_DONE, UNTOUCHED);
+    for (int i = 0; i < 5; i++) {
+        ANSWERS(boostmap_begin(m, 1, &w), BOOSTMAP_DONE, 2u + (unsigned)i);
+        ANSWERS(operation(m, i, &w), BOOSTMAP_BUSY, 0);
+        all_answer(m, 1, BOOSTMAP_LEAVING);
+        ANSWERS(boostmap_begin(m, 1, &w), BOOSTMAP_LEAVING, UNTOUCHED);
+        ANSWERS(boostmap_abort(m, 1, &w), BOOSTMAP_DONE, UNTOUCHED);
+    }
     ANSWERS(boostmap_count(m, &w), BOOSTMAP_DONE, 1);
     ANSWERS(boostmap_commit(m, 0, &w), BOOSTMAP_DONE, 1);
-    ANSWERS(boostmap_begin(m, 1, &w), BOOSTMAP_DONE, 3);
+    ANSWERS(boostmap_begin(m, 1, &w), BOOSTMAP_DONE, 7);
     ANSWERS(boostmap_put(m, 1, 5, 99, &w), BOOSTMAP_DONE, 52);
     ANSWERS(boostmap_abort(m, 1, &w), BOOSTMAP_DONE, UNTOUCHED);
-    ANSWERS(boostmap_begin(m, 1, &w), BOOSTMAP_DONE, 4);
+    ANSWERS(boostmap_begin(m, 1, &w), BOOSTMAP_DONE, 8);
     ANSWERS(boostmap_get(m, 1, 5, &w), BOOSTMAP_DONE, 52);
     ANSWERS(boostmap_commit(m, 1, &w), BOOSTMAP_DONE, 2);
     ANSWERS(boostmap_help(m, 0, 5), BOOSTMAP_DONE, UNTOUCHED);

@@ -64,13 +64,26 @@ static void joining(boostmap_caller c[3]) {
     CHECK(fourth.tag == 0 && fourth.held == 0);
 }
 
-static void order(boostmap_caller *c) {
+/* Each call that works in a transaction, of a caller that has none. */
+static void not_open(boostmap_caller *c) {
+    boostmap_pair pair = {UNTOUCHED, UNTOUCHED};
     uint64_t w;
     IS(boostmap_striped_abort(c), BOOSTMAP_NOT_OPEN);
     IS(boostmap_striped_back(c, 0), BOOSTMAP_NOT_OPEN);
     ANSWERS(boostmap_striped_commit(c, &w), BOOSTMAP_NOT_OPEN, UNTOUCHED);
+    ANSWERS(boostmap_striped_get(c, 5, &w), BOOSTMAP_NOT_OPEN, UNTOUCHED);
+    ANSWERS(boostmap_striped_take(c, 5, &w), BOOSTMAP_NOT_OPEN, UNTOUCHED);
     ANSWERS(boostmap_striped_put(c, 5, 50, &w), BOOSTMAP_NOT_OPEN, UNTOUCHED);
+    ANSWERS(boostmap_striped_put_if_absent(c, 5, 50, &w), BOOSTMAP_NOT_OPEN, UNTOUCHED);
+    ANSWERS(boostmap_striped_put_if_equal(c, 5, 49, 50, &w), BOOSTMAP_NOT_OPEN, UNTOUCHED);
     ANSWERS(boostmap_striped_save(c, &w), BOOSTMAP_NOT_OPEN, UNTOUCHED);
+    ANSWERS(boostmap_striped_count(c, &w), BOOSTMAP_NOT_OPEN, UNTOUCHED);
+    ANSWERS(boostmap_striped_read(c, &pair, 1, &w), BOOSTMAP_NOT_OPEN, UNTOUCHED);
+    CHECK(pair.key == UNTOUCHED);
+}
+
+static void order(boostmap_caller *c) {
+    not_open(c);
     IS(boostmap_striped_begin(c), BOOSTMAP_DONE);
     IS(boostmap_striped_begin(c), BOOSTMAP_ALREADY_OPEN);
 }
@@ -93,14 +106,26 @@ static void operations(boostmap_caller *c) {
     ANSWERS(boostmap_striped_get(c, 5, &w), BOOSTMAP_DONE, 52);
 }
 
-/* Caller 3 has key 5 in a transaction; caller 2 finds it, and so does caller 1. */
+/* An operation on key 5 or another of its stripe, by its number. */
+static boostmap_status operation(boostmap_caller *c, int number, uint64_t *w) {
+    switch (number) {
+    case 0: return boostmap_striped_get(c, 5, w);
+    case 1: return boostmap_striped_take(c, 5, w);
+    case 2: return boostmap_striped_put(c, 5, 50, w);
+    case 3: return boostmap_striped_put_if_absent(c, 5 + 16, 50, w);
+    default: return boostmap_striped_put_if_equal(c, 5 + 16, 49, 50, w);
+    }
+}
+
+/* Caller 3 has key 5 in a transaction; caller 2 finds it, by each operation, and so does caller 1. */
 static void two_callers(boostmap_caller *three, boostmap_caller *two, boostmap_caller *one) {
     uint64_t w;
-    IS(boostmap_striped_begin(two), BOOSTMAP_DONE);
-    ANSWERS(boostmap_striped_put(two, 6, 60, &w), BOOSTMAP_ABSENT, UNTOUCHED);
-    ANSWERS(boostmap_striped_get(two, 5, &w), BOOSTMAP_BUSY, 3);
-    IS(boostmap_striped_abort(two), BOOSTMAP_NOT_OPEN);
-    ANSWERS(boostmap_striped_get(two, 6, &w), BOOSTMAP_NOT_OPEN, UNTOUCHED);
+    for (int i = 0; i < 5; i++) {
+        IS(boostmap_striped_begin(two), BOOSTMAP_DONE);
+        ANSWERS(boostmap_striped_put(two, 6, 60, &w), BOOSTMAP_ABSENT, UNTOUCHED);
+        ANSWERS(operation(two, i, &w), BOOSTMAP_BUSY, 3);
+        not_open(two);
+    }
     IS(boostmap_striped_begin(one), BOOSTMAP_DONE);
     ANSWERS(boostmap_striped_get(one, 6, &w), BOOSTMAP_ABSENT, UNTOUCHED);
     ANSWERS(boostmap_striped_put(one, 5 + 16, 1, &w), BOOSTMAP_BUSY, 3);
@@ -117,8 +142,6 @@ static void two_callers(boostmap_caller *three, boostmap_caller *two, boostmap_c
 static void contents(boostmap_caller *three, boostmap_caller *two) {
     uint64_t w;
     boostmap_pair pairs[3] = {{UNTOUCHED, 0}, {UNTOUCHED, 0}, {UNTOUCHED, 0}};
-    ANSWERS(boostmap_striped_count(three, &w), BOOSTMAP_NOT_OPEN, UNTOUCHED);
-    ANSWERS(boostmap_striped_read(three, pairs, 3, &w), BOOSTMAP_NOT_OPEN, UNTOUCHED);
     IS(boostmap_striped_begin(three), BOOSTMAP_DONE);
     ANSWERS(boostmap_striped_put(three, UINT64_MAX, 1, &w), BOOSTMAP_ABSENT, UNTOUCHED);
     ANSWERS(boostmap_striped_count(three, &w), BOOSTMAP_DONE, 2);

@@ -52,6 +52,8 @@ static void of_one_owner() {
     first = std::move(second);
     CHECK(first.count() == 1);
     first.help(1, 1);
+    CHECK(first.pairs().size() == 1 && first.pairs()[0].key == 1 && first.pairs()[0].value == 12);
+    CHECK(map(1, 16, 64).pairs().empty());
 }
 
 static void of_callers() {

@@ -2,8 +2,13 @@
 # Times transactions from C, in turn over the library and over std::unordered_map with an undo log, and prints the median
 # nanoseconds of processor time of a transaction in both, and their ratio: for one caller on the map with one owner, whose
 # twin has no stripes; then for 1, 2 and 4 threads on the striped map, whose twin has a mutex for each stripe. No twin has a
-# history or savepoints. Both must give the same replies. Then the cost of a crossing: a call that is refused at once, and
-# which part of a transaction of six calls that is. Usage: docs/speed/c.sh [ROUNDS]
+# history or savepoints. Both must give the same replies.
+#
+# Then the crossing from C, on the striped map with 1,000 keys: the transactions that `bench striped` makes inside Rattle, and the
+# same from C. It prints the median nanoseconds and, with valgrind, the instructions of a transaction in both, and what each of its
+# six calls takes more from C. At last the nanoseconds of a call that is refused at once.
+#
+# BENCH may name the program `bench`; else it is proved and built. Usage: docs/speed/c.sh [ROUNDS]
 source "$(dirname "${BASH_SOURCE[0]}")/common.sh"
 rounds=${1:-9}
 quietly bindings/install.sh "$work/usr"
@@ -32,12 +37,47 @@ row() {
     printf "%-9s %7d %9d %9.0f %9.0f %6.2f\n", map, threads, keys, a, b, a / b }'
 }
 
+# A number of transactions with the same draws, inside Rattle and from C: a line with the nanoseconds of one, and the sum of the
+# replies. Further words stand before the program's name.
+inside() {
+  "${@:2}" "$work/proved" striped 1 1000 "$1" 1024 2>&1 |
+    sed 's/.* a second, \([0-9]*\) ns .* sum \([0-9]*\)$/\1 \2/'
+}
+from_c() { "${@:2}" "$work/c_map" bench 1000 "$1" 2>&1; }
+
+# The instructions of a transaction: the difference between 60,000 and 20,000.
+instructions() {
+  local count counts=
+  for count in 60000 20000; do
+    counts+=" $("$1" $count valgrind --tool=callgrind --callgrind-out-file=/dev/null | sed -n 's/.*Collected : //p')"
+  done
+  awk '{ printf "%.1f", ($1 - $2) / 40000 }' <<<"$counts"
+}
+
+# A row of the second table: what is counted, inside Rattle, and from C.
+crossing() {
+  awk -v what="$1" -v inside="$2" -v from_c="$3" 'BEGIN {
+    printf "%-14s %8.1f %8.1f %8.1f %8.1f\n", what, inside, from_c, (from_c - inside) / 6, 100 * (from_c / inside - 1) }'
+}
+
 printf '%-9s %7s %9s %9s %9s %6s\n' map threads keys library twin ratio
 for keys in 1000 100000; do row map twin $keys 200000; done
 for threads in 1 2 4; do
   for keys in 1000 100000; do row striped stripes $keys 200000 $threads; done
 done
+
+if [ -n "${BENCH:-}" ]; then cp "$BENCH" "$work/proved"; else build_proved bench striped 1 1000 1000; fi
+for _ in $(seq "$rounds"); do
+  for which in inside from_c; do $which 200000 >>"$work/$which"; done
+done
+read -r library replies <<<"$(median "$work/inside")"
+read -r crossed others <<<"$(median "$work/from_c")"
+[ "$replies" = "$others" ] || { echo "the replies differ" >&2; exit 1; }
+printf '\n%-14s %8s %8s %8s %8s\n' 'a transaction' inside 'from C' 'a call' percent
+crossing nanoseconds "$library" "$crossed"
+if command -v valgrind >/dev/null; then
+  crossing instructions "$(instructions inside)" "$(instructions from_c)"
+fi
 for _ in $(seq "$rounds"); do "$work/c_map" refusal 1 10000000 >>"$work/refusal"; done
-read -r crossing _ <<<"$(median "$work/refusal")"
-"$work/c_map" striped 1000 200000 1 >"$work/one"
-awk -v crossing="$crossing" '{ printf "a crossing: %.1f ns; six: %.1f in a hundred of a transaction\n", crossing, 600 * crossing / $1 }' "$work/one"
+read -r refusal _ <<<"$(median "$work/refusal")"
+echo "a call that is refused at once: $refusal ns"

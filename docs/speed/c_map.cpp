@@ -115,9 +115,13 @@ public:
     word refused() { return boostmap_striped_begin(&caller_); }
 
 private:
+    // As in Rattle, one test of the answer says whether the call was done.
     static void ok(boostmap_status status) {
+        if (status > BOOSTMAP_ABSENT) stopped(status);
+    }
+    [[noreturn]] static void stopped(boostmap_status status) {
         if (status == BOOSTMAP_BUSY) throw is_busy();
-        if (status > BOOSTMAP_ABSENT) std::exit(3);
+        std::exit(3);
     }
 };
 

@@ -107,7 +107,7 @@ write_run_file() {
 lay_out_maps() {
   local crate
   quietly docs/library/new.sh "$work/maps"
-  for crate in owned_map stripe_part striped_map; do
+  for crate in owned_map probe_map stripe_part striped_map; do
     mkdir "$work/maps/crates/$crate"
     cp -r crates/$crate/{src,specs,proofs} "$work/maps/crates/$crate/"
     grep "^$crate\b" crates.txt >>"$work/maps/crates.txt"

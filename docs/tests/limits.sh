@@ -192,6 +192,16 @@ most_scripts() {
   wants 3 '' 'refused 22' run "$work/file.json"
 }
 
+# 40,000 puts of new keys and no help: the table has to grow by itself.
+no_help() {
+  awk 'BEGIN { for (i = 0; i < 10000; i++) printf "[[\"put\",%d,1],[\"put\",%d,1],[\"put\",%d,1],[\"put\",%d,1]]\n", 4 * i, 4 * i + 1, 4 * i + 2, 4 * i + 3 }' |
+    scripts 1 >"$work/file.json"
+  (ulimit -t 5 && exec "$program" run "$work/file.json") 2>"$work/err" |
+    "$program" check /dev/stdin >"$work/out" 2>>"$work/err"
+  echo $? >"$work/status"
+  judge 'run: 40,000 puts without a help, in 5 seconds' 0 'legal 10000 commits 0 open' ''
+}
+
 most_entries() {
   { echo '["began",0,1]'; yes '["saved",0]' | head -n 999998; echo '["committed",0,1]'; } |
     history >"$work/file.json"
@@ -213,5 +223,6 @@ many_levels
 greatest_numbers
 most_buckets
 most_scripts
+no_help
 most_entries
 conclude

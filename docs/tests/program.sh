@@ -276,11 +276,15 @@ standard_input() {
   done < <(commands)
 }
 
-# With a file of 16 MB and too little memory for it, only the line of the fault is printed.
+# With a file of 16 MB and too little memory for it, only the line of the fault is printed. The file
+# is a step file in plain form, which replay reads without an index as long as the file; the other
+# commands make one before they refuse it.
 little_memory() {
-  local words limit
+  local words limit limits
   for words in replay run 'mix --seed 7' check; do
-    for limit in 8000 16000 24000 32000; do
+    limits=(8000 16000 24000 32000)
+    [ "$words" = replay ] && limits=(8000 12000 14000 16000)
+    for limit in "${limits[@]}"; do
       # shellcheck disable=SC2086
       (ulimit -v "$limit"; exec "$program" $words "$work/longest.json") >"$work/out" 2>"$work/err"
       echo $? >"$work/status"

@@ -42,11 +42,15 @@ table_tests undo_log_tests::side_value_returns
 table_tests undo_log_tests::a_settled_value_stays
 core_tests cores::refused::five_callers_undone
 core_tests cores::refused::segments
+transaction_tests owned::the_table_grows_by_itself
+transaction_tests owned::a_history_is_cut_off
+transaction_tests owned::a_savepoint_is_gone_back_to
 core_tests histories::fed_entry_by_entry
 core_tests histories::fed_with_savepoints
 thread_tests map_tests::refused::refused_memory_between_callers
 thread_tests map_tests::refused::refused_memory_in_each_call
 thread_tests map_tests::side::side_value_returns
+transaction_tests shared::transactions_and_a_restart
 thread_tests run_tests::refused_memory_for_crossing_scripts
 program_tests engines::refused::five_callers_undone_is_legal
 program_tests engines::refused::a_cursor_stands_beside_a_refusal

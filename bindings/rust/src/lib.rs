@@ -266,7 +266,7 @@ impl Map {
     ///
     /// # Errors
     ///
-    /// `NoSuchCaller`, `AlreadyOpen` and `NoMemory`.
+    /// `NoSuchCaller`, `AlreadyOpen`, `Leaving` and `NoMemory`.
     pub fn begin(&mut self, caller: u64) -> Result<Transaction<'_>> {
         let number = self.begin_caller(caller)?;
         Ok(Transaction { map: self, caller, number, is_open: true })
@@ -289,7 +289,7 @@ impl Map {
     ///
     /// # Errors
     ///
-    /// `NoSuchCaller`, `AlreadyOpen` and `NoMemory`.
+    /// `NoSuchCaller`, `AlreadyOpen`, `Leaving` and `NoMemory`.
     pub fn begin_caller(&mut self, caller: u64) -> Result<u64> {
         self.call(|map, word| unsafe { sys::boostmap_begin(map, caller, word) }).map(Option::unwrap_or_default)
     }

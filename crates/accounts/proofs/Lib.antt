@@ -1,3 +1,4 @@
 pub mod Adding
 pub mod Commits
 pub mod Works
+pub mod Tries

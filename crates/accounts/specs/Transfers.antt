@@ -1,5 +1,6 @@
 -- Transfers between the accounts of a striped map.
 use Rattle.std.specs.Prelude.{ℕ, ◌≡◌, ◌≢◌, ◌+◌, ◌^◌, ◌<◌, ◌≤◌, ◌⊎◌, Bool, true, false, List, [], ◌∷◌, ◌++◌, Option, Some, unwrap_or, slice_get}
+use Rattle.std.specs.Prelude.{Result, Ok, Err}
 use Rattle.txn_trace.specs.declared.entry.Entry.{Entry}
 use Rattle.txn_trace.specs.declared.entry.Entry.TheVariants.{Asked, Did, Committed}
 use Rattle.txn_trace.specs.declared.holder.Holder.TheVariants.{Begun}
@@ -9,7 +10,10 @@ use Rattle.txn_trace.specs.Legal.{IsLegal}
 use Rattle.txn_trace.specs.Map.{Map}
 use Rattle.txn_trace.specs.Serial.{serial}
 use Rattle.txn_trace.specs.Shape.{own, how_many}
+use Rattle.map_answers.specs.declared.stop.Stop.{Stop}
+use Rattle.map_answers.specs.declared.stop.Stop.TheVariants.{Busy}
 use Rattle.striped_map.specs.declared.caller.Caller.{Caller}
+use Rattle.striped_map.specs.Attempts.{Fails, FailsBusy}
 use Rattle.striped_map.specs.Callers.{number, seen, stripes_in}
 use Rattle.bank.specs.Transfers.{balance, IsTransfer}
 
@@ -70,3 +74,18 @@ pub record HasWorked (from to sum : ℕ) (moved : Bool) (a b : Caller) : Type 0 
   pub had : Option ℕ
   pub has : Option ℕ
   pub written : HasWritten (number a) from to sum moved had has entries
+
+-- The work of a transfer with its answer; of one that failed nothing is said here.
+abbrev pub Works : ℕ → ℕ → ℕ → Caller → Result Bool Stop → Caller → Type 0
+Works from to sum a (Ok moved) b = HasWorked from to sum moved a b
+Works from to sum a (Err stop) b = Unit {0}
+
+-- The transfer was tried, and given up: each try before the last was busy, and the last failed. If
+-- that one was busy too, there could be no more.
+pub record GivesUp (from to sum tries : ℕ) (stop : Stop) (a b : Caller) : Type 0 where
+  pub busy : ℕ
+  pub within : busy ≤ tries
+  pub all : (holder : ℕ) → stop ≡ Busy holder → busy ≡ tries
+  pub last : Caller
+  pub before : FailsBusy (Works from to sum) busy a last
+  pub failed : Fails (Works from to sum) last b stop

@@ -5,9 +5,9 @@
 //! leaves it unchanged; whatever other callers do in their threads meanwhile.
 #![tactic(auto)]
 
-ghost use Rattle.std.specs.Prelude.{◌≡◌, ◌≢◌, false, IfOk, OnErr};
+ghost use Rattle.std.specs.Prelude.{◌≡◌, ◌≢◌, false, IfErr, IfOk, OnErr};
 ghost use Rattle.striped_map.specs.Callers.{IsSince};
-ghost use Rattle.accounts.specs.Transfers.{HasTransferred, HasWorked};
+ghost use Rattle.accounts.specs.Transfers.{GivesUp, HasTransferred, HasWorked};
 
 use striped_map::{Caller, Stop, Transaction};
 
@@ -19,7 +19,8 @@ use striped_map::{Caller, Stop, Transaction};
 ///
 /// # Errors
 ///
-/// Those of `Caller::transact`; nothing is committed.
+/// Those of `Caller::transact`; nothing is committed. `Busy` only after all tries, of which each was
+/// busy.
 ///
 /// # Cost
 ///
@@ -29,6 +30,8 @@ pub fn transfer(caller: &mut Caller, tries: u64, from: u64, to: u64, sum: u64) -
     ensures closed { caller.old.is_open ≡ false → caller.new.is_open ≡ false }
     ensures ok { IfOk result (λ moved. HasTransferred from to sum moved caller.old caller.new) }
     ensures err { OnErr result (IsSince caller.old caller.new) }
+    ensures tries { IfErr result (λ stop. caller.old.is_open ≡ false
+        → GivesUp from to sum tries stop caller.old caller.new) }
 {
     let (moved, _place) = caller.transact(
         tries,

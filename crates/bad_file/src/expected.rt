@@ -1,4 +1,7 @@
 //! What may stand at a place of a history file.
+ghost use Rattle.std.specs.Prelude.{◌≡◌};
+ghost use Rattle.bad_file.specs.Texts.{expected_text};
+
 use std::fmt;
 
 /// What may stand at a place of a history file. It is printed in words, with the range.
@@ -30,7 +33,9 @@ pub enum Expected {
 
 impl Expected {
     /// It in words.
-    fn words(self) -> &'static str {
+    fn words(self) -> &'static str
+        ensures { result.now ≡ expected_text self }
+    {
         match self {
             Expected::Object => "an object",
             Expected::Version => "a whole number from 1 to 3",
@@ -50,6 +55,10 @@ impl Expected {
 }
 
 impl fmt::Display for Expected {
+    ghost use Rattle.std.specs.Prelude.{Some};
+
+    ghost output = { λ expected. Some (expected_text expected) };
+
     fn fmt<W: fmt::Write>(&self, f: &mut fmt::Formatter<W>) -> fmt::Result {
         f.write_str(self.words())
     }

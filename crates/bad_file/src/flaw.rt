@@ -1,4 +1,7 @@
 //! What is wrong with a history file, in one line.
+ghost use Rattle.std.specs.Prelude.{◌≡◌};
+ghost use Rattle.bad_file.specs.Texts.{is_a_word};
+
 use crate::expected::Expected;
 use crate::found::Found;
 use crate::place::Place;
@@ -28,7 +31,9 @@ pub enum Flaw {
 }
 
 /// Whether one of some words is expected. Constant time.
-fn is_a_word(expected: Expected) -> bool {
+fn is_a_word(expected: Expected) -> bool
+    ensures { result ≡ is_a_word expected }
+{
     matches!(
         expected,
         Expected::EntryName | Expected::OpName | Expected::OldOpName
@@ -36,6 +41,11 @@ fn is_a_word(expected: Expected) -> bool {
 }
 
 impl fmt::Display for Flaw {
+    ghost use Rattle.std.specs.Prelude.{Some};
+    ghost use Rattle.bad_file.specs.Texts.{flaw_text};
+
+    ghost output = { λ flaw. Some (flaw_text flaw) };
+
     fn fmt<W: fmt::Write>(&self, f: &mut fmt::Formatter<W>) -> fmt::Result {
         match *self {
             Flaw::TooLong => f.write_str("$: more than 16777216 bytes"),

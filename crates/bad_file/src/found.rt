@@ -29,6 +29,11 @@ pub enum Found {
 }
 
 impl fmt::Display for Found {
+    ghost use Rattle.std.specs.Prelude.{Some};
+    ghost use Rattle.bad_file.specs.Texts.{found_text};
+
+    ghost output = { λ found. Some (found_text found) };
+
     fn fmt<W: fmt::Write>(&self, f: &mut fmt::Formatter<W>) -> fmt::Result {
         match *self {
             Found::Nothing => f.write_str("nothing"),

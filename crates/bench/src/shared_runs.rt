@@ -9,7 +9,7 @@ use std::sync::Wait;
 use std::thread::Threads;
 use thread_runs::{Open, run_scripts};
 use txn_files::read_scripts;
-use txn_trace::{Action, Entry, Limits, Op, Script};
+use txn_trace::{Action, Entry, Limits, Op, Script, SmallEntry, Unpacked};
 
 /// The number of keys of the scripts, if no file names any.
 const HOT_KEYS: u64 = 64;
@@ -30,9 +30,9 @@ fn put_scripts(alloc: Global, puts: u64) -> Result<Vec<Script>, AllocError> {
 }
 
 /// The number of transactions that a history commits.
-fn commits_in(trace: &[Entry]) -> u64 {
+fn commits_in(trace: &[SmallEntry]) -> u64 {
     let mut commits = 0u64;
-    for entry in trace {
+    for entry in Unpacked::new(trace) {
         if let Entry::Committed(..) = entry {
             commits = commits.wrapping_add(1);
         }

@@ -12,6 +12,7 @@ pub mod Moves
 pub mod Numbers
 pub mod Runs
 pub mod Starting
+pub mod Named
 pub mod Outcomes
 pub mod Quiet
 pub mod Parting

@@ -37,6 +37,7 @@ use Rattle.boost_core.specs.Adding.{Enters, CanAdd}
 use Rattle.boost_core.specs.Spares.{times_of, times_in, IsCovered}
 use Rattle.boost_core.specs.Sessions.{owed_of, spare_if, times_kept}
 use Rattle.boost_core.specs.Core.{World, Tells, IsFresh, state_of, nodes_at, gap_by, helper_gaps_of}
+use Rattle.boost_core.proofs.Named.{grown_small}
 use Rattle.boost_core.proofs.Moves.{Runs, lacks, refused}
 use Rattle.boost_core.proofs.Grow.{Grows, Stays, world_after, seated_as, row_there, grown, stayed, sum_changed, one_of_sum}
 
@@ -282,12 +283,12 @@ module _ (w : World) (tells : Tells w) (c : ℕ) (x y : Session) (at : slice_get
       omega arith
 
   -- The entry that the step adds may be added.
-  pub can_add : (o : Option Entry) → option_to_list o ≡ entries_of step answer → (len cap owed : ℕ) → owed ≡ sum_by owed_of w.sessions → len + (owed + reserved_by claim step) ≤ cap → cap < 2 ^ 63 → CanAdd y.seat len cap owed o
-  can_add None is len cap owed owes room small =
+  pub can_add : (o : Option Entry) → option_to_list o ≡ entries_of step answer → (len cap owed : ℕ) → owed ≡ sum_by owed_of w.sessions → len + (owed + reserved_by claim step) ≤ cap → cap < 2 ^ 63 → w.limits.callers ≤ 64 → CanAdd y.seat len cap owed o
+  can_add None is len cap owed owes room small few_callers =
       let most : owed_of x ≤ sum_by owed_of w.sessions = one_of_sum owed_of w.sessions c x at in
       let same : owed_in y.seat.seat.standing y.seat.seat.phase ≡ owed_of x = ap (λ (s : Seat). owed_in s.standing s.phase) (same_seat None is) in
       omega arith
-  can_add (Some e) is len cap owed owes room small =
+  can_add (Some e) is len cap owed owes room small few_callers =
       let comes : Grows w c x y t' locks' (counts_after w.counts answer) e = subst (Comes w c x y t' locks' (counts_after w.counts answer)) (sym is) called.comes in
       let goes : row x.seat.seat x.seat.seat.phase e ≡ Some comes.seat = row_there w tells c x y at t' locks' (counts_after w.counts answer) e comes in
       let most : owed_of x ≤ sum_by owed_of w.sessions = one_of_sum owed_of w.sessions c x at in
@@ -299,6 +300,7 @@ module _ (w : World) (tells : Tells w) (c : ℕ) (x y : Session) (at : slice_get
         row_is = ap (λ (s : Seat). row s s.phase e) comes.same_seat ∙ goes;
         standing = small_standing y.seat.seat.standing x.seat.seat.standing (owed_of x) (2 ^ 63) (ap (λ (s : Seat). s.standing) comes.same_seat) (standing_owed x.seat.seat.phase x.seat.seat.standing x.seat.seat.kept (seat_leveled (own c w.history) x.seat.seat (tells.seated c x at).seat).within) (omega arith);
         saved = comes.saved;
+        small = grown_small w.words w.limits.stripes w.limits.callers w.history e tells.callers comes.next.legal (called_caller (Some e) is e refl) few_callers;
         room = omega arith;
         before = omega arith;
         owed_fits = omega arith;

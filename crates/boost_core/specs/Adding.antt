@@ -4,6 +4,7 @@ use Rattle.txn_trace.specs.declared.entry.Entry.{Entry}
 use Rattle.txn_trace.specs.Shape.{Seat, RoomySeat, row}
 use Rattle.txn_trace.specs.Seats.{is_saved}
 use Rattle.txn_trace.specs.Owed.{owed_in}
+use Rattle.txn_trace.specs.Packed.{is_small}
 
 -- The seat enters the added entry, if there is one.
 abbrev pub Enters : RoomySeat → List Entry → RoomySeat → Type 0
@@ -11,12 +12,14 @@ Enters s [] s' = s' ≡ s
 Enters s (e ∷ []) s' = row s.seat s.seat.phase e ≡ Some s'.seat
 Enters s (e ∷ f ∷ es) s' = ⊥
 
--- An entry may come next, there is room for it, and the number of entries owed after it fits.
+-- An entry may come next and is small, there is room for it, and the number of entries owed after
+-- it fits.
 pub record CanEnter (s : RoomySeat) (len cap owed : ℕ) (e : Entry) : Type 0 where
   pub next : Seat
   pub row_is : row s.seat s.seat.phase e ≡ Some next
   pub standing : s.seat.standing < 2 ^ 63
   pub saved : is_saved e ≡ true → 0 < s.room
+  pub small : is_small e ≡ true
   pub room : len < cap
   pub before : owed_in s.seat.standing s.seat.phase ≤ owed
   pub owed_fits : owed < 2 ^ 63

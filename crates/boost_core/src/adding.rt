@@ -4,14 +4,14 @@ ghost use Rattle.std.specs.Prelude.{◌≡◌, ◌-◌, ◌+◌, ◌++◌, optio
 ghost use Rattle.txn_trace.specs.Owed.{owed_in};
 ghost use Rattle.boost_core.specs.Adding.{CanAdd, Enters};
 
-use txn_trace::{Entry, Seat};
+use txn_trace::{Entry, Seat, SmallEntry};
 
 /// Adds the entry of a step, if it has one, to its caller's seat and to the history, in reserved
 /// room. Answers the number of entries that all callers then owe.
 #[inline(always)]
 pub(crate) fn add(
     seat: &mut Seat,
-    history: &mut Vec<Entry>,
+    history: &mut Vec<SmallEntry>,
     owed: usize,
     entry: Option<Entry>,
 ) -> usize
@@ -27,8 +27,9 @@ pub(crate) fn add(
     let Some(entry) = entry else {
         return owed;
     };
+    let packed = SmallEntry::new(entry).unwrap();
     let before = seat.owed() as usize;
     seat.enter(entry);
-    history.push_reserved(entry);
+    history.push_reserved(packed);
     owed - before + seat.owed() as usize
 }

@@ -7,7 +7,7 @@ ghost use Rattle.txn_trace.specs.Legal.{IsLegal};
 ghost use Rattle.boost_core.specs.Machine.{holder_by};
 
 use crate::machine::Core;
-use txn_trace::Entry;
+use txn_trace::SmallEntry;
 
 impl Core {
     ghost use Rattle.boost_core.specs.Shape.{HasShape};
@@ -21,7 +21,7 @@ impl Core {
     /// # Cost
     ///
     /// That of dropping the table, the callers and the stripes; takes no memory.
-    pub fn into_trace(self) -> Vec<Entry>
+    pub fn into_trace(self) -> Vec<SmallEntry>
         ensures value { result.items ≡ self.history }
         ensures shape { HasShape self }
         ensures locks { KeepsLocks self }

@@ -23,7 +23,7 @@ use map_ops::Table;
 use std::alloc::{AllocError, Global};
 use std::collections::BTreeMap;
 use std::marker::Model;
-use txn_trace::{Answer, Entry, Limits, Refusal, Step, entry_of};
+use txn_trace::{Answer, Limits, Refusal, SmallEntry, Step, entry_of};
 
 /// A transactional map for 1 to 64 callers, its history, and the state of each caller: boosted
 /// transactions (Herlihy and Koskinen, PPoPP 2008, rules 2 and 3) over a split-ordered hash table
@@ -37,7 +37,7 @@ use txn_trace::{Answer, Entry, Limits, Refusal, Step, entry_of};
 #[derive(Drop)]
 pub struct Core {
     pub(crate) limits: Limits,
-    pub(crate) history: Vec<Entry>,
+    pub(crate) history: Vec<SmallEntry>,
     pub(crate) counts: Counts,
     pub(crate) table: Table,
     pub(crate) sessions: Vec<Session>,
@@ -258,8 +258,9 @@ impl Core {
 
     /// The history: an entry for each step that changed a transaction, oldest first. It is legal:
     /// it has the shape of transactions, no stripe had two holders, and every transaction has the
-    /// replies of running alone.
-    pub fn trace(&self) -> &[Entry]
+    /// replies of running alone. The entries are packed: `txn_trace::Unpacked` goes over them as
+    /// values of `Entry`.
+    pub fn trace(&self) -> &[SmallEntry]
         ensures value { result.now ≡ self.now.history }
         ensures shape { HasShape self.now }
         ensures locks { KeepsLocks self.now }

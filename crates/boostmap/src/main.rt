@@ -3,7 +3,7 @@
 #![tactic(auto)]
 
 use boostmap_program::run;
-use command_line::Host;
+use program_host::Host;
 use std::io;
 use std::process::ExitCode;
 

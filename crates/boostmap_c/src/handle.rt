@@ -10,8 +10,9 @@ use owned_pointer::OwnedPointer;
 use std::alloc::Global;
 use std::mem;
 
-/// The tag of a handle with a map: the bytes of "boostmap".
-const LIVE: u64 = 0x7061_6d74_736f_6f62;
+/// The tag of a handle with a map: the bytes of "bmap". It fits in 31 bits, so that a call compares
+/// and writes it within one instruction.
+const LIVE: u64 = 0x7061_6d62;
 
 /// The handle of a map in C's memory: all zeros, or a map.
 #[repr(C)]
@@ -19,8 +20,8 @@ const LIVE: u64 = 0x7061_6d74_736f_6f62;
 pub struct Handle {
     tag: u64,
     pub(crate) held: CorePointer,
-    ghost live: { tag ≡ 0x7061_6d74_736f_6f62 → takes_stripes held.core ≡ true },
-    ghost dead: { is_some held.core ≡ true → tag ≡ 0x7061_6d74_736f_6f62 },
+    ghost live: { tag ≡ 0x7061_6d62 → takes_stripes held.core ≡ true },
+    ghost dead: { is_some held.core ≡ true → tag ≡ 0x7061_6d62 },
 }
 
 impl Handle {
@@ -39,14 +40,14 @@ pub(crate) fn open(alloc: Global, handle: &mut Handle) -> Option<Box<Core, Globa
     ensures none { IsNone result → handle.old.held.core ≡ None }
     ensures zeros { handle.new.held.core ≡ None }
 {
+    if handle.tag != LIVE {
+        return None;
+    }
     let zeros = Handle {
         tag: 0,
         held: CorePointer::null(),
     };
-    let Handle { tag, held } = mem::replace(handle, zeros);
-    if tag != LIVE {
-        return None;
-    }
+    let Handle { tag: _, held } = mem::replace(handle, zeros);
     Some(held.restore().into_box(alloc))
 }
 

@@ -16,8 +16,8 @@ use std::alloc::Global;
 use std::mem;
 use txn_trace::{Holder, Refusal};
 
-/// The tag of a handle with a checker: the bytes of "bm_judge".
-const LIVE: u64 = 0x6567_6475_6a5f_6d62;
+/// The tag of a handle with a checker: the bytes of "bmju".
+const LIVE: u64 = 0x756a_6d62;
 
 /// The handle of a judge in C's memory: all zeros, or a checker.
 #[repr(C)]
@@ -25,8 +25,8 @@ const LIVE: u64 = 0x6567_6475_6a5f_6d62;
 pub struct Judge {
     tag: u64,
     pub(crate) held: RefereePointer,
-    ghost live: { tag ≡ 0x6567_6475_6a5f_6d62 → is_some held.referee ≡ true },
-    ghost dead: { is_some held.referee ≡ true → tag ≡ 0x6567_6475_6a5f_6d62 },
+    ghost live: { tag ≡ 0x756a_6d62 → is_some held.referee ≡ true },
+    ghost dead: { is_some held.referee ≡ true → tag ≡ 0x756a_6d62 },
 }
 
 /// The verdict on the entries so far.
@@ -60,14 +60,14 @@ fn open(alloc: Global, handle: &mut Judge) -> Option<Box<Referee, Global>>
     ensures none { IsNone result → handle.old.held.referee ≡ None }
     ensures zeros { handle.new.held.referee ≡ None }
 {
+    if handle.tag != LIVE {
+        return None;
+    }
     let zeros = Judge {
         tag: 0,
         held: RefereePointer::null(),
     };
-    let Judge { tag, held } = mem::replace(handle, zeros);
-    if tag != LIVE {
-        return None;
-    }
+    let Judge { tag: _, held } = mem::replace(handle, zeros);
     Some(held.restore().into_box(alloc))
 }
 

@@ -9,11 +9,11 @@
 //! ```text
 //!   C's memory             the heap
 //!   +------------+
-//!   | tag        |   "boostmap", or 0
+//!   | tag        |   "bmap", or 0
 //!   | held       | ----> core: history, table, stripes, callers     (tag 0: nothing)
 //!   +------------+
 //!   +------------+
-//!   | tag        |   "bmcaller", or 0
+//!   | tag        |   "bmca", or 0
 //!   | held       | ----> member: a caller, and those that wait for a handle
 //!   +------------+         |
 //!                          +---> the striped map, which it shares with the other callers
@@ -44,7 +44,7 @@
 //! call except a `free`. The judge's verdict is that of the checker's definition on the entries
 //! that it was fed, which are those that C's numbers stand for.
 //!
-//! A crossing takes no memory: `boostmap_count`, with its caller's loop, is 24 instructions. Calls
+//! A crossing takes no memory: `boostmap_count`, with its caller's loop, is 23 instructions. Calls
 //! take constant time and no memory unless they say otherwise.
 #![tactic(auto)]
 

@@ -1,6 +1,6 @@
 //! The handle of a striped map's caller, and the ways of a member out of it and back, as in
 //! `handle` for a map.
-ghost use Rattle.std.specs.Prelude.{◌≡◌, Some, None, IfSome, IsNone, true, is_some};
+ghost use Rattle.std.specs.Prelude.{◌≡◌, Some, None, IfSome, IsNone, IsSome, true, false, is_some};
 
 use crate::handle::sends;
 use crate::member::Member;
@@ -9,8 +9,8 @@ use owned_pointer::OwnedPointer;
 use std::alloc::Global;
 use std::mem;
 
-/// The tag of a handle with a member: the bytes of "bmcaller".
-const LIVE: u64 = 0x7265_6c6c_6163_6d62;
+/// The tag of a handle with a member: the bytes of "bmca".
+const LIVE: u64 = 0x6163_6d62;
 
 /// The handle of a caller in C's memory: all zeros, or a caller of a striped map.
 #[repr(C)]
@@ -18,17 +18,39 @@ const LIVE: u64 = 0x7265_6c6c_6163_6d62;
 pub struct CallerHandle {
     tag: u64,
     pub(crate) held: MemberPointer,
-    ghost live: { tag ≡ 0x7265_6c6c_6163_6d62 → is_some held.member ≡ true },
-    ghost dead: { is_some held.member ≡ true → tag ≡ 0x7265_6c6c_6163_6d62 },
+    ghost live: { tag ≡ 0x6163_6d62 → is_some held.member ≡ true },
+    ghost dead: { is_some held.member ≡ true → tag ≡ 0x6163_6d62 },
 }
 
 impl CallerHandle {
     /// Whether it has a member.
     pub(crate) fn is_live(&self) -> bool
-        ensures { result ≡ is_some self.now.held.member }
+        ensures value { result ≡ is_some self.now.held.member }
+        ensures some { result ≡ true → IsSome self.now.held.member }
+        ensures tag { result ≡ true → self.now.tag ≡ 0x6163_6d62 }
+        ensures none { result ≡ false → self.now.held.member ≡ None }
     {
         self.tag == LIVE
     }
+}
+
+/// Takes the member out of a handle for the time of a call, which ends with `put_back`: the tag
+/// stays meanwhile.
+pub(crate) fn lift(alloc: Global, held: &mut MemberPointer) -> Box<Member, Global>
+    requires { IsSome held.old.member }
+    ensures member { held.old.member ≡ Some result.value }
+    ensures none { held.new.member ≡ None }
+{
+    let lifted = mem::replace(held, MemberPointer::null());
+    lifted.restore().into_box(alloc)
+}
+
+/// Puts a member back that was lifted.
+pub(crate) fn put_back(held: &mut MemberPointer, member: Box<Member, Global>)
+    ensures member { held.new.member ≡ Some member.value }
+    ensures some { is_some held.new.member ≡ true }
+{
+    *held = MemberPointer::erase(OwnedPointer::from_box(member));
 }
 
 /// Takes the member out of a handle, if it has one; the handle is then all zeros.
@@ -37,14 +59,14 @@ pub(crate) fn take_out(alloc: Global, handle: &mut CallerHandle) -> Option<Box<M
     ensures none { IsNone result → handle.old.held.member ≡ None }
     ensures zeros { handle.new.held.member ≡ None }
 {
+    if handle.tag != LIVE {
+        return None;
+    }
     let zeros = CallerHandle {
         tag: 0,
         held: MemberPointer::null(),
     };
-    let CallerHandle { tag, held } = mem::replace(handle, zeros);
-    if tag != LIVE {
-        return None;
-    }
+    let CallerHandle { tag: _, held } = mem::replace(handle, zeros);
     Some(held.restore().into_box(alloc))
 }
 

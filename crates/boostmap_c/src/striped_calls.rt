@@ -4,7 +4,7 @@ ghost use Rattle.std.specs.Prelude.{Some, None};
 ghost use Rattle.boostmap_c.specs.Members.{Ends, Numbers, Replies};
 ghost use Rattle.boostmap_c.specs.Striped.{Aborts, Begins, Commits, Operates, Returns, Saves};
 
-use crate::member_handle::{CallerHandle, put_in, take_out};
+use crate::member_handle::{CallerHandle, lift, put_back};
 use crate::status::EMPTY;
 use crate::stops::{tell_end, tell_number, tell_reply};
 use std::alloc::Global;
@@ -20,11 +20,12 @@ use txn_trace::Op;
 pub extern "C" fn boostmap_striped_begin(alloc: Global, caller: &mut CallerHandle) -> u32
     ensures { Ends Begins caller.old.held.member result caller.new.held.member }
 {
-    let Some(mut member) = take_out(alloc, caller) else {
+    if !caller.is_live() {
         return EMPTY;
-    };
+    }
+    let mut member = lift(alloc, &mut caller.held);
     let answer = member.caller.begin();
-    put_in(caller, member);
+    put_back(&mut caller.held, member);
     tell_end(answer)
 }
 
@@ -49,11 +50,12 @@ pub extern "C" fn boostmap_striped_get(
     ensures { Replies (Operates (Op.Get key)) caller.old.held.member result word.old word.new
         caller.new.held.member }
 {
-    let Some(mut member) = take_out(alloc, caller) else {
+    if !caller.is_live() {
         return EMPTY;
-    };
+    }
+    let mut member = lift(alloc, &mut caller.held);
     let answer = member.caller.get(key);
-    put_in(caller, member);
+    put_back(&mut caller.held, member);
     tell_reply(answer, word)
 }
 
@@ -79,11 +81,12 @@ pub extern "C" fn boostmap_striped_put(
     ensures { Replies (Operates (Op.Put key value)) caller.old.held.member result word.old word.new
         caller.new.held.member }
 {
-    let Some(mut member) = take_out(alloc, caller) else {
+    if !caller.is_live() {
         return EMPTY;
-    };
+    }
+    let mut member = lift(alloc, &mut caller.held);
     let answer = member.caller.put(key, value);
-    put_in(caller, member);
+    put_back(&mut caller.held, member);
     tell_reply(answer, word)
 }
 
@@ -108,11 +111,12 @@ pub extern "C" fn boostmap_striped_take(
     ensures { Replies (Operates (Op.Take key)) caller.old.held.member result word.old word.new
         caller.new.held.member }
 {
-    let Some(mut member) = take_out(alloc, caller) else {
+    if !caller.is_live() {
         return EMPTY;
-    };
+    }
+    let mut member = lift(alloc, &mut caller.held);
     let answer = member.caller.take(key);
-    put_in(caller, member);
+    put_back(&mut caller.held, member);
     tell_reply(answer, word)
 }
 
@@ -139,11 +143,12 @@ pub extern "C" fn boostmap_striped_put_if_absent(
     ensures { Replies (Operates (Op.PutIf key None value)) caller.old.held.member result word.old word.new
         caller.new.held.member }
 {
-    let Some(mut member) = take_out(alloc, caller) else {
+    if !caller.is_live() {
         return EMPTY;
-    };
+    }
+    let mut member = lift(alloc, &mut caller.held);
     let answer = member.caller.put_if(key, None, value);
-    put_in(caller, member);
+    put_back(&mut caller.held, member);
     tell_reply(answer, word)
 }
 
@@ -171,11 +176,12 @@ pub extern "C" fn boostmap_striped_put_if_equal(
     ensures { Replies (Operates (Op.PutIf key (Some expected) value)) caller.old.held.member result word.old word.new
         caller.new.held.member }
 {
-    let Some(mut member) = take_out(alloc, caller) else {
+    if !caller.is_live() {
         return EMPTY;
-    };
+    }
+    let mut member = lift(alloc, &mut caller.held);
     let answer = member.caller.put_if(key, Some(expected), value);
-    put_in(caller, member);
+    put_back(&mut caller.held, member);
     tell_reply(answer, word)
 }
 
@@ -197,11 +203,12 @@ pub extern "C" fn boostmap_striped_save(
 ) -> u32
     ensures { Numbers Saves caller.old.held.member result word.old word.new caller.new.held.member }
 {
-    let Some(mut member) = take_out(alloc, caller) else {
+    if !caller.is_live() {
         return EMPTY;
-    };
+    }
+    let mut member = lift(alloc, &mut caller.held);
     let answer = member.caller.save();
-    put_in(caller, member);
+    put_back(&mut caller.held, member);
     tell_number(answer, word)
 }
 
@@ -220,11 +227,12 @@ pub extern "C" fn boostmap_striped_save(
 pub extern "C" fn boostmap_striped_back(alloc: Global, caller: &mut CallerHandle, level: u64) -> u32
     ensures { Ends (Returns level) caller.old.held.member result caller.new.held.member }
 {
-    let Some(mut member) = take_out(alloc, caller) else {
+    if !caller.is_live() {
         return EMPTY;
-    };
+    }
+    let mut member = lift(alloc, &mut caller.held);
     let answer = member.caller.back(level);
-    put_in(caller, member);
+    put_back(&mut caller.held, member);
     tell_end(answer)
 }
 
@@ -246,11 +254,12 @@ pub extern "C" fn boostmap_striped_commit(
     ensures { Numbers Commits caller.old.held.member result word.old word.new
         caller.new.held.member }
 {
-    let Some(mut member) = take_out(alloc, caller) else {
+    if !caller.is_live() {
         return EMPTY;
-    };
+    }
+    let mut member = lift(alloc, &mut caller.held);
     let answer = member.caller.commit();
-    put_in(caller, member);
+    put_back(&mut caller.held, member);
     tell_number(answer, word)
 }
 
@@ -267,10 +276,11 @@ pub extern "C" fn boostmap_striped_commit(
 pub extern "C" fn boostmap_striped_abort(alloc: Global, caller: &mut CallerHandle) -> u32
     ensures { Ends Aborts caller.old.held.member result caller.new.held.member }
 {
-    let Some(mut member) = take_out(alloc, caller) else {
+    if !caller.is_live() {
         return EMPTY;
-    };
+    }
+    let mut member = lift(alloc, &mut caller.held);
     let answer = member.caller.abort();
-    put_in(caller, member);
+    put_back(&mut caller.held, member);
     tell_end(answer)
 }

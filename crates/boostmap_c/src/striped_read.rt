@@ -3,7 +3,7 @@
 ghost use Rattle.boostmap_c.specs.Members.{Numbers};
 ghost use Rattle.boostmap_c.specs.StripedContents.{Counts, ReadsMap};
 
-use crate::member_handle::{CallerHandle, put_in, take_out};
+use crate::member_handle::{CallerHandle, lift, put_back};
 use crate::read::{CPair, lay_all};
 use crate::status::EMPTY;
 use crate::stops::{tell_number, tell_stop};
@@ -30,11 +30,12 @@ pub extern "C" fn boostmap_striped_count(
     ensures { Numbers Counts caller.old.held.member result word.old word.new
         caller.new.held.member }
 {
-    let Some(mut member) = take_out(alloc, caller) else {
+    if !caller.is_live() {
         return EMPTY;
-    };
+    }
+    let mut member = lift(alloc, &mut caller.held);
     let answer = member.caller.len();
-    put_in(caller, member);
+    put_back(&mut caller.held, member);
     tell_number(answer, word)
 }
 
@@ -60,11 +61,12 @@ pub extern "C" fn boostmap_striped_read(
     ensures { ReadsMap caller.old.held.member result pairs.old pairs.new word.old word.new
         caller.new.held.member }
 {
-    let Some(mut member) = take_out(alloc, caller) else {
+    if !caller.is_live() {
         return EMPTY;
-    };
+    }
+    let mut member = lift(alloc, &mut caller.held);
     let answer = member.caller.pairs();
-    put_in(caller, member);
+    put_back(&mut caller.held, member);
     match answer {
         Ok(listed) => lay_all(&listed, pairs, word),
         Err(stop) => tell_stop(stop, word),

@@ -13,8 +13,8 @@ use txn_trace::Step;
 ///
 /// # Errors
 ///
-/// 3 if the handle has no map. A refusal changes nothing: 18 (`NoSuchCaller`), 20 (`AlreadyOpen`),
-/// 30 (`NoMemory`).
+/// 3 if the handle has no map. A refusal changes nothing: 18 (`NoSuchCaller`), 20 (`AlreadyOpen`), 22
+/// (`Leaving`), 30 (`NoMemory`).
 ///
 /// # Cost
 ///

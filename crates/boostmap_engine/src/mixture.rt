@@ -8,7 +8,7 @@ use crate::fault::Fault;
 use crate::input::scripts_in;
 use script_mix::mix_scripts;
 use std::alloc::Global;
-use txn_files::history_text;
+use txn_files::small_history_text;
 
 /// The text, with its line feed, of a history of the scripts that the bytes are, with the workers'
 /// turns mixed as the seed says. The history has the version of its script file.
@@ -31,7 +31,7 @@ pub fn mixture(alloc: Global, seed: u64, bytes: Vec<u8>) -> Result<String, Fault
     let version = work.version();
     drop(work);
     let trace = core.into_trace();
-    let mut text = history_text(alloc, version, limits.stripes(), &trace)?;
+    let mut text = small_history_text(alloc, version, limits.stripes(), &trace)?;
     text.push_str("\n")?;
     Ok(text)
 }

@@ -10,21 +10,21 @@ ghost use Rattle.boostmap_engine.specs.Written.{HasNone};
 use crate::fault::Fault;
 use boost_core::Core;
 use std::alloc::{AllocError, Global};
-use txn_files::read_steps;
-use txn_trace::{Limits, Step};
+use txn_files::read_packed_steps;
+use txn_trace::{Limits, PackedStep};
 
 /// About how many bytes the line of an answer has. Room for all lines is made at once.
 const ANSWER: usize = 8;
 
 /// Takes the steps one after the other on a core whose stripes are not words, and appends the
 /// answer to each to the text, one on each line.
-fn put_answers(text: &mut String, core: &mut Core, steps: &[Step]) -> Result<(), AllocError>
+fn put_answers(text: &mut String, core: &mut Core, steps: &[PackedStep]) -> Result<(), AllocError>
     requires { core.old.words ≡ false }
     ensures { OnOk result ((answers : List Answer) × Moves core.old steps.now answers core.new
         × (string_bytes text.new ≡ string_bytes text.old ++ answers_text answers)) }
 {
     for step in steps {
-        let answer = core.step(*step);
+        let answer = core.step(step.step());
         writeln!(text, "{answer}")?;
     }
     Ok(())
@@ -58,7 +58,7 @@ fn put_last(text: &mut String, alloc: Global, core: &Core) -> Result<(), AllocEr
 
 /// The report of a run of these steps on a new core. The steps are dropped before the end of the
 /// report is written.
-fn text_of_run(alloc: Global, limits: Limits, steps: Vec<Step>) -> Result<String, AllocError>
+fn text_of_run(alloc: Global, limits: Limits, steps: Vec<PackedStep>) -> Result<String, AllocError>
     ensures { IfOk result (λ text. IsReport limits steps.items (string_bytes text)) }
 {
     let Ok(mut core) = Core::new(alloc, limits) else {
@@ -85,7 +85,7 @@ pub fn report(alloc: Global, bytes: Vec<u8>) -> Result<String, Fault>
     ensures ok { IfOk result (λ text. IsReportOf bytes.items (string_bytes text)) }
     ensures err { IfErr result (HasNone IsNoStepFile bytes.items) }
 {
-    let (limits, steps) = read_steps(alloc, &bytes)?;
+    let (limits, steps) = read_packed_steps(alloc, &bytes)?;
     drop(bytes);
     Ok(text_of_run(alloc, limits, steps)?)
 }

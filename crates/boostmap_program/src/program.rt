@@ -8,7 +8,8 @@ ghost use Rattle.boostmap_program.specs.Runs.{Does, Runs, Tells, memory_or, stat
 use crate::threaded;
 use boostmap_engine as engine;
 use boostmap_engine::Fault;
-use command_line::{Call, System, call_in};
+use command_line::{Call, call_in};
+use program_host::System;
 use std::alloc::Global;
 use std::io;
 use std::io::{Read, Write};

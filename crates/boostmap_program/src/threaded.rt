@@ -11,7 +11,7 @@ use std::io::{Read, Write};
 use std::sync::Wait;
 use std::thread::Threads;
 use thread_runs::{Open, run_scripts};
-use txn_files::history_text;
+use txn_files::small_history_text;
 use txn_trace::Refusal;
 
 /// The version of a history file of a run.
@@ -56,7 +56,7 @@ fn run_in_threads<R: Threads + Wait + Sync>(
     };
     drop(work);
     drop(ran.outcomes);
-    let mut text = history_text(alloc, VERSION, limits.stripes(), &ran.trace)?;
+    let mut text = small_history_text(alloc, VERSION, limits.stripes(), &ran.trace)?;
     text.push_str("\n")?;
     Ok(text)
 }

@@ -1,33 +1,22 @@
 -- The seed that a word writes.
 use Rattle.std.proofs.Common.{◌≡◌, ℕ, ◌<◌, ◌^◌, ◌&&◌, Bool, true, List, [], ◌∷◌, length, Option, Some, None, Result, Ok, Err, refl, sym, ap, subst, ◌∙◌, drop, cond}
 use Rattle.std.specs.Prelude.{if◌then◌else◌, nat_lt, slice_get}
-use Rattle.std.specs.List.{list_all}
-use Rattle.std.specs.Char.{digit_value}
 use Rattle.std.specs.Result.{OkIff, result_ok}
-use Rattle.std.specs.Str.Parse.{AllDigits, IsNumeral, digits_value, without_leading_plus, ParsesUnsigned}
+use Rattle.std.specs.Str.Parse.{IsNumeral, digits_value, without_leading_plus, ParsesUnsigned}
 use Rattle.std.proofs.lemmas.Bool.{and_parts, and_from, false_from_ne_true, ltb-true, lt-ltb, ne_eqb}
-use Rattle.command_line.specs.Words.{is_numeral, seed_of}
-
-digits_to : (ds : List ℕ) → AllDigits 10 ds → list_all (λ c. nat_lt (digit_value c) 10) ds ≡ true
-digits_to [] all = refl
-digits_to (c ∷ cs) all = and_from _ _ (lt-ltb (digit_value c) 10 all.0) (digits_to cs all.1)
-
-digits_from : (ds : List ℕ) → list_all (λ c. nat_lt (digit_value c) 10) ds ≡ true → AllDigits 10 ds
-digits_from [] all = tt
-digits_from (c ∷ cs) all =
-    let parts = and_parts _ _ all in (ltb-true (digit_value c) 10 parts.0, digits_from cs parts.1)
+use Rattle.program_host.specs.Words.{is_numeral}
+use Rattle.program_host.proofs.Numerals.{numeral_to, numeral_from}
+use Rattle.command_line.specs.Words.{seed_of}
 
 abbrev Fits : List ℕ → Type 0
 Fits ds = IsNumeral 10 ds × (digits_value 10 ds < 2 ^ 64)
 
 fits_to : (ds : List ℕ) → Fits ds → (is_numeral ds && nat_lt (digits_value 10 ds) (2 ^ 64)) ≡ true
-fits_to ds fits = and_from _ _ (and_from _ _ (lt-ltb 0 (length ds) fits.0.0) (digits_to ds fits.0.1)) (lt-ltb _ _ fits.1)
+fits_to ds fits = and_from _ _ (numeral_to ds fits.0) (lt-ltb _ _ fits.1)
 
 fits_from : (ds : List ℕ) → (is_numeral ds && nat_lt (digits_value 10 ds) (2 ^ 64)) ≡ true → Fits ds
 fits_from ds is =
-    let parts = and_parts (is_numeral ds) _ is in
-    let numeral = and_parts (nat_lt 0 (length ds)) _ parts.0 in
-    ((ltb-true 0 (length ds) numeral.0, digits_from ds numeral.1), ltb-true _ _ parts.1)
+    let parts = and_parts (is_numeral ds) _ is in (numeral_from ds parts.0, ltb-true _ _ parts.1)
 
 pub parsed : {E : Type 0} (word : List ℕ) (r : Result ℕ E) → without_leading_plus word ≡ word → ParsesUnsigned 64 10 word r → result_ok r ≡ seed_of word
 parsed {E} word r plain parses = by_cases r (subst (λ ds. OkIff r (Fits ds) (digits_value 10 ds)) plain parses)

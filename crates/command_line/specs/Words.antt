@@ -1,17 +1,15 @@
 -- The call that the words of a command line spell, by the rules of `clap`.
-use Rattle.std.specs.Prelude.{◌≡◌, ℕ, ◌^◌, ◌&&◌, Bool, true, false, List, [], ◌∷◌, codes, length}
+use Rattle.std.specs.Prelude.{ℕ, ◌^◌, ◌&&◌, true, List, [], ◌∷◌, codes, length}
 use Rattle.std.specs.Prelude.{Option, Some, None, if◌then◌else◌, nat_lt, option_map}
 use Rattle.std.specs.Prelude.{option_and_then}
-use Rattle.std.specs.List.{list_all, list_any}
+use Rattle.std.specs.List.{list_any}
 use Rattle.std.specs.Str.{bytes_eq}
 use Rattle.std.specs.Str.Parse.{digits_value}
-use Rattle.std.specs.Char.{digit_value}
 use Rattle.clap.specs.declared.builder.action.ArgAction.TheVariants.{Set}
-use Rattle.clap.specs.declared.builder.command.Command.{Command}
-use Rattle.clap.specs.declared.builder.command.Command.TheViews.{out-Command}
-use Rattle.clap.specs.Words.{App, Rule, Row, Text, Kinds, app_of, fault_of, first_of, new_app}
+use Rattle.clap.specs.Words.{App, Rule, Row, Text, Kinds, fault_of, first_of, new_app}
 use Rattle.clap.specs.Words.{new_rule, subcommand_of, with_rule, with_subcommand}
 use Rattle.clap.specs.Simple.{on_top}
+use Rattle.program_host.specs.Words.{is_numeral}
 use Rattle.command_line.specs.declared.words.Call.{Call}
 use Rattle.command_line.specs.declared.words.Call.TheVariants.{Replay, Run, Mix, Check}
 
@@ -61,14 +59,7 @@ command_line =
     let mix = with_subcommand run seeded.top in
     with_subcommand mix (over_file (codes "check")).top
 
--- This application is the one of a command that `clap` built.
-abbrev pub Has : Command → App → Type 0
-Has command app = (app_of command ≡ app) × ((out-Command command).has_globals ≡ false)
-
 -- The number that a word of one or more decimal digits writes, if it is below 2^64.
-abbrev pub is_numeral : Text → Bool
-is_numeral word = nat_lt 0 (length word) && list_all (λ c. nat_lt (digit_value c) 10) word
-
 abbrev pub seed_of : Text → Option ℕ
 seed_of word =
     let seed = digits_value 10 word in

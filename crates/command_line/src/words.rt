@@ -3,7 +3,8 @@
 ghost use Rattle.std.specs.Prelude.{◌≡◌, ◌⊎◌, Some, None, IfOk, IfErr, map, option_map};
 ghost use Rattle.std.specs.String.{string_bytes};
 ghost use Rattle.clap.specs.Words.{found_of, rows_of};
-ghost use Rattle.command_line.specs.Words.{Has, asked, asked_in, asked_of, file_of, seed_of};
+ghost use Rattle.program_host.specs.Words.{Has};
+ghost use Rattle.command_line.specs.Words.{asked, asked_in, asked_of, file_of, seed_of};
 ghost use Rattle.command_line.specs.Words.{command_line, over_file, seeded};
 ghost use Rattle.boostmap_engine.specs.declared.fault.Fault.TheVariants as faults;
 

@@ -4,7 +4,7 @@ use boost_core::Core;
 use std::alloc::{AllocError, Global};
 use std::process::Abort;
 use std::test::Fail;
-use txn_trace::{Answer, Entry, Limits, Op, Refusal, Step};
+use txn_trace::{Answer, Entry, Limits, Op, Refusal, SmallEntry, Step, Unpacked};
 
 /// Limits of these numbers that take every key.
 pub(crate) fn limits_of(callers: u64, stripes: u64, buckets: u64) -> Result<Limits, Fail> {
@@ -94,8 +94,13 @@ pub(crate) fn owed_by(core: &Core) -> usize {
 }
 
 /// The history.
-pub(crate) fn trace_of(core: &Core) -> &[Entry] {
+pub(crate) fn trace_of(core: &Core) -> &[SmallEntry] {
     core.trace()
+}
+
+/// Whether the history is this one.
+pub(crate) fn is_history(core: &Core, wanted: &[Entry]) -> bool {
+    Unpacked::new(trace_of(core)).eq(wanted.iter().copied())
 }
 
 /// The pairs in the order of the list.

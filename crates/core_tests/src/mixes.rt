@@ -8,7 +8,7 @@ use std::alloc::Global;
 use std::process::Abort;
 use std::test::Fail;
 use txn_files::read_scripts;
-use txn_trace::Entry;
+use txn_trace::{Entry, Unpacked};
 
 /// The generator of this seed.
 fn generator_of(seed: u64) -> Pcg32 {
@@ -121,7 +121,8 @@ fn mixed_history(alloc: Global, seed: u64, scripts: &str) -> Result<Vec<Entry>, 
     let Ok(work) = read_scripts(alloc, scripts.as_bytes()) else {
         return Err("no scripts".into());
     };
-    Ok(mix_scripts(alloc, seed, &work)?.into_trace())
+    let trace = mix_scripts(alloc, seed, &work)?.into_trace();
+    Ok(Unpacked::new(trace.as_slice()).collect(alloc)?)
 }
 
 /// Mixes scripts by a seed, and checks that the drawn workers take their turns, by rising place

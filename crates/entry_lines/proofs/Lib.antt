@@ -1,2 +1,1 @@
-mod ArrayLemmas
 pub mod OnLine

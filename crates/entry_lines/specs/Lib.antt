@@ -1,4 +1,3 @@
-pub mod ArrayRests
 pub mod EntryLine
 pub mod Lines
 pub mod LineText

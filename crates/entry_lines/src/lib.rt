@@ -10,14 +10,13 @@
 //!
 //! Promised: `entry_on` computes the definition of its name, or says that memory was refused;
 //! `history_lines` writes a history as `text_of_lines` says. Both take time in proportion to the
-//! text. A line as `history_lines` writes it, or with a space after each comma, is read straight
-//! from its bytes; any other by the reader of JSON. Reading a line takes no memory except that of
+//! text. A line in plain form, as `history_lines` writes it, is read straight from its bytes; any
+//! other by the reader of JSON. Reading a line takes no memory except that of
 //! its `Scratch`, which grows to the longest line, at most 1,000 bytes.
 #![tactic(auto)]
 
 mod entry;
 mod line;
-mod plain_array;
 mod text;
 
 pub use json::Scratch;

@@ -15,10 +15,9 @@ ghost use Rattle.txn_files.specs.HistoryFile.{is_in_range};
 ghost use Rattle.entry_lines.specs.EntryLine.{entry_found, entry_on, is_blank, is_space};
 
 use crate::entry::entry_with;
-use crate::plain_array::{MAX_ELEMENTS, take_elements};
 use arrayvec::ArrayVec;
 use json::{Reader, Scratch, Token};
-use piece_files::{FileFault, Plain, Stop, pass_value, plain_elements};
+use piece_files::{FileFault, Plain, Stop, pass_value, plain_elements, whole_array};
 use std::alloc::Global;
 use txn_trace::{Entry, Limits};
 
@@ -27,6 +26,9 @@ const MAX_LINE: usize = 1000;
 
 /// The greatest depth of nested arrays and objects.
 const MAX_DEPTH: usize = 127;
+
+/// The number of elements of the longest entry: `["busy",0,"put_if",1,10,12,2]`.
+const MAX_ELEMENTS: usize = 7;
 
 /// Whether a byte is white space in JSON.
 fn is_space(byte: u8) -> bool
@@ -115,7 +117,7 @@ fn entry_in_plain(text: &str) -> Option<Option<Entry>>
         × (found ≡ option_and_then entry_of (elements_of d))) }
 {
     let mut elements = ArrayVec::<Plain<'_>, MAX_ELEMENTS>::new();
-    if take_elements(text, &mut elements) {
+    if whole_array(text, &mut elements) {
         Some(entry_with(&elements))
     } else {
         None

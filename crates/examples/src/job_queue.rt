@@ -44,8 +44,7 @@ fn fill<L: Ledger, R: Wait>(t: &mut Transaction<'_, L, R>) -> Result<(), Stop>
 fn claim<L: Ledger, R: Wait>(t: &mut Transaction<'_, L, R>, job: u64) -> Result<bool, Stop>
     ensures { Keeps t.old.me t.new.me }
 {
-    let before = t.put_if(job, Some(WAITING), CLAIMED)?;
-    Ok(before == Some(WAITING))
+    Ok(t.swap(job, Some(WAITING), CLAIMED)?.0)
 }
 
 /// Finishes a job that was claimed, and counts it.

@@ -1,32 +1,15 @@
 -- How many locks a word asks for.
 use Rattle.std.proofs.Common.{◌≡◌, ℕ, ◌<◌, ◌≤◌, ◌^◌, ◌&&◌, Bool, true, List, [], ◌∷◌, length, Option, Some, None, Result, Ok, Err, arith, refl, sym, ap, ◌∙◌}
-use Rattle.std.specs.Prelude.{if◌then◌else◌, nat_le, nat_lt, option_and_then}
-use Rattle.std.specs.List.{list_all}
-use Rattle.std.specs.Char.{digit_value}
+use Rattle.std.specs.Prelude.{if◌then◌else◌, nat_le, option_and_then}
 use Rattle.std.specs.Result.{result_ok}
-use Rattle.std.specs.Str.Parse.{AllDigits, IsNumeral, ParsesUnsigned, digits_value, without_leading_plus}
-use Rattle.std.proofs.lemmas.Bool.{and_parts, and_from, false_from_ne_true, le-leb, leb-true, ltb-true, lt-ltb}
-use Rattle.judge_line.specs.Words.{is_numeral, max_stripes, stripes_of}
+use Rattle.std.specs.Str.Parse.{ParsesUnsigned, digits_value, without_leading_plus}
+use Rattle.std.proofs.lemmas.Bool.{and_parts, and_from, false_from_ne_true, le-leb, leb-true}
+use Rattle.program_host.specs.Words.{is_numeral}
+use Rattle.program_host.proofs.Numerals.{numeral_to, numeral_from}
+use Rattle.judge_line.specs.Words.{max_stripes, stripes_of}
 
 abbrev pub in_range : ℕ → Option ℕ
 in_range n = if nat_le 1 n && nat_le n max_stripes then Some n else None
-
-digits_to : (ds : List ℕ) → AllDigits 10 ds → list_all (λ c. nat_lt (digit_value c) 10) ds ≡ true
-digits_to [] all = refl
-digits_to (c ∷ cs) all = and_from _ _ (lt-ltb (digit_value c) 10 all.0) (digits_to cs all.1)
-
-digits_from : (ds : List ℕ) → list_all (λ c. nat_lt (digit_value c) 10) ds ≡ true → AllDigits 10 ds
-digits_from [] all = tt
-digits_from (c ∷ cs) all =
-    let parts = and_parts _ _ all in (ltb-true (digit_value c) 10 parts.0, digits_from cs parts.1)
-
-numeral_to : (ds : List ℕ) → IsNumeral 10 ds → is_numeral ds ≡ true
-numeral_to ds is = and_from _ _ (lt-ltb 0 (length ds) is.0) (digits_to ds is.1)
-
-numeral_from : (ds : List ℕ) → is_numeral ds ≡ true → IsNumeral 10 ds
-numeral_from ds is =
-    let parts = and_parts (nat_lt 0 (length ds)) _ is in
-    (ltb-true 0 (length ds) parts.0, digits_from ds parts.1)
 
 below : (n : ℕ) → (nat_le 1 n && nat_le n max_stripes) ≡ true → n < 2 ^ 64
 below n fits =

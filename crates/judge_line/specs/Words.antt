@@ -1,19 +1,16 @@
 -- What the words of a command line ask for, by the rules of `clap`.
-use Rattle.std.specs.Prelude.{◌≡◌, ℕ, ◌&&◌, Bool, true, false, List, [], codes, length}
-use Rattle.std.specs.Prelude.{Option, Some, None, if◌then◌else◌, nat_le, nat_lt, option_map}
+use Rattle.std.specs.Prelude.{◌≡◌, ℕ, ◌&&◌, Bool, true, false, List, [], codes}
+use Rattle.std.specs.Prelude.{Option, Some, None, if◌then◌else◌, nat_le, option_map}
 use Rattle.std.specs.Prelude.{option_and_then}
-use Rattle.std.specs.List.{list_all}
 use Rattle.std.specs.Str.{bytes_eq}
 use Rattle.std.specs.Str.Parse.{digits_value, without_leading_plus}
-use Rattle.std.specs.Char.{digit_value}
 use Rattle.clap.specs.declared.builder.action.ArgAction.TheVariants.{Set, SetTrue}
-use Rattle.clap.specs.declared.builder.command.Command.{Command}
-use Rattle.clap.specs.declared.builder.command.Command.TheViews.{out-Command}
 use Rattle.clap.specs.declared.error.kind.ErrorKind.{ErrorKind}
 use Rattle.clap.specs.declared.error.kind.ErrorKind.TheVariants.{DisplayHelp, DisplayVersion, OutOfMemory}
-use Rattle.clap.specs.Words.{App, IsAmong, Kinds, Rule, Row, Text, app_of, fault_of, first_of}
+use Rattle.clap.specs.Words.{App, IsAmong, Kinds, Rule, Row, Text, fault_of, first_of}
 use Rattle.clap.specs.Words.{new_app, new_rule, subcommand_of, with_rule, with_subcommand}
 use Rattle.clap.specs.Simple.{on_top}
+use Rattle.program_host.specs.Words.{is_numeral}
 use Rattle.txn_trace.specs.declared.holder.Holder.TheVariants.{Begun}
 use Rattle.judge_engine.specs.declared.basis.Basis.{Basis}
 use Rattle.judge_engine.specs.declared.basis.Basis.TheVariants.{Locks, Commits}
@@ -89,10 +86,6 @@ command_line =
     let watch = with_subcommand outcomes watching.top in
     with_subcommand watch (over_history (codes "why")).top
 
--- A command that is built by `clap` is this one.
-abbrev pub Has : Command → App → Type 0
-Has command app = (app_of command ≡ app) × ((out-Command command).has_globals ≡ false)
-
 -- A flag was found, and set.
 abbrev pub is_set : Option Text → Bool
 is_set None = false
@@ -104,9 +97,6 @@ max_stripes = 4096
 
 -- The number from 1 to 4,096 that a word writes, which is one or more decimal digits, and a plus
 -- before them if need be.
-abbrev pub is_numeral : Text → Bool
-is_numeral word = nat_lt 0 (length word) && list_all (λ c. nat_lt (digit_value c) 10) word
-
 abbrev pub stripes_of : Text → Option ℕ
 stripes_of word =
     let digits = without_leading_plus word in

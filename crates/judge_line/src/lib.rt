@@ -8,5 +8,5 @@ mod words;
 
 pub use failure::Failure;
 pub use program::{Ending, run};
-pub use system::{Host, HostInput, System};
+pub use system::{Host, HostInput};
 pub use words::Call;

@@ -11,9 +11,9 @@ ghost use Rattle.judge_line.specs.Words as asked;
 ghost use Rattle.judge_line.specs.Words.{IsReady, asked_of};
 
 use crate::failure::{Failure, USAGE};
-use crate::system::System;
 use crate::words::{Call, STANDARD, call_in};
 use judge_engine::{Basis, Fault, OutcomesFault, check, tell_outcomes, watch, why};
+use program_host::System;
 use std::alloc::Global;
 use std::io;
 use std::io::{Read, Write};
@@ -53,9 +53,9 @@ fn memory_or(error: &io::Error, other: Failure) -> Failure
 }
 
 /// Opens the source of this name; if that fails but for want of memory, with this failure.
-fn open<S: System>(system: &S, name: &str, failure: Failure) -> Result<S::Source, Failure>
+fn open<S: System>(system: &S, name: &str, failure: Failure) -> Result<S::Input, Failure>
     ensures ok { IfOk result (λ source. IfSome (S.bytes system.now name.now)
-        (λ known. S.Source.remaining source ≡ Some known)) }
+        (λ known. S.Input.remaining source ≡ Some known)) }
     ensures err { IfErr result (λ found.
         (found ≡ failures.Fault faults.NoMemory) ⊎ (found ≡ failure)) }
 {

@@ -64,7 +64,7 @@ impl Noted {
         requires { IsLinked list.now.nodes place }
         ensures { result ≡ noted (next_of list.now.nodes place) }
     {
-        let next = list.node(place).next?;
+        let next = list.node(place).next()?;
         Some(Noted::of(list, next))
     }
 }
@@ -109,7 +109,7 @@ impl Cursor {
         requires { IsLinked list.now.nodes (pred_of self.now) }
         ensures { result ≡ is_next_noted (behind list.now self.now) self.now.cur }
     {
-        match (list.node(self.pred.place).next, self.cur) {
+        match (list.node(self.pred.place).next(), self.cur) {
             (None, None) => true,
             (Some(next), Some(cur)) => {
                 next == cur.place && is_unmarked_with(list.node(next), cur.stamp)

@@ -21,6 +21,7 @@ use split_key::SortKey;
 /// # Cost
 ///
 /// Time in proportion to the nodes from the start to the position, each visited once.
+#[inline(always)]
 pub fn seek(list: &mut NodeList, from: NodeRef, at: SortKey) -> Cursor
     requires { IsStart list.old.nodes from at }
     ensures nodes { list.new.nodes ≡ sought list.old.nodes from at }
@@ -35,7 +36,7 @@ pub fn seek(list: &mut NodeList, from: NodeRef, at: SortKey) -> Cursor
     ensures follows { Follows list.old list.new }
 {
     let mut place = from;
-    'search: while let Some(next) = list.node(place).next {
+    'search: while let Some(next) = list.node(place).next() {
         let node = list.node(next);
         if node.marked {
             list.unlink_after(place);

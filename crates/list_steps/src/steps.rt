@@ -15,7 +15,7 @@ fn node_there(list: &NodeList, cursor: &Cursor) -> Option<NodeRef>
     requires { IsLinked list.now.nodes (pred_of cursor.now) }
     ensures { result ≡ place_of (node_there list.now cursor.now) }
 {
-    let next = list.node(cursor.pred.place).next?;
+    let next = list.node(cursor.pred.place).next()?;
     if list.node(next).at == cursor.at {
         Some(next)
     } else {

@@ -28,7 +28,7 @@ fn before_first_marked(list: &NodeList, start: NodeRef) -> NodeRef
     // The list's invariants hold.
     let _changes = list.changes();
     let mut place = start;
-    'walk: while let Some(next) = list.node(place).next {
+    'walk: while let Some(next) = list.node(place).next() {
         if list.node(next).marked {
             return place;
         }

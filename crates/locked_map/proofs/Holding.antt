@@ -23,7 +23,8 @@ use Rattle.boost_core.specs.State.{State, seat_in}
 use Rattle.locked_map.specs.Tokens.{Token, IsSameCaller, IsSameClaims}
 use Rattle.locked_map.specs.Suits.{may_refuse, is_odd, IsSized, Suits, IsInStep}
 use Rattle.locked_map.specs.Holds.{FoundOther, HadNoRoom, TookTurn, TakesTurn, Held, InStep, odd_if, end_in, is_out, out_if, GoesOn, GoesTo, HasRun, MayEnd, CommitNothing, IsQuiet}
-use Rattle.locked_map.proofs.Quiet.{odd_quiet, going_quiet}
+use Rattle.txn_drive.proofs.Quiet.{going_quiet}
+use Rattle.locked_map.proofs.Quiet.{odd_quiet}
 use Rattle.locked_map.proofs.Going.{goes_sized, in_step_sized, is_sized}
 
 -- The end of a hold that took its turn.

@@ -1,81 +1,22 @@
 -- The entries of a drive commit nothing, unless its end says that it did.
-use Rattle.std.proofs.Common.{◌≡◌, ℕ, zero, suc, ◌⊎◌, true, List, [], ◌++◌, Option, Some, None, refl, sym, ap, ◌∙◌, inl, inr}
+use Rattle.std.proofs.Common.{◌≡◌, true, List, [], Option, Some, None, sym, ap, ◌∙◌, inl, inr}
 use Rattle.std.specs.List.{filter}
 use Rattle.std.proofs.lemmas.Bool.{false≢true}
-use Rattle.std.proofs.lemmas.List.Elements.{filter-append}
 use Rattle.txn_trace.specs.History.{is_commit}
-use Rattle.txn_trace.specs.declared.answer.Answer.{Answer}
-use Rattle.txn_trace.specs.declared.answer.Answer.TheVariants as answers
-use Rattle.txn_trace.specs.declared.entry.Entry.{Entry}
-use Rattle.txn_trace.specs.declared.step.Step.TheVariants.{Act}
-use Rattle.txn_trace.specs.Entries.{entries_of}
-use Rattle.txn_drive.specs.declared.call.Call.{Call}
-use Rattle.txn_drive.specs.declared.call.Call.TheVariants as calls
 use Rattle.txn_drive.specs.declared.drive.Drive.{Drive}
 use Rattle.txn_drive.specs.declared.«end».End.{End}
-use Rattle.txn_drive.specs.declared.«end».End.TheVariants as ends
-use Rattle.txn_drive.specs.declared.phase.Phase.{Phase}
-use Rattle.txn_drive.specs.declared.phase.Phase.TheVariants.{Seeking, Acting, First, Last, Lost}
-use Rattle.txn_drive.specs.declared.phase.Work.{Work}
-use Rattle.txn_drive.specs.declared.phase.Work.TheVariants.{Operation, Busy, Leaving}
-use Rattle.txn_drive.specs.Drives.{turn_in, ended_by, end_of}
-use Rattle.txn_drive.specs.Made.{undone_in, undone_by, opened_by, entered_by, made_by, made_in, made}
+use Rattle.txn_drive.specs.Drives.{end_of}
+use Rattle.txn_drive.specs.Made.{made}
+use Rattle.txn_drive.proofs.Quiet.{made_quiet}
 use Rattle.locked_map.specs.Holds.{CommitNothing, odd_if}
-
-append_quiet : (xs ys : List Entry) → CommitNothing xs → CommitNothing ys → CommitNothing (xs ++ ys)
-append_quiet xs ys quiet silent = filter-append is_commit xs ys ∙ (λ i. quiet i ++ silent i)
-
-undone_quiet : (c k : ℕ) → CommitNothing (undone_by c k)
-undone_quiet c zero = refl
-undone_quiet c (suc k) = undone_quiet c k
-
-opened_quiet : (c : ℕ) (call : Call) (work : Work) → CommitNothing (opened_by c call work)
-opened_quiet c (calls.Op op) Operation = refl
-opened_quiet c (calls.Op op) (Busy x k) = refl
-opened_quiet c (calls.Back level) (Leaving k) = refl
-opened_quiet c calls.Abort (Leaving k) = refl
-opened_quiet c call work = refl
-
-work_quiet : (c : ℕ) (call : Call) (work : Work) → CommitNothing (made_by c call work)
-work_quiet c call work = append_quiet (opened_by c call work) (undone_by c (undone_in work)) (opened_quiet c call work) (undone_quiet c (undone_in work))
-
-act_quiet : (c : ℕ) (answer : Answer) → CommitNothing (entries_of (Act c) answer)
-act_quiet c (answers.Done reply) = refl
-act_quiet c answers.Undone = refl
-act_quiet c (answers.Returned n) = refl
-act_quiet c answers.Aborted = refl
-act_quiet c answer = refl
-
-abbrev IsQuietOr : List Entry → Option End → Type 0
-IsQuietOr es outcome = CommitNothing es ⊎ ((p : ℕ) × (outcome ≡ Some (ends.Answered (answers.Committed p))))
-
-first_quiet : (c : ℕ) (call : Call) (answer : Answer) → IsQuietOr (entered_by c call answer) (ended_by (turn_in c call (First answer)))
-first_quiet c calls.Begin (answers.Began t) = inl refl
-first_quiet c calls.Save (answers.Saved n) = inl refl
-first_quiet c calls.Commit (answers.Committed p) = inr (p, refl)
-first_quiet c call answer = inl refl
-
-made_quiet : (c : ℕ) (call : Call) (phase : Phase) → IsQuietOr (made_in c call phase) (ended_by (turn_in c call phase))
-made_quiet c call (Seeking work again) = inl (work_quiet c call work)
-made_quiet c call (Acting work again) = inl (work_quiet c call work)
-made_quiet c call (First answer) = first_quiet c call answer
-made_quiet c call (Last work answer) = inl (append_quiet (made_by c call work) (entries_of (Act c) answer) (work_quiet c call work) (act_quiet c answer))
-made_quiet c call (Lost work) = inl (work_quiet c call work)
-made_quiet c call phase = inl refl
 
 -- A call whose drive has an end that it may not have has committed nothing.
 pub odd_quiet : (e : Drive) (end : Option End) → end_of e ≡ end → odd_if e.call end ≡ true → CommitNothing (made e)
-odd_quiet e end is odd = elim (made_quiet e.caller e.call e.phase) [
+odd_quiet e end is odd = elim (made_quiet e) [
   | inl quiet ↦ quiet
   | inr committed ↦ absurd (false≢true (sym (ap (odd_if e.call) (sym is ∙ committed.1)) ∙ odd))
 ]
 
--- Neither a drive that has not ended nor a new one has committed anything.
-pub going_quiet : (d : Drive) → end_of d ≡ None → CommitNothing (made d)
-going_quiet d going = elim (made_quiet d.caller d.call d.phase) [
-  | inl quiet ↦ quiet
-  | inr committed ↦ absurd (cc (going, committed.1))
-]
-
+-- A new drive has committed nothing.
 pub new_quiet : (d : Drive) → made d ≡ [] → CommitNothing (made d)
 new_quiet d none = ap (filter is_commit) none

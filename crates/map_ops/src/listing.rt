@@ -33,7 +33,7 @@ pub(crate) fn pairs_of(alloc: Global, list: &NodeList) -> Result<Vec<(u64, u64)>
 {
     let mut found = Vec::new(alloc);
     let mut place = list.head();
-    'walk: while let Some(next) = list.node(place).next {
+    'walk: while let Some(next) = list.node(place).next() {
         let node = list.node(next);
         push_pair(&mut found, node)?;
         place = next;

@@ -10,6 +10,7 @@ ghost use Rattle.node_list.specs.Sound.{IsSound};
 ghost use Rattle.node_list.specs.Tally.{AreMarksFrom, first_marked};
 
 use crate::node::{Kind, Node, NodeRef};
+use crate::packed_ref::PackedRef;
 use crate::slots::{Slot, linked_at, mark, node_at, replace_next, set_slot, set_value};
 use crate::spare::{Spare, SpareFault};
 use crate::tally::Tally;
@@ -146,7 +147,7 @@ impl NodeList {
         ensures follows { Follows self.old self.new }
     {
         let place = spare.node();
-        let next = replace_next(&mut self.slab, pred.place(), Some(place));
+        let next = replace_next(&mut self.slab, pred.place(), PackedRef::of(place));
         let node = spare.into_node(next);
         let weight = node.kind.weight();
         set_slot(&mut self.slab, place.place(), Slot::of_linked(node));
@@ -157,12 +158,14 @@ impl NodeList {
     }
 
     /// Unlinks the marked node behind a linked node, and frees its place.
+    // A function of its own, so that a seek is small enough to be compiled into its callers.
+    #[inline(never)]
     pub fn unlink_after(&mut self, pred: NodeRef)
         requires { IsBeforeMarked self.old.nodes pred }
         ensures unlinked { Becomes self.old self.new (unlinked_after self.old.nodes pred) }
         ensures follows { Follows self.old self.new }
     {
-        if let Some(node) = node_at(&self.slab, pred.place()).next {
+        if let Some(node) = node_at(&self.slab, pred.place()).next() {
             let behind = *node_at(&self.slab, node.place());
             let _ = replace_next(&mut self.slab, pred.place(), behind.next);
             let _ = self.slab.try_remove(node.place());

@@ -4,8 +4,10 @@ ghost use Rattle.std.specs.Prelude.{◌≡◌, ◌-◌, ◌^◌, ◌<◌, if◌t
 ghost use Rattle.node_list.specs.Nodes.{is_regular};
 ghost use Rattle.node_list.specs.declared.node.Kind.TheVariants.{Dummy};
 
+use crate::packed_ref::PackedRef;
 use split_key::SortKey;
 use std::marker::Model;
+use std::mem::size_of;
 
 /// The kind of a node.
 #[derive(Clone, Copy, Debug, PartialEq, Eq)]
@@ -70,24 +72,27 @@ impl NodeRef {
     }
 }
 
-/// A linked node.
+/// A linked node. It takes four words: the first two have the sort key, three bytes and the place
+/// of the next node.
 #[derive(Clone, Copy, Debug)]
 pub struct Node {
     /// Its position in the order of the list. A regular node has its key there.
     pub at: SortKey,
-    /// The value of a regular node.
-    pub value: u64,
-    /// The stamp, which no other node ever had.
-    pub stamp: u64,
-    /// The node behind it.
-    pub next: Option<NodeRef>,
-    /// A dummy or a regular node. It lies beside the two that follow, so that all take one word.
+    /// A dummy or a regular node.
     pub kind: Kind,
     /// Whether the node was taken out of the table, and waits to be unlinked.
     pub marked: bool,
     /// Whether the node is linked; if not, its place is kept for a spare.
     pub(crate) is_linked: bool,
+    /// The node behind it.
+    pub(crate) next: PackedRef,
+    /// The value of a regular node.
+    pub value: u64,
+    /// The stamp, which no other node ever had.
+    pub stamp: u64,
 }
+
+const _: () = prove!(size_of::<Node>() == 32);
 
 impl Node {
     /// A dummy with nothing behind it.
@@ -105,11 +110,18 @@ impl Node {
         Node {
             at,
             kind: Kind::Dummy,
-            value: 0,
-            stamp,
-            next: None,
             marked: false,
             is_linked: true,
+            next: PackedRef::none(),
+            value: 0,
+            stamp,
         }
+    }
+
+    /// The node behind it, if there is one.
+    pub fn next(&self) -> Option<NodeRef>
+        ensures { result ≡ self.now.next }
+    {
+        self.next.node()
     }
 }

@@ -9,7 +9,7 @@ use std::mem::size_of;
 /// the greatest place of 32 bits, which stands for none.
 ///
 /// A contract sees it as the option.
-#[derive(Clone, Copy)]
+#[derive(Clone, Copy, Debug)]
 pub struct PackedRef {
     place: u32,
 }

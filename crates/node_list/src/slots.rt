@@ -1,11 +1,12 @@
 //! The slots of the slab: a linked node, or a place that is kept for a spare. A slot is as large as
-//! a node, 48 bytes, since the node itself says whether it is linked.
+//! a node, 32 bytes, since the node itself says whether it is linked.
 ghost use Rattle.std.specs.Prelude.{◌≡◌, Some, true, option_copied};
 ghost use Rattle.slab.specs.Slab.{get, with_value, ContainsKey};
 ghost use Rattle.node_list.specs.declared.node.Node.{Node};
 ghost use Rattle.node_list.specs.Slots.{Linked, Out, node_in};
 
-use crate::node::{Node, NodeRef};
+use crate::node::Node;
+use crate::packed_ref::PackedRef;
 use slab::Slab;
 use std::marker::Model;
 use std::mem::size_of;
@@ -17,7 +18,7 @@ pub struct Slot {
     node: Node,
 }
 
-const _: () = prove!(size_of::<Slot>() == 48);
+const _: () = prove!(size_of::<Slot>() == 32);
 
 impl Model for Slot {
     ghost use Rattle.node_list.specs.Slots.{SlotAt, slot_of};
@@ -65,7 +66,7 @@ impl Slot {
     }
 
     /// Changes the next of the linked node, and returns the one that it had.
-    fn replace_next(&mut self, next: Option<NodeRef>) -> Option<NodeRef>
+    fn replace_next(&mut self, next: PackedRef) -> PackedRef
         ensures was { (node : Node) → self.old ≡ Linked node → result ≡ node.next }
         ensures now { (node : Node) → self.old ≡ Linked node →
             self.new ≡ Linked (record node { next = next }) }
@@ -122,7 +123,7 @@ pub fn set_slot(slab: &mut Slab<Slot>, place: usize, slot: Slot)
 }
 
 /// Changes the next of a linked node, and returns the one that it had.
-pub fn replace_next(slab: &mut Slab<Slot>, place: usize, next: Option<NodeRef>) -> Option<NodeRef>
+pub fn replace_next(slab: &mut Slab<Slot>, place: usize, next: PackedRef) -> PackedRef
     requires { (node : Node) × (get slab.old place ≡ Some (Linked node)) }
     ensures was { (node : Node) → get slab.old place ≡ Some (Linked node) → result ≡ node.next }
     ensures now { (node : Node) → get slab.old place ≡ Some (Linked node) →

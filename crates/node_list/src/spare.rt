@@ -6,6 +6,7 @@ ghost use Rattle.node_list.specs.Nodes.{filled, first_dummy};
 ghost use Rattle.node_list.specs.Text.{fault_text};
 
 use crate::node::{Kind, Node, NodeRef};
+use crate::packed_ref::PackedRef;
 use split_key::SortKey;
 use std::fmt;
 use std::fmt::Display;
@@ -19,11 +20,11 @@ use std::mem::size_of;
 /// `NodeList::give_back` end. A spare that is dropped keeps its place in use.
 #[derive(Debug, Drop)]
 pub struct Spare {
-    // The kind lies beside the place, so that both take one word.
-    place: NodeRef,
-    kind: Kind,
-    stamp: u64,
+    // The sort key, the kind and the place take two words together.
     at: SortKey,
+    kind: Kind,
+    place: NodeRef,
+    stamp: u64,
     value: u64,
 }
 
@@ -49,7 +50,7 @@ pub struct Unfilled {
     place: NodeRef,
 }
 
-const _: () = prove!(size_of::<Spare>() == 40);
+const _: () = prove!(size_of::<Spare>() == 32);
 
 const _: () = prove!(size_of::<Unfilled>() == 16);
 
@@ -97,26 +98,26 @@ impl Spare {
         } }
     {
         Spare {
-            place,
-            kind: node.kind,
-            stamp: node.stamp,
             at: node.at,
+            kind: node.kind,
+            place,
+            stamp: node.stamp,
             value: node.value,
         }
     }
 
     /// The node that the spare becomes, with this next one.
-    pub(crate) fn into_node(self, next: Option<NodeRef>) -> Node
+    pub(crate) fn into_node(self, next: PackedRef) -> Node
         ensures { result ≡ stored (filled self) next }
     {
         Node {
             at: self.at,
             kind: self.kind,
-            value: self.value,
-            stamp: self.stamp,
-            next,
             marked: false,
             is_linked: true,
+            next,
+            value: self.value,
+            stamp: self.stamp,
         }
     }
 
@@ -161,10 +162,10 @@ impl Unfilled {
         ensures { result ≡ self }
     {
         Spare {
-            place: self.place,
-            kind: Kind::Dummy,
-            stamp: self.stamp,
             at: SortKey::dummy(0),
+            kind: Kind::Dummy,
+            place: self.place,
+            stamp: self.stamp,
             value: 0,
         }
     }

@@ -9,3 +9,4 @@ pub mod Turns
 pub mod Taken
 pub mod Values
 pub mod Whole
+pub mod PlainLemmas

@@ -6,3 +6,4 @@ pub mod Files
 pub mod Plain
 pub mod Tokens
 pub mod Members
+pub mod PlainBytes

@@ -10,8 +10,13 @@
 //! they begin with. What bytes, tokens and numbers mean as JSON is what `json` and `serde_json`
 //! say.
 //!
+//! A file in plain form, as most are written, is read straight from its bytes: no escapes, numbers of
+//! at most 19 digits, only pieces that the kind has, and white space anywhere between. The reader of
+//! JSON makes an index of the whole text first, so it reads only what has another form, from the
+//! start (`members.rt`). `specs/PlainBytes.antt` says what tokens bytes in plain form are.
+//!
 //! Promised: `read_file` computes that function, or says that memory was refused. A text is read
-//! once, token by token, in time proportional to its length. What is passed over is tested to be
+//! once, or twice if it has no plain form, in time proportional to its length. What is passed over is tested to be
 //! JSON, and nothing of it is kept; of the pieces no more are kept than a file may have, and the
 //! others counted.
 #![tactic(auto)]
@@ -25,6 +30,10 @@ mod part;
 mod passing;
 mod piece;
 mod plain;
+mod plain_array;
+mod plain_bytes;
+mod plain_members;
+mod plain_pieces;
 mod stop;
 
 pub use elements::{end_in, leading_optional_in, number_in, one_in, optional_in, two_in, word_in};
@@ -34,4 +43,6 @@ pub use part::Part;
 pub use passing::pass_value;
 pub use piece::{PieceKind, Pieces, pieces_in};
 pub use plain::{Plain, plain_elements};
+pub use plain_array::{elements_at, whole_array};
+pub use plain_pieces::pieces_at;
 pub use stop::Stop;

@@ -1,7 +1,7 @@
 //! The members of a file, taken one after the other: those that its kind has are kept, the others
 //! passed over.
 
-ghost use Rattle.std.specs.Prelude.{◌≡◌, ◌∷◌, ◌≤◌, ◌<◌, true, false, map, length, Option, Some, None, Ok, Err, IfOk, OnOk, OnErr, MatchResult, codes};
+ghost use Rattle.std.specs.Prelude.{◌≡◌, ◌∷◌, ◌≤◌, ◌<◌, true, false, map, length, replicate, Option, Some, None, Ok, Err, IfOk, OnOk, OnErr, MatchResult, codes};
 ghost use Rattle.json.specs.Reads.{token_of};
 ghost use Rattle.serde_json.specs.Data.{Data, Members, no_members, put};
 ghost use Rattle.serde_json.specs.Read.{max_depth, read};
@@ -19,13 +19,14 @@ ghost use Rattle.piece_files.specs.declared.stop.Stop.TheVariants.{NotJson};
 use crate::file_fault::FileFault;
 use crate::passing::pass_value;
 use crate::piece::{PieceKind, Pieces, pieces_in};
-use crate::plain::{Plain, plain_value};
+use crate::plain::plain_value;
+use crate::plain_members::plain_members_in;
 use crate::stop::Stop;
 use json::{Invalid, Reader, Scratch, Token};
 use std::alloc::Global;
 
 /// How deep arrays and objects may nest.
-const MAX_DEPTH: usize = 127;
+pub(crate) const MAX_DEPTH: usize = 127;
 
 /// The names of a file's members, besides `version`.
 #[derive(Clone, Copy)]
@@ -44,6 +45,20 @@ pub(crate) struct Found<P, const N: usize> {
     pub(crate) pieces: Option<Pieces<P>>,
 }
 
+/// What is found of no members.
+pub(crate) fn nothing_found<P, const N: usize>() -> Found<P, N>
+    requires { N ≤ 64 }
+    ensures version { result.version ≡ None }
+    ensures numbers { result.numbers ≡ replicate N None }
+    ensures pieces { result.pieces ≡ None }
+{
+    Found {
+        version: None,
+        numbers: [None; N],
+        pieces: None,
+    }
+}
+
 /// The number that begins with this token, which was taken: none if the value is another.
 fn number_member(
     token: Token<'_>,
@@ -57,8 +72,8 @@ fn number_member(
     ensures shorter { OnOk result (length reader.new ≤ length reader.old) }
 {
     match plain_value(token, reader, depth)? {
-        Some(Plain::Number(number)) => Ok(Some(number)),
-        Some(Plain::Null) | Some(Plain::Text(_)) | None => Ok(None),
+        Some(value) => Ok(value.number()),
+        None => Ok(None),
     }
 }
 
@@ -99,7 +114,7 @@ fn pieces_member<K: PieceKind>(
 }
 
 /// The place of a name among names.
-fn place_of(names: &[&str], key: &str) -> Option<usize>
+pub(crate) fn place_of(names: &[&str], key: &str) -> Option<usize>
     ensures { result ≡ position (λ name. bytes_eq name.now key.now) names.now }
 {
     names.iter().position(|name| *name == key)
@@ -199,7 +214,39 @@ fn take_value<K: PieceKind, const N: usize>(
     }
 }
 
-/// What is found of the members of the object that a text is.
+/// What is found of the members of the object that a text is, by the reader of JSON.
+fn indexed_members_in<K: PieceKind, const N: usize>(
+    alloc: Global,
+    text: &str,
+    names: Names<'_>,
+) -> Result<Found<K::Piece, N>, FileFault>
+    requires few { N ≤ 64 }
+    requires many { length names.numbers.now ≡ N }
+    requires apart { are_apart (names_of (kind_named names K.of K.is_old K.part K.most)) ≡ true }
+    ensures { MatchResult result
+        (λ found. (d : Data) × (read text.now ≡ Some d)
+        × AreFound (kind_named names.entry K.of K.is_old K.part K.most)
+        found.version found.numbers found.pieces (members_within d))
+        (λ fault. Fails fault (or_fault NoJson (read text.now))) }
+{
+    let mut found = nothing_found::<K::Piece, N>();
+    let mut scratch = Scratch::new(alloc);
+    let mut reader = Reader::new(text, &mut scratch)?;
+    match take_value::<K, N>(&mut found, names, alloc, &mut reader) {
+        Ok(()) => {
+            if reader.next().is_none() {
+                Ok(found)
+            } else {
+                Err(FileFault::NotJson)
+            }
+        }
+        Err(Stop::NotJson) => Err(FileFault::NotJson),
+        Err(Stop::NoMemory) => Err(FileFault::NoMemory),
+    }
+}
+
+/// What is found of the members of the object that a text is. A text in plain form is read straight
+/// from its bytes.
 pub(crate) fn members_in<K: PieceKind, const N: usize>(
     alloc: Global,
     text: &str,
@@ -214,22 +261,9 @@ pub(crate) fn members_in<K: PieceKind, const N: usize>(
         found.version found.numbers found.pieces (members_within d))
         (λ fault. Fails fault (or_fault NoJson (read text.now))) }
 {
-    let mut found = Found {
-        version: None,
-        numbers: [None; N],
-        pieces: None,
-    };
-    let mut scratch = Scratch::new(alloc);
-    let mut reader = Reader::new(text, &mut scratch)?;
-    match take_value::<K, N>(&mut found, names, alloc, &mut reader) {
-        Ok(()) => {
-            if reader.next().is_none() {
-                Ok(found)
-            } else {
-                Err(FileFault::NotJson)
-            }
-        }
-        Err(Stop::NotJson) => Err(FileFault::NotJson),
-        Err(Stop::NoMemory) => Err(FileFault::NoMemory),
+    let plain = plain_members_in::<K, N>(alloc, text, names)?;
+    match plain {
+        Some(found) => Ok(found),
+        None => indexed_members_in::<K, N>(alloc, text, names),
     }
 }

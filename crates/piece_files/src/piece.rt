@@ -1,12 +1,14 @@
 //! The pieces of an array, read one after the other: one loop for all kinds of pieces. Past the
 //! limit pieces are counted and not kept.
 
-ghost use Rattle.std.specs.Prelude.{◌≡◌, ℕ, ◌+◌, ◌^◌, ◌∷◌, ◌<◌, ◌≤◌, List, length, Bool, true, Option, Some, None, Err, MatchResult, IfOk, OnOk, option_and_then};
+ghost use Rattle.std.specs.Prelude.{◌≡◌, ℕ, ◌+◌, ◌^◌, ◌∷◌, ◌<◌, ◌≤◌, List, length, Bool, true, Option, Some, None, Err, MatchResult, IfOk, IfSome, OnErr, OnOk, drop, option_and_then};
 ghost use Rattle.json.specs.Token.{Token as SpecToken};
+ghost use Rattle.json.specs.Lex.{after_value};
 ghost use Rattle.json.specs.Reads.{token_of};
 ghost use Rattle.serde_json.specs.Data.{Data};
 ghost use Rattle.piece_files.specs.Elements.{elements_of};
 ghost use Rattle.piece_files.specs.Pieces.{old_of, pieces_from};
+ghost use Rattle.piece_files.specs.PlainBytes.{Begin, tokens_at};
 ghost use Rattle.piece_files.specs.Tokens.{value_at, items_at, items_from, FindsBoth};
 ghost use Rattle.piece_files.specs.declared.part.Part.{Part};
 ghost use Rattle.piece_files.specs.declared.stop.Stop.TheVariants.{NotJson, NoMemory};
@@ -15,7 +17,7 @@ use crate::part::Part;
 use crate::passing::pass_value;
 use crate::stop::Stop;
 use json::{Reader, Token};
-use std::alloc::Global;
+use std::alloc::{AllocError, Global};
 
 /// A kind of pieces, of which a file has an array. Each piece is an array itself, and its elements
 /// say what it is. A kind has no value; it is named where pieces are read.
@@ -77,6 +79,32 @@ pub trait PieceKind {
         ensures err { result ≡ Err NotJson → items_at depth reader.old ≡ None }
         ensures memory { result ≡ Err NoMemory → takes_memory ≡ true }
         ensures shorter { OnOk result (length reader.new < length reader.old) };
+
+    /// The piece whose elements stand at a place of a text in plain form, after the bracket that
+    /// opens it. The place is then behind the bracket that closes it. None if no piece stands there,
+    /// or the elements have no plain form: the place is then anywhere, and `read` decides. A kind
+    /// may always answer none.
+    ///
+    /// # Errors
+    ///
+    /// `AllocError` if memory is refused, and only of a kind that `takes_memory`.
+    ///
+    /// # Cost
+    ///
+    /// The kind's own.
+    fn read_plain(
+        alloc: Global,
+        text: &str,
+        at: &mut usize,
+        depth: usize,
+    ) -> Result<Option<Self::Piece>, AllocError>
+        requires { at.old ≤ length text.now }
+        ensures place { IfOk result (λ found. IfSome found (λ piece.
+            (at.old < at.new) × (at.new ≤ length text.now))) }
+        ensures piece { IfOk result (λ found. IfSome found (λ piece. (ds : List Data)
+            × Begin depth (drop at.old text.now) ds (tokens_at after_value (drop at.new text.now))
+            × (Some piece ≡ of ds))) }
+        ensures memory { OnErr result (takes_memory ≡ true) };
 }
 
 /// The pieces that an array begins with, up to its first element that is none.

@@ -4,6 +4,8 @@
 ghost use Rattle.std.specs.Prelude.{◌≡◌, ◌∷◌, ◌<◌, ◌≤◌, List, length, Some, None, option_map, IfOk, OnOk, OnErr};
 ghost use Rattle.json.specs.Reads.{token_of};
 ghost use Rattle.serde_json.specs.Data.{Data};
+ghost use Rattle.piece_files.specs.Elements.{number_of};
+ghost use Rattle.piece_files.specs.Plain.{data_of};
 ghost use Rattle.piece_files.specs.Tokens.{value_at, items_at, items_from, IsPlain, AreElements};
 
 use crate::numeral::number_in_text;
@@ -21,6 +23,18 @@ pub enum Plain<'a> {
     Text(&'a str),
     /// A whole number.
     Number(u64),
+}
+
+impl Plain<'_> {
+    /// The number that it is: none if it is another value.
+    pub(crate) fn number(self) -> Option<u64>
+        ensures { result ≡ number_of (data_of self.entry) }
+    {
+        match self {
+            Plain::Number(number) => Some(number),
+            Plain::Null | Plain::Text(_) => None,
+        }
+    }
 }
 
 /// The value that begins with this token, which was taken: none if it is not plain.

@@ -1,7 +1,7 @@
 //! Shared parts of the tests: texts with gaps, readers and writers that fail at a given call, and a
 //! system in memory.
 
-use command_line::System;
+use program_host::System;
 use std::alloc::Global;
 use std::io;
 use std::io::{ErrorKind, Read, Write};

@@ -7,10 +7,10 @@ use crate::devices::filled;
 use arrayvec::ArrayVec;
 use json::{Reader, Scratch, Token};
 use piece_files::{
-    FileFault, Part, PieceKind, Plain, Stop, end_in, number_in, one_in, optional_in, pass_value,
-    pieces_in, plain_elements, read_file, two_in, word_in,
+    FileFault, Part, PieceKind, Plain, Stop, elements_at, end_in, number_in, one_in, optional_in,
+    pass_value, pieces_in, plain_elements, read_file, two_in, word_in,
 };
-use std::alloc::Global;
+use std::alloc::{AllocError, Global};
 use std::process::Abort;
 use std::test::Fail;
 
@@ -57,6 +57,20 @@ impl PieceKind for PointKind {
         } else {
             Ok(None)
         }
+    }
+
+    fn read_plain(
+        _alloc: Global,
+        text: &str,
+        at: &mut usize,
+        _depth: usize,
+    ) -> Result<Option<(u64, u64)>, AllocError> {
+        let mut elements = ArrayVec::<Plain<'_>, 2>::new();
+        let Some(end) = elements_at(text, *at, &mut elements) else {
+            return Ok(None);
+        };
+        *at = end;
+        Ok(two_in(&elements))
     }
 }
 
@@ -118,6 +132,114 @@ const DRAWINGS: &[Drawings] = &[
         points: "",
         versions: &[""],
         content: Ok(&[(1, 2), (3, 4), (5, 6)]),
+    },
+    Drawings {
+        frame: r#"{"version":1,"width":7,"points":[ [ 1 , 2 ] ,[3,4] ] } "#,
+        points: "",
+        versions: &[""],
+        content: Ok(&[(1, 2), (3, 4)]),
+    },
+    Drawings {
+        frame: "{\r\n\t\"version\": 1,\n\t\"width\": 7,\n\t\"points\": [\n\t\t[1,\n\t\t2]\n\t]\n}\n",
+        points: "",
+        versions: &[""],
+        content: Ok(&[(1, 2)]),
+    },
+    Drawings {
+        frame: r#"{"version":1,"wi\u0064th":7,"points":[[1,2]]}"#,
+        points: "",
+        versions: &[""],
+        content: Ok(&[(1, 2)]),
+    },
+    Drawings {
+        frame: r#"{"version":1,"width":8,"points":[[1,2]],"width":7,"note":"é","points":[[3,4]]}"#,
+        points: "",
+        versions: &[""],
+        content: Ok(&[(3, 4)]),
+    },
+    Drawings {
+        frame: r#"{"version":1,"width":7,"points":[[18446744073709551615,9999999999999999999]]}"#,
+        points: "",
+        versions: &[""],
+        content: Ok(&[(18_446_744_073_709_551_615, 9_999_999_999_999_999_999)]),
+    },
+    Drawings {
+        frame: r#"{"version":1,"width":7,"points":[[0,0000000000000000000]]}"#,
+        points: "",
+        versions: &[""],
+        content: Err(FileFault::NotJson),
+    },
+    Drawings {
+        frame: r#"{"version":1,"width":7,"points":[[1,02]]}"#,
+        points: "",
+        versions: &[""],
+        content: Err(FileFault::NotJson),
+    },
+    Drawings {
+        frame: r#"{"version":1,"width":7,"points":[[1,2],]}"#,
+        points: "",
+        versions: &[""],
+        content: Err(FileFault::NotJson),
+    },
+    Drawings {
+        frame: r#"{"version":1,"width":7,"points":[[1,2]],}"#,
+        points: "",
+        versions: &[""],
+        content: Err(FileFault::NotJson),
+    },
+    Drawings {
+        frame: r#"{"version":1,"width":7,"points":[[1,2]]}}"#,
+        points: "",
+        versions: &[""],
+        content: Err(FileFault::NotJson),
+    },
+    Drawings {
+        frame: r#"{"version":1,"width":7"points":[[1,2]]}"#,
+        points: "",
+        versions: &[""],
+        content: Err(FileFault::NotJson),
+    },
+    Drawings {
+        frame: r#"{"version":1,"width":7,"points":[[1 2]]}"#,
+        points: "",
+        versions: &[""],
+        content: Err(FileFault::NotJson),
+    },
+    Drawings {
+        frame: r#"{"version":1,"width":7,"points":[[1,2]] "#,
+        points: "",
+        versions: &[""],
+        content: Err(FileFault::NotJson),
+    },
+    Drawings {
+        frame: r#"{"version":1,"width":7,"points":[[1,18446744073709551616]]}"#,
+        points: "",
+        versions: &[""],
+        content: Err(FileFault::Piece(Part::Entry, 0)),
+    },
+    Drawings {
+        frame: r#"{"version":1,"width":7,"points":[[1,2],[1,2,3]]}"#,
+        points: "",
+        versions: &[""],
+        content: Err(FileFault::Piece(Part::Entry, 1)),
+    },
+    Drawings {
+        frame: r#"{"version":1,"width":7,"points":[[1,2],[1,nul]]}"#,
+        points: "",
+        versions: &[""],
+        content: Err(FileFault::NotJson),
+    },
+    Drawings {
+        frame: r#"{"version":1,"width":null,"points":[[1,2]]}"#,
+        points: "",
+        versions: &[""],
+        content: Err(FileFault::Member),
+    },
+    Drawings {
+        frame: r#"{"version":1,"width":7,"points":"[[1,2]]"}"#,
+        points: "",
+        versions: &[""],
+        content: Err(FileFault::Member),
     },
     Drawings {
         frame: "",

@@ -20,8 +20,7 @@ use Rattle.txn_trace.specs.History.{caller_of}
 use Rattle.txn_trace.specs.Shape.{own}
 use Rattle.txn_trace.specs.Legal.{IsLegal}
 use Rattle.txn_trace.specs.Sizes.{Sizes}
-use Rattle.txn_trace.specs.Plays.{PlayScripts, HavePlayed, parts_of}
-use Rattle.txn_trace.proofs.Playing.{scripts_played}
+use Rattle.txn_trace.specs.Plays.{PlayScripts}
 use Rattle.txn_drive.specs.declared.turn.Turn.{Turn}
 use Rattle.txn_drive.specs.declared.turn.Turn.TheVariants.{One, Two, Ended}
 use Rattle.txn_drive.specs.Drives.{step_of}
@@ -32,11 +31,14 @@ use Rattle.boost_core.specs.Answers as core
 use Rattle.script_worker.specs.declared.task.Task.{Task}
 use Rattle.script_worker.specs.declared.worker.Worker.{Worker}
 use Rattle.script_worker.specs.declared.attempt.Outcome.{Outcome}
-use Rattle.script_worker.specs.Workers.{told_drive, told_by, sized_by, turn_by, step_by, IsTurnBy, Working, TakesStep, TakesIn, TakesNext}
+use Rattle.script_worker.specs.Workers.{told_drive, told_by, sized_by, turn_by, step_by, IsReady, IsTurnBy, Working, TakesStep, TakesIn, TakesNext}
+use Rattle.script_worker.specs.Accounts.{Outcome as Told, AreAccounts, AreTrue, every, tolds_of}
 use Rattle.script_worker.specs.Keeps.{KeepsAt, Keeps}
+use Rattle.script_worker.proofs.Accounts.{true_plays}
+use Rattle.script_worker.proofs.Telling.{accounts_true}
 use Rattle.txn_drive.proofs.DriveLaws.{entries_callers}
 use Rattle.script_worker.proofs.Keeping.{told_keeps, told_on, sized_keeps}
-use Rattle.script_worker.proofs.Remaining.{keeps_played, told_same}
+use Rattle.script_worker.proofs.Remaining.{keeps_told, told_same}
 use Rattle.script_mix.specs.Crews.{IsMember, IsCrew, Goes}
 
 no_entries : (step : Step) (refusal : Refusal) → entries_of step (answers.Refused refusal) ≡ []
@@ -77,29 +79,29 @@ own-others : (w c : ℕ) (h es : List Entry) → c ≢ w → AreOf w es → own 
 own-others w c h es other all = filter-append (λ e. caller_of e == c) h es ∙ ap (λ xs. own c h ++ xs) (own_none w c es other all) ∙ append-nil (own c h)
 
 -- The step of a worker that keeps to its scripts is a step of its caller.
-step_mine : (workers : ℕ) (scripts : List (List Action)) (w : ℕ) (task : Option Task) (parts : List (List Entry)) (step : Step) (answer : Answer)
-    → KeepsAt workers scripts w task parts → option_and_then (λ (task : Task). step_of task.drive) task ≡ Some step → AreOf w (entries_of step answer)
-step_mine workers scripts w None parts step answer keeps is = absurd (cc is)
-step_mine workers scripts w (Some task) parts step answer keeps is = subst (λ c. AreOf c (entries_of step answer)) keeps.caller (entries_callers task.drive step answer is)
+step_mine : (tries workers : ℕ) (scripts : List (List Action)) (w : ℕ) (task : Option Task) (seen : List Entry) (step : Step) (answer : Answer)
+    → KeepsAt tries workers scripts w task seen → option_and_then (λ (task : Task). step_of task.drive) task ≡ Some step → AreOf w (entries_of step answer)
+step_mine tries workers scripts w None seen step answer keeps is = absurd (cc is)
+step_mine tries workers scripts w (Some task) seen step answer keeps is = subst (λ c. AreOf c (entries_of step answer)) keeps.caller (entries_callers task.drive step answer is)
 
 -- A worker's step.
-step_goes : (scripts : List (List Action)) (old new : State) (before after : Worker) (step : Step) (answer : Answer) → Move old step answer new → step_by before ≡ Some step
-    → after.number ≡ before.number → after.limits ≡ before.limits → Keeps scripts before (own before.number old.history)
-    → (Keeps scripts before (own before.number old.history) → Keeps scripts after (own before.number old.history ++ entries_of step answer)) → Goes scripts old new before after
-step_goes scripts old new before after step answer move is number same keeps told =
+step_goes : (scripts : List (List Action)) (tries : ℕ) (old new : State) (before after : Worker) (step : Step) (answer : Answer) → Move old step answer new → step_by before ≡ Some step
+    → after.number ≡ before.number → after.limits ≡ before.limits → Keeps scripts tries before (own before.number old.history)
+    → (Keeps scripts tries before (own before.number old.history) → Keeps scripts tries after (own before.number old.history ++ entries_of step answer)) → Goes scripts tries old new before after
+step_goes scripts tries old new before after step answer move is number same keeps told =
     let es = entries_of step answer in
-    let mine : AreOf before.number es = step_mine before.limits.callers scripts before.number before.task _ step answer keeps.at is in
+    let mine : AreOf before.number es = step_mine tries before.limits.callers scripts before.number before.task _ step answer keeps.at is in
     let history = move-history old new step answer move in
     record {
       limits = move-limits old new step answer move;
       number = number;
       same = same;
       others = λ c other. ap (own c) history ∙ own-others before.number c old.history es other mine;
-      keeps = subst (Keeps scripts after) (sym (ap (own before.number) history ∙ own-mine before.number old.history es mine) ∙ ap (λ w. own w new.history) (sym number)) (told keeps);
+      keeps = subst (Keeps scripts tries after) (sym (ap (own before.number) history ∙ own-mine before.number old.history es mine) ∙ ap (λ w. own w new.history) (sym number)) (told keeps);
     }
 
-goes_then : (scripts : List (List Action)) (a b c : State) (x y z : Worker) → Goes scripts a b x y → Goes scripts b c y z → Goes scripts a c x z
-goes_then scripts a b c x y z first next = record {
+goes_then : (scripts : List (List Action)) (tries : ℕ) (a b c : State) (x y z : Worker) → Goes scripts tries a b x y → Goes scripts tries b c y z → Goes scripts tries a c x z
+goes_then scripts tries a b c x y z first next = record {
   limits = next.limits ∙ first.limits;
   number = next.number ∙ first.number;
   same = next.same ∙ first.same;
@@ -112,38 +114,38 @@ module _ (scripts : List (List Action)) (tries : ℕ) where
   abbrev Steps : Working State → Step → Answer → Working State → Type 0
   Steps old step answer new = TakesStep Move scripts tries old step answer new
 
-  one_goes : (old : Working State) (step : Step) (answer : Answer) (new : Working State) → step_by old.worker ≡ Some step → Keeps scripts old.worker (own old.worker.number old.taker.history)
-      → Steps old step answer new → Goes scripts old.taker new.taker old.worker new.worker
+  one_goes : (old : Working State) (step : Step) (answer : Answer) (new : Working State) → step_by old.worker ≡ Some step → Keeps scripts tries old.worker (own old.worker.number old.taker.history)
+      → Steps old step answer new → Goes scripts tries old.taker new.taker old.worker new.worker
   one_goes old step answer new is keeps takes =
-      subst (λ (w : Worker). Goes scripts old.taker new.taker old.worker w) (sym takes.told)
-      (step_goes scripts old.taker new.taker old.worker (told_by scripts tries old.worker answer) step answer takes.taken is (told_same scripts tries old.worker answer).0 (told_same scripts tries old.worker answer).1 keeps
+      subst (λ (w : Worker). Goes scripts tries old.taker new.taker old.worker w) (sym takes.told)
+      (step_goes scripts tries old.taker new.taker old.worker (told_by scripts tries old.worker answer) step answer takes.taken is (told_same scripts tries old.worker answer).0 (told_same scripts tries old.worker answer).1 keeps
       (λ keeps. told_keeps scripts tries old.worker answer (own old.worker.number old.taker.history) step is keeps))
 
   second_goes : (old : Working State) (first second : Step) (answer : Answer) (between new : Working State) → step_by old.worker ≡ Some first → step_by (told_drive old.worker answers.Placed) ≡ Some second
-      → Keeps scripts old.worker (own old.worker.number old.taker.history) → Steps old first answer between → TakesSecond Steps between second answer new
-      → Goes scripts old.taker new.taker old.worker new.worker
+      → Keeps scripts tries old.worker (own old.worker.number old.taker.history) → Steps old first answer between → TakesSecond Steps between second answer new
+      → Goes scripts tries old.taker new.taker old.worker new.worker
   second_goes old first second answers.Placed between new is next keeps takes (answer, then) =
       let goes = one_goes old first answers.Placed between is keeps takes in
       let there : step_by between.worker ≡ Some second =
       ap step_by (takes.told ∙ told_on scripts tries old.worker answers.Placed second next) ∙ next in
-      goes_then scripts old.taker between.taker new.taker old.worker between.worker new.worker goes
+      goes_then scripts tries old.taker between.taker new.taker old.worker between.worker new.worker goes
       (one_goes between second answer new there goes.keeps then)
   second_goes old first second answer between new is next keeps takes same =
-      subst (λ (x : Working State). Goes scripts old.taker x.taker old.worker x.worker) (sym same) (one_goes old first answer between is keeps takes)
+      subst (λ (x : Working State). Goes scripts tries old.taker x.taker old.worker x.worker) (sym same) (one_goes old first answer between is keeps takes)
 
-  turn_goes_in : (old : Working State) (turn : Option Turn) (new : Working State) → IsTurnBy old.worker turn → Keeps scripts old.worker (own old.worker.number old.taker.history)
-      → TakesIn Move scripts tries old turn new → Goes scripts old.taker new.taker old.worker new.worker
+  turn_goes_in : (old : Working State) (turn : Option Turn) (new : Working State) → IsTurnBy old.worker turn → Keeps scripts tries old.worker (own old.worker.number old.taker.history)
+      → TakesIn Move scripts tries old turn new → Goes scripts tries old.taker new.taker old.worker new.worker
   turn_goes_in old None new is keeps takes = absurd takes
   turn_goes_in old (Some (Ended outcome)) new is keeps takes = absurd takes
   turn_goes_in old (Some (One step)) new is keeps (answer, takes) = one_goes old step answer new is keeps takes
   turn_goes_in old (Some (Two first second)) new is keeps (answer, between, takes, then) = second_goes old first second answer between new is.0 is.1 keeps takes then
 
   -- A worker that has noted the table's size moves on as the worker itself does.
-  pub turn_goes : (size : ℕ) (old new : State) (before after : Worker) (outcome : Option Outcome) → IsTurnBy (sized_by size before) (turn_by (sized_by size before)) → Keeps scripts before (own before.number old.history)
-      → TakesNext Move size scripts tries old before outcome new after → Goes scripts old new before after
+  pub turn_goes : (size : ℕ) (old new : State) (before after : Worker) (outcome : Option Outcome) → IsTurnBy (sized_by size before) (turn_by (sized_by size before)) → Keeps scripts tries before (own before.number old.history)
+      → TakesNext Move size scripts tries old before outcome new after → Goes scripts tries old new before after
   turn_goes size old new before after outcome is keeps takes =
       let goes = turn_goes_in (record { taker = old; worker = sized_by size before; outcome = None }) (turn_by (sized_by size before)) (record { taker = new; worker = after; outcome = outcome }) is
-      (sized_keeps size scripts before (own before.number old.history) keeps) takes.steps in
+      (sized_keeps size scripts tries before (own before.number old.history) keeps) takes.steps in
       record { limits = goes.limits; number = goes.number; same = goes.same; others = goes.others; keeps = goes.keeps }
 
 -- A turn at the size of the core's table.
@@ -152,66 +154,80 @@ pub took : (scripts : List (List Action)) (tries size : ℕ) (old new : State) (
 took scripts tries size old new before after outcome is takes = subst (λ n. TakesNext Move n scripts tries old before outcome new after) is takes
 
 -- One member moves on, and the others are unchanged.
-pub crew_goes : (scripts : List (List Action)) (count w : ℕ) (old new : State) (crew : List Worker) (before after : Worker) → w < length crew → before ≡ get_or crew w before
-    → IsCrew scripts count old.history crew → Goes scripts old new before after → IsCrew scripts count new.history (set crew w after)
-crew_goes scripts count w old new crew before after within at is goes = record {
+pub crew_goes : (scripts : List (List Action)) (tries count w : ℕ) (old new : State) (crew : List Worker) (before after : Worker) → w < length crew → before ≡ get_or crew w before
+    → IsCrew scripts tries count old.history crew → Goes scripts tries old new before after → IsReady after → IsCrew scripts tries count new.history (set crew w after)
+crew_goes scripts tries count w old new crew before after within at is goes ready = record {
   size = length-set crew w after ∙ is.size;
   each = each;
 }
   where
-    before_is : IsMember scripts count old.history w before
-    before_is = subst (IsMember scripts count old.history w) (sym at) (is.each w before within)
+    before_is : IsMember scripts tries count old.history w before
+    before_is = subst (IsMember scripts tries count old.history w) (sym at) (is.each w before within)
 
-    stays : (d : ℕ) (worker : Worker) → d ≢ w → IsMember scripts count old.history d worker → IsMember scripts count new.history d worker
+    stays : (d : ℕ) (worker : Worker) → d ≢ w → IsMember scripts tries count old.history d worker → IsMember scripts tries count new.history d worker
     stays d worker away member = record {
       number = member.number;
       workers = member.workers;
-      keeps = subst (Keeps scripts worker) (sym (goes.others d (λ is. away (is ∙ before_is.number)))) member.keeps;
+      keeps = subst (Keeps scripts tries worker) (sym (goes.others d (λ is. away (is ∙ before_is.number)))) member.keeps;
+      ready = member.ready;
     }
 
-    each : (d : ℕ) (other : Worker) → d < length (set crew w after) → IsMember scripts count new.history d (get_or (set crew w after) d other)
-    each d other less = elim (d == w) as (λ b. (d == w) ≡ b → IsMember scripts count new.history d (get_or (set crew w after) d other)) [
+    each : (d : ℕ) (other : Worker) → d < length (set crew w after) → IsMember scripts tries count new.history d (get_or (set crew w after) d other)
+    each d other less = elim (d == w) as (λ b. (d == w) ≡ b → IsMember scripts tries count new.history d (get_or (set crew w after) d other)) [
       | true ↦ λ same.
           let mine : d ≡ w = eqb-true d w same in
-          subst (λ x. IsMember scripts count new.history x (get_or (set crew w after) x other)) (sym mine)
-          (subst (IsMember scripts count new.history w) (sym (get_or-set_same crew w after other within)) (record {
+          subst (λ x. IsMember scripts tries count new.history x (get_or (set crew w after) x other)) (sym mine)
+          (subst (IsMember scripts tries count new.history w) (sym (get_or-set_same crew w after other within)) (record {
             number = goes.number ∙ before_is.number;
             workers = ap (λ (limits : Sizes). limits.callers) goes.same ∙ before_is.workers;
-            keeps = subst (λ x. Keeps scripts after (own x new.history)) (goes.number ∙ before_is.number) goes.keeps;
+            keeps = subst (λ x. Keeps scripts tries after (own x new.history)) (goes.number ∙ before_is.number) goes.keeps;
+            ready = ready;
           }))
       | false ↦ λ apart.
           let away : d ≢ w = λ mine. false≢true (sym apart ∙ eq-eqb d w mine) in
           let still : d < length crew = subst (λ n. d < n) (length-set crew w after) less in
-          subst (IsMember scripts count new.history d) (sym (get_or-set_other crew w d after other away))
+          subst (IsMember scripts tries count new.history d) (sym (get_or-set_other crew w d after other away))
           (stays d (get_or crew d other) away (is.each d other still))
     ] refl
 
 -- Each member keeps to its scripts.
-pub member_keeps : (scripts theirs : List (List Action)) (count w : ℕ) (h : List Entry) (crew : List Worker) (worker : Worker) → scripts ≡ theirs → w < length crew → worker ≡ get_or crew w worker → IsCrew theirs count h crew
-    → Keeps scripts worker (own worker.number h)
-member_keeps scripts theirs count w h crew worker scripts_is within at is =
-    let member : IsMember theirs count h w worker = subst (IsMember theirs count h w) (sym at) (is.each w worker within) in
-    subst (λ s. Keeps s worker (own worker.number h)) (sym scripts_is) (subst (λ n. Keeps theirs worker (own n h)) (sym member.number) member.keeps)
+pub member_keeps : (scripts theirs : List (List Action)) (tries allowed count w : ℕ) (h : List Entry) (crew : List Worker) (worker : Worker) → scripts ≡ theirs → tries ≡ allowed → w < length crew → worker ≡ get_or crew w worker → IsCrew theirs allowed count h crew
+    → Keeps scripts tries worker (own worker.number h)
+member_keeps scripts theirs tries allowed count w h crew worker scripts_is tries_is within at is =
+    let member : IsMember theirs allowed count h w worker = subst (IsMember theirs allowed count h w) (sym at) (is.each w worker within) in
+    subst (λ s. Keeps s tries worker (own worker.number h)) (sym scripts_is)
+    (subst (λ n. Keeps theirs n worker (own worker.number h)) (sym tries_is) (subst (λ n. Keeps theirs allowed worker (own n h)) (sym member.number) member.keeps))
 
 -- One more member.
-pub crew_more : (scripts : List (List Action)) (count : ℕ) (crew : List Worker) (worker : Worker) → IsMember scripts count [] (length crew) worker
-    → ((w : ℕ) (other : Worker) → w < length crew → IsMember scripts count [] w (get_or crew w other))
-    → (w : ℕ) (other : Worker) → w < length (crew ++ worker ∷ []) → IsMember scripts count [] w (get_or (crew ++ worker ∷ []) w other)
-crew_more scripts count crew worker member each w other less = elim (nat_lt w (length crew)) as (λ b. nat_lt w (length crew) ≡ b → IsMember scripts count [] w (get_or (crew ++ worker ∷ []) w other)) [
+pub crew_more : (scripts : List (List Action)) (tries count : ℕ) (crew : List Worker) (worker : Worker) → IsMember scripts tries count [] (length crew) worker
+    → ((w : ℕ) (other : Worker) → w < length crew → IsMember scripts tries count [] w (get_or crew w other))
+    → (w : ℕ) (other : Worker) → w < length (crew ++ worker ∷ []) → IsMember scripts tries count [] w (get_or (crew ++ worker ∷ []) w other)
+crew_more scripts tries count crew worker member each w other less = elim (nat_lt w (length crew)) as (λ b. nat_lt w (length crew) ≡ b → IsMember scripts tries count [] w (get_or (crew ++ worker ∷ []) w other)) [
   | true ↦ λ is.
       let within : w < length crew = ltb-true w (length crew) is in
-      subst (IsMember scripts count [] w) (sym (get_or-append crew (worker ∷ []) other w within)) (each w other within)
+      subst (IsMember scripts tries count [] w) (sym (get_or-append crew (worker ∷ []) other w within)) (each w other within)
   | false ↦ λ is.
       let past : length crew ≤ w = ltb-false w (length crew) is in
       let last : w ≡ length crew = omega (arith, length-append crew (worker ∷ [])) in
-      subst (λ x. IsMember scripts count [] x (get_or (crew ++ worker ∷ []) x other)) (sym last) (subst (IsMember scripts count [] (length crew)) (sym (get_or-append_seam crew worker [] other)) member)
+      subst (λ x. IsMember scripts tries count [] x (get_or (crew ++ worker ∷ []) x other)) (sym last) (subst (IsMember scripts tries count [] (length crew)) (sym (get_or-append_seam crew worker [] other)) member)
 ] refl
 
--- In a crew's history each worker's committed transactions play its scripts.
-pub crew_plays : {rule : Holder} (limits : Sizes) (scripts : List (List Action)) (count stripes : ℕ) (h : List Entry) (crew : List Worker) → IsLegal rule stripes h → IsCrew scripts count h crew → PlayScripts count scripts h
-crew_plays limits scripts count stripes h crew legal is = scripts_played count scripts h legal.shape (λ c below.
+-- In a crew's history the outcomes of each worker's scripts are true, and its committed transactions
+-- play its scripts.
+pub crew_told : {rule : Holder} (limits : Sizes) (scripts : List (List Action)) (tries count stripes : ℕ) (h : List Entry) (crew : List Worker) → IsLegal rule stripes h → IsCrew scripts tries count h crew
+    → (c : ℕ) → c < count → (outcomes : List Told) × AreTrue c tries h (tolds_of (every count c scripts) outcomes)
+crew_told limits scripts tries count stripes h crew legal is c below =
     let nobody : Worker = record { number = 0; limits = limits; task = None } in
     let worker : Worker = get_or crew c nobody in
-    let member : IsMember scripts count h c worker = is.each c nobody (subst (λ n. c < n) (sym is.size) below) in
-    subst (λ n. HavePlayed n scripts c (length scripts) (parts_of (own c h))) member.workers
-    (subst (λ w. HavePlayed worker.limits.callers scripts w (length scripts) (parts_of (own c h))) member.number (keeps_played scripts worker (own c h) member.keeps)))
+    let member : IsMember scripts tries count h c worker = is.each c nobody (subst (λ n. c < n) (sym is.size) below) in
+    let (outcomes, told) = keeps_told scripts tries worker (own c h) member.ready member.keeps in (
+      outcomes,
+      accounts_true c tries h (tolds_of (every count c scripts) outcomes) legal.shape legal.replies
+          (subst (λ n. AreAccounts c tries (tolds_of (every n c scripts) outcomes) (own c h)) member.workers
+          (subst (λ w. AreAccounts w tries (tolds_of (every worker.limits.callers w scripts) outcomes) (own c h)) member.number told)),
+    )
+
+pub crew_plays : {rule : Holder} (limits : Sizes) (scripts : List (List Action)) (tries count stripes : ℕ) (h : List Entry) (crew : List Worker) → IsLegal rule stripes h → IsCrew scripts tries count h crew → PlayScripts count scripts h
+crew_plays limits scripts tries count stripes h crew legal is c below =
+    let (outcomes, trues) = crew_told limits scripts tries count stripes h crew legal is c below in
+    true_plays count c below scripts h tries outcomes trues

@@ -7,39 +7,46 @@ use Rattle.txn_trace.specs.Plays.{PlayScripts}
 use Rattle.txn_trace.specs.Work.{Work}
 use Rattle.boost_core.specs.Machine.{State}
 use Rattle.script_worker.specs.declared.worker.Worker.{Worker}
+use Rattle.script_worker.specs.Accounts.{Outcome, AreTrue, every, tolds_of}
 use Rattle.script_worker.specs.Keeps.{Keeps}
+use Rattle.script_worker.specs.Workers.{IsReady}
 use Rattle.script_mix.specs.Turns.{live, AreDone, Mixing, beginning, TakeDrawn}
 
 -- One of `count` workers, whose entries in the history so far are those of its scripts.
-pub record IsMember (scripts : List (List Action)) (count : ℕ) (h : List Entry) (w : ℕ)
+pub record IsMember (scripts : List (List Action)) (tries count : ℕ) (h : List Entry) (w : ℕ)
     (worker : Worker) : Type 0 where
   pub number : worker.number ≡ w
   pub workers : worker.limits.callers ≡ count
-  pub keeps : Keeps scripts worker (own w h)
+  pub keeps : Keeps scripts tries worker (own w h)
+  pub ready : IsReady worker
 
 -- The workers, by rising numbers.
-pub record IsCrew (scripts : List (List Action)) (count : ℕ) (h : List Entry)
+pub record IsCrew (scripts : List (List Action)) (tries count : ℕ) (h : List Entry)
     (crew : List Worker) : Type 0 where
   pub size : length crew ≡ count
-  pub each : (w : ℕ) (other : Worker) → w < length crew → IsMember scripts count h w
+  pub each : (w : ℕ) (other : Worker) → w < length crew → IsMember scripts tries count h w
       (slice_index_or crew w other)
 
 -- A worker moved on: it keeps to its scripts, and adds no entry of another caller.
-pub record Goes (scripts : List (List Action)) (old new : State)
+pub record Goes (scripts : List (List Action)) (tries : ℕ) (old new : State)
     (before after : Worker) : Type 0 where
   pub limits : new.limits ≡ old.limits
   pub number : after.number ≡ before.number
   pub same : after.limits ≡ before.limits
   pub others : (c : ℕ) → c ≢ before.number → own c new.history ≡ own c old.history
-  pub keeps : Keeps scripts after (own after.number new.history)
+  pub keeps : Keeps scripts tries after (own after.number new.history)
 
 -- A core of the limits asked for, whose stripes are not words, on which the workers took turns as
 -- they were drawn, until none had a step or a script left or 2^64 - 1 turns were taken. In its
--- history each worker's committed transactions play its scripts, with rising numbers.
+-- history each worker's committed transactions play its scripts, with rising numbers, and the
+-- outcomes of its scripts are true of it; those of scripts that did not begin are not told.
 pub record IsMixed (work : Work) (seed : ℕ) (state : State) : Type 0 where
   pub limits : state.limits ≡ work.sizes
   pub words : state.words ≡ false
   pub plays : PlayScripts work.sizes.callers work.scripts state.history
+  pub told : (c : ℕ) → c < work.sizes.callers → (outcomes : List Outcome)
+      × AreTrue c work.tries state.history
+      (tolds_of (every work.sizes.callers c work.scripts) outcomes)
   pub drawn : List ℕ
   pub last : Mixing
   pub core : last.core ≡ state

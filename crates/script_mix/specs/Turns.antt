@@ -17,6 +17,13 @@ abbrev pub live : List Worker → ℕ
 live [] = 0
 live (worker ∷ workers) = if is_some (step_by worker) then suc (live workers) else live workers
 
+-- The numbers of the workers that have a step to take, rising, if the first of the list has this
+-- number.
+abbrev pub live_from : ℕ → List Worker → List ℕ
+live_from n [] = []
+live_from n (worker ∷ workers) =
+    if is_some (step_by worker) then n ∷ live_from (suc n) workers else live_from (suc n) workers
+
 -- None of these workers has a script left.
 abbrev pub AreDone : List Worker → Type 0
 AreDone workers = All (λ (worker : Worker). worker.task ≡ None) workers

@@ -11,8 +11,8 @@
 //! from a new one by turns, each of the worker drawn, until no worker had a step or a script left
 //! (`specs/Turns.antt`) or 2^64 - 1 turns were taken, which no run lives to see. Each of these
 //! turns takes a step. `draw` is the generator's next word modulo the number of live workers.
-//! Memory is taken for the workers at the beginning, and then only by the core's steps. A turn
-//! costs a look at each worker, at most 64, and the cost of its steps.
+//! Memory is taken for the workers at the beginning, and then only by the core's steps. The numbers
+//! of the live workers are a list, so that a turn costs a look at one worker, and its steps.
 #![tactic(auto)]
 
 mod crew;

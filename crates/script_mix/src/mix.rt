@@ -1,9 +1,10 @@
 //! The whole run: draw a live worker, let it take its turn, until none has a step left. The loop's
-//! invariant says that every worker keeps to its scripts and which worker was drawn for each turn.
+//! invariant says that every worker keeps to its scripts, which of them are live, and which worker
+//! was drawn for each turn.
 ghost use Rattle.std.specs.Prelude.{IfOk};
 ghost use Rattle.script_mix.specs.Crews.{IsMixed};
 
-use crate::crew::{draw_worker, workers_of};
+use crate::crew::{draw_place, live_numbers, workers_of};
 use crate::ordinary::OrdinaryCore;
 use crate::turn::take_turn;
 use boost_core::Core;
@@ -23,8 +24,8 @@ use txn_trace::Scripts;
 ///
 /// # Cost
 ///
-/// The cost of the steps, and a look at each worker for each turn; memory for the workers, and what
-/// the steps take.
+/// The cost of the steps; when a worker's last script is over, time in proportion to the workers.
+/// Memory for the workers, and what the steps take.
 pub fn mix_scripts(alloc: Global, seed: u64, work: &Scripts) -> Result<Core, AllocError>
     ensures { IfOk result (λ core. IsMixed work.now seed core) }
 {
@@ -33,17 +34,22 @@ pub fn mix_scripts(alloc: Global, seed: u64, work: &Scripts) -> Result<Core, All
         return Err(AllocError);
     };
     let mut workers = workers_of(alloc, limits, work.scripts())?;
+    let mut live = live_numbers(alloc, &workers)?;
     let mut generator = Pcg32::seed_from_u64(seed);
     for _turn in 0..u64::MAX {
-        let Some(number) = draw_worker(&mut generator, &workers) else {
+        let Some(place) = draw_place(&mut generator, &live) else {
             break;
         };
-        take_turn(
+        let number = live[place];
+        let lives = take_turn(
             &mut core,
             &mut workers[number],
             work.scripts(),
             work.tries(),
         );
+        if !lives {
+            live.remove(place);
+        }
     }
     let core = core.into_core();
     // The history of a core is legal.

@@ -2,7 +2,7 @@
 //! so the invariants of all other workers still hold.
 ghost use Rattle.std.specs.Prelude.{◌≡◌, is_some, true};
 ghost use Rattle.txn_trace.specs.Shape.{own};
-ghost use Rattle.script_worker.specs.Workers.{step_by};
+ghost use Rattle.script_worker.specs.Workers.{step_by, IsReady};
 ghost use Rattle.script_worker.specs.Keeps.{Keeps};
 ghost use Rattle.script_mix.specs.Crews.{Goes};
 ghost use Rattle.script_mix.specs.Turns.{TakesTurn};
@@ -11,18 +11,22 @@ use crate::ordinary::OrdinaryCore;
 use script_worker::Worker;
 use txn_trace::Script;
 
-/// Takes the next turn of a live worker on the core, of one step or of two.
+/// Takes the next turn of a live worker on the core, of one step or of two, and answers whether the
+/// worker has a step left.
 pub(crate) fn take_turn(
     core: &mut OrdinaryCore,
     worker: &mut Worker,
     scripts: &[Script],
     tries: u64,
-)
+) -> bool
     requires live { is_some (step_by worker.old) ≡ true }
-    requires keeps { Keeps scripts.now worker.old (own worker.old.number core.old.history) }
-    ensures goes { Goes scripts.now core.old core.new worker.old worker.new }
+    requires keeps { Keeps scripts.now tries worker.old (own worker.old.number core.old.history) }
+    ensures goes { Goes scripts.now tries core.old core.new worker.old worker.new }
     ensures takes { TakesTurn scripts.now tries core.old worker.old core.new worker.new }
+    ensures lives { result ≡ is_some (step_by worker.new) }
+    ensures ready { IsReady worker.new }
 {
     let size = core.size();
     let _outcome = worker.take_turn(size, scripts, tries, &mut |step| core.step(step));
+    worker.is_live()
 }

@@ -1,50 +1,51 @@
--- The scripts that a worker which keeps to its scripts has played so far, and the parts of a worker
--- that no answer changes.
-use Rattle.std.proofs.Common.{◌≡◌, ℕ, ◌<◌, List, length, Option, Some, None, refl, sym, ap, ◌∙◌, arith}
-use Prim.Native.Nat.{suc}
+-- The accounts of a worker that keeps to its scripts, and the parts of a worker that no answer
+-- changes.
+use Rattle.std.proofs.Common.{◌≡◌, ℕ, ◌<◌, true, List, [], ◌∷◌, ◌++◌, length, Option, Some, None, is_some, refl, sym, ap, subst, ◌∙◌, arith}
 use Rattle.std.specs.List.{slice_get}
-use Rattle.std.proofs.lemmas.Option.{slice_get_within}
+use Rattle.std.specs.Option.{option_and_then}
 use Rattle.txn_trace.specs.declared.action.Action.{Action}
 use Rattle.txn_trace.specs.declared.answer.Answer.{Answer}
 use Rattle.txn_trace.specs.declared.entry.Entry.{Entry}
-use Rattle.txn_trace.specs.Plays.{HavePlayed, parts_of}
-use Rattle.txn_trace.proofs.Playing.{played_below}
+use Rattle.txn_trace.specs.declared.step.Step.{Step}
 use Rattle.txn_drive.specs.declared.drive.Drive.{Drive}
 use Rattle.txn_drive.specs.declared.«end».End.{End}
-use Rattle.txn_drive.specs.declared.phase.Phase.{Phase}
-use Rattle.txn_drive.specs.declared.phase.Phase.TheVariants.{Fresh, First}
-use Rattle.txn_drive.specs.Drives.{end_of, sized_of}
-use Rattle.script_worker.specs.declared.attempt.Stage.{Stage}
-use Rattle.script_worker.specs.declared.attempt.Stage.TheVariants.{Beginning, Acting, Leaving}
+use Rattle.txn_drive.specs.Drives.{end_of, sized_of, step_of}
+use Rattle.txn_drive.specs.Made.{made}
+use Rattle.txn_drive.proofs.DriveLaws.{goes_on}
+use Rattle.txn_drive.proofs.Quiet.{going_quiet}
 use Rattle.script_worker.specs.declared.task.Task.{Task}
 use Rattle.script_worker.specs.declared.standing.Standing.{Standing}
-use Rattle.script_worker.specs.Workers.{settled_in, settled_at, settled, with_drive_in, told_drive, told_by, sized_by}
-use Rattle.script_worker.specs.Keeps.{IsCommitting, IsActing, IsAt, KeepsAt, Keeps}
+use Rattle.script_worker.specs.Accounts as accounts
+use Rattle.script_worker.specs.Accounts.{CommitNothing, Outcome, AreAccounts, every, tolds_of}
+use Rattle.script_worker.specs.Workers.{settled_in, settled_at, settled, with_drive_in, told_drive, told_by, sized_by, IsReady}
+use Rattle.script_worker.specs.Keeps.{KeepsAt, Keeps}
+use Rattle.script_worker.proofs.Accounts.{account_more}
+use Rattle.script_worker.proofs.Attempting.{quiet-append}
+use Rattle.script_worker.proofs.Chunks.{chunk_quiet}
+use Rattle.script_worker.proofs.Every.{get-every}
 
--- The scripts that a worker which keeps to its scripts has played so far.
-module _ (workers : ℕ) (scripts : List (List Action)) (w : ℕ) where
-  committing_played : (n : ℕ) (script : List Action) (i : ℕ) (drive : Drive) (phase : Phase) (parts : List (List Entry)) → IsCommitting workers scripts w n script i drive phase parts → HavePlayed workers scripts w (suc n) parts
-  committing_played n script i drive Fresh parts at = played_below workers scripts w n (suc n) parts (omega arith) at.1
-  committing_played n script i drive (First answer) parts at = at
-  committing_played n script i drive phase parts at = absurd at
+-- The entries of a worker are the accounts of its scripts. Those of a script that is not over commit
+-- nothing, as if it had aborted.
+module _ (tries workers : ℕ) (scripts : List (List Action)) (w : ℕ) (below : w < workers) where
+  open_quiet : (task : Task) (o : Option Step) → step_of task.drive ≡ o → is_some o ≡ true → CommitNothing (made task.drive)
+  open_quiet task None is some = absurd (cc some)
+  open_quiet task (Some step) is some = going_quiet task.drive (goes_on task.drive step is)
 
-  acting_played : (n : ℕ) (script : List Action) (i : ℕ) (drive : Drive) (parts : List (List Entry)) (o : Option Action) → IsActing workers scripts w n script i drive parts o → HavePlayed workers scripts w (suc n) parts
-  acting_played n script i drive parts (Some action) at = played_below workers scripts w n (suc n) parts (omega arith) at.1
-  acting_played n script i drive parts None at = committing_played n script i drive drive.phase parts at
+  at_told : (task : Option Task) (seen : List Entry) → is_some (option_and_then (λ (task : Task). step_of task.drive) task) ≡ is_some task → KeepsAt tries workers scripts w task seen
+      → (outcomes : List Outcome) × AreAccounts w tries (tolds_of (every workers w scripts) outcomes) seen
+  at_told None seen ready at = at
+  at_told (Some task) seen ready at =
+      let some : 0 < workers = omega (arith, below) in
+      let here = get-every workers some scripts w (length at.outcomes) ∙ ap (slice_get scripts) (sym at.number) ∙ at.there in
+      let quiet : CommitNothing (at.chunk ++ made task.drive) = quiet-append at.chunk (made task.drive) (chunk_quiet w at.script task.attempt at.txn at.replies at.chunk at.so_far) (open_quiet task (step_of task.drive) refl ready) in (
+        at.outcomes ++ accounts.Aborted ∷ [],
+        subst (AreAccounts w tries (tolds_of (every workers w scripts) (at.outcomes ++ accounts.Aborted ∷ []))) (sym at.entries)
+            (account_more w tries (every workers w scripts) at.outcomes at.script accounts.Aborted at.earlier (at.chunk ++ made task.drive) here at.told quiet),
+      )
 
-  at_played : (n : ℕ) (script : List Action) (drive : Drive) (parts : List (List Entry)) (stage : Stage) → IsAt workers scripts w n script drive parts stage → HavePlayed workers scripts w (suc n) parts
-  at_played n script drive parts Beginning at = played_below workers scripts w n (suc n) parts (omega arith) at.1
-  at_played n script drive parts (Acting i) at = acting_played n script i drive parts (slice_get script i) at
-  at_played n script drive parts (Leaving reason) at = played_below workers scripts w n (suc n) parts (omega arith) at
-
-  task_played : (task : Option Task) (parts : List (List Entry)) → KeepsAt workers scripts w task parts → HavePlayed workers scripts w (length scripts) parts
-  task_played None parts at = at
-  task_played (Some task) parts at =
-      let within : task.script < length scripts = slice_get_within scripts task.script at.script at.mine.there in
-      played_below workers scripts w (suc task.script) (length scripts) parts (omega arith) (at_played task.script at.script task.drive parts task.attempt.stage at.at)
-
-pub keeps_played : (scripts : List (List Action)) (worker : Standing) (seen : List Entry) → Keeps scripts worker seen → HavePlayed worker.limits.callers scripts worker.number (length scripts) (parts_of seen)
-keeps_played scripts worker seen keeps = task_played worker.limits.callers scripts worker.number worker.task (parts_of seen) keeps.at
+pub keeps_told : (scripts : List (List Action)) (tries : ℕ) (worker : Standing) (seen : List Entry) → IsReady worker → Keeps scripts tries worker seen
+    → (outcomes : List Outcome) × AreAccounts worker.number tries (tolds_of (every worker.limits.callers worker.number scripts) outcomes) seen
+keeps_told scripts tries worker seen ready keeps = at_told tries worker.limits.callers scripts worker.number keeps.number worker.task seen ready keeps.at
 
 -- The worker whose drive has noted the table's size.
 pub sized_is : (size : ℕ) (worker : Standing) (task : Task) (drive : Drive) → worker.task ≡ Some task → drive ≡ sized_of size task.drive

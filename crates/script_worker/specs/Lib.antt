@@ -1,3 +1,5 @@
+pub mod Accounts
 pub mod Attempts
+pub mod Chunks
 pub mod Workers
 pub mod Keeps

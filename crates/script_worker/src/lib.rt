@@ -11,12 +11,14 @@
 //! A contract sees a worker as its `Standing`: its number, the limits of the map, which has as many
 //! workers as callers, and the script that it is at, with the attempt and the call's drive. The
 //! functions of `specs/Attempts.antt` and `specs/Workers.antt` define its reaction to each answer.
-//! Proved: the code follows these, and the worker keeps to its scripts (`specs/Keeps.antt`): divide
-//! the entries that it added to the history into parts, one for each transaction; then each part
-//! that is committed plays one of its scripts, with rising numbers, and the last part has the
-//! entries of the present script so far. A worker with a script left has a step to take: that is
-//! the invariant of its type. Calls take constant time and no memory; the search of a helper's next
-//! bucket takes up to 32 rounds.
+//! Proved: the code follows these, and the worker keeps to its scripts (`specs/Keeps.antt`): the
+//! entries that it added to the history are the accounts of its scripts, one after the other
+//! (`specs/Accounts.antt`), and then those of the present script so far. The account of a committed
+//! script ends with a transaction that plays it, and that of any other commits nothing. So in a
+//! legal history the outcomes of a worker's scripts are true, and its committed transactions play
+//! its scripts, with rising numbers: `script_mix` and `thread_runs` both conclude this. A worker
+//! with a script left has a step to take: that is the invariant of its type. Calls take constant
+//! time and no memory; the search of a helper's next bucket takes up to 32 rounds.
 #![tactic(auto)]
 
 mod attempt;

@@ -1,7 +1,7 @@
 //! A worker as its users see it: by the invariant of the type it has a step to take while it has a
 //! script left. `standing` says which step that is, and the effect of an answer.
 ghost use Rattle.std.specs.Option.{option_or};
-ghost use Rattle.std.specs.Prelude.{◌≡◌, ◌<◌, ◌++◌, List, [], Some, true, is_some};
+ghost use Rattle.std.specs.Prelude.{◌≡◌, ℕ, ◌<◌, ◌++◌, List, [], Some, true, is_some};
 ghost use Rattle.txn_trace.specs.declared.action.Action.{Action};
 ghost use Rattle.txn_trace.specs.declared.entry.Entry.{Entry};
 ghost use Rattle.txn_trace.specs.declared.step.Step.{Step};
@@ -47,7 +47,7 @@ impl Worker {
         requires { number < limits.callers }
         ensures worker { result ≡ new_worker scripts.now number limits }
         ensures ready { IsReady result }
-        ensures keeps { Keeps scripts.now result [] }
+        ensures keeps { (tries : ℕ) → Keeps scripts.now tries result [] }
     {
         Worker {
             standing: Standing::new(number, limits, scripts),
@@ -77,8 +77,8 @@ impl Worker {
         ensures turn { result ≡ turn_by self.new }
         ensures step { IsTurnBy self.new result }
         ensures ready { IsReady self.new }
-        ensures keeps { (scripts : List (List Action)) (seen : List Entry)
-            → Keeps scripts self.old seen → Keeps scripts self.new seen }
+        ensures keeps { (scripts : List (List Action)) (tries : ℕ) (seen : List Entry)
+            → Keeps scripts tries self.old seen → Keeps scripts tries self.new seen }
     {
         self.standing.turn(size)
     }
@@ -142,8 +142,8 @@ impl Worker {
         ensures second { (step : Step) → step_by (told_drive self.old answer) ≡ Some step
             → step_by self.new ≡ Some step }
         ensures keeps { (seen : List Entry) (step : Step) → step_by self.old ≡ Some step
-            → Keeps scripts.now self.old seen
-            → Keeps scripts.now self.new (seen ++ entries_of step answer) }
+            → Keeps scripts.now tries self.old seen
+            → Keeps scripts.now tries self.new (seen ++ entries_of step answer) }
     {
         self.standing.told(scripts, tries, answer)
     }

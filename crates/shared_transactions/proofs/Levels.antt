@@ -1,5 +1,5 @@
 -- Savepoints: what a save and a return leave of a token.
-use Rattle.std.proofs.Common.{◌≡◌, ℕ, true, List, [], ◌∷◌, ◌++◌, Some, refl, ap, ◌∙◌}
+use Rattle.std.proofs.Common.{◌≡◌, ℕ, true, List, [], ◌∷◌, ◌++◌, append_assoc, Some, refl, sym, ap, ◌∙◌}
 use Rattle.std.specs.Prelude.{Result, Ok, Err, OnOk}
 use Rattle.std.specs.Borrow.{MutBor}
 use Rattle.txn_trace.specs.declared.entry.Entry.{Entry}
@@ -14,16 +14,17 @@ use Rattle.locked_map.specs.Tokens.{Token}
 use Rattle.map_answers.specs.declared.stop.Stop.{Stop}
 use Rattle.map_answers.specs.declared.stop.Stop.TheVariants as stops
 use Rattle.shared_transactions.specs.Keeps.{Keeps}
-use Rattle.shared_transactions.specs.Within.{GoesOn, is_quiet}
-use Rattle.shared_transactions.proofs.Within.{Adds, BeginsNone, adds, adds_undoing, append_none, undone_none, same_txn, not_broken, steady_after, goes_on}
+use Rattle.shared_transactions.specs.Within.{GoesOn, HoldsWithin, is_quiet}
+use Rattle.shared_transactions.proofs.Within.{Adds, BeginsNone, adds, adds_undoing, append_none, undone_none, same_txn, not_broken, steady_after, goes_on, holds_open}
 
 -- A call that passed and added entries that neither commit nor begin.
-passed_on : {S : Type 0} (k : Token S) (call : Call) (l : Token S) (es : List Entry) → l.seen ≡ k.seen ++ es → Adds es → BeginsNone es → Passed k call l → GoesOn k l
-passed_on k call l es seen which none passed = record {
+passed_on : {S : Type 0} (k : Token S) (call : Call) (l : Token S) (es : List Entry) → l.seen ≡ k.seen ++ es → Adds es → BeginsNone es → HoldsWithin l → Passed k call l → GoesOn k l
+passed_on k call l es seen which none holds passed = record {
   since = λ base since. adds base k l es since passed.whose seen which;
   whose = passed.whose;
   sound = λ sound. not_broken k call passed.free;
   txn = λ sound. ap last_txn seen ∙ same_txn k.seen es none;
+  holds = λ _. holds;
 }
 
 -- A call that was stopped.
@@ -35,7 +36,8 @@ pub saved : {S : Type 0} (words : S → List ℕ) (old new : MutBor (Token S)) (
     → OnOk result (new.now.seen ≡ old.now.seen ++ entries.Saved old.now.number ∷ []) → LeavesBy words old.now calls.Save result new.now → Keeps old new
 saved words old new (Ok level) same seen leaves = record {
   same_token = same;
-  goes_on = passed_on old.now calls.Save new.now (entries.Saved old.now.number ∷ []) seen (record { quiet = refl; steady = λ xs. steady_after xs (entries.Saved old.now.number) tt }) (λ t. refl) leaves;
+  goes_on = passed_on old.now calls.Save new.now (entries.Saved old.now.number ∷ []) seen (record { quiet = refl; steady = λ xs. steady_after xs (entries.Saved old.now.number) tt }) (λ t. refl)
+      (holds_open new.now old.now.seen (entries.Saved old.now.number) tt seen) leaves;
 }
 saved words old new (Err stop) same seen leaves = record { same_token = same; goes_on = stopped_on words old.now calls.Save stop new.now refl leaves }
 
@@ -44,10 +46,13 @@ pub returned : {S : Type 0} (words : S → List ℕ) (old new : MutBor (Token S)
     → LeavesBy words old.now (calls.Back level) result new.now → Keeps old new
 returned words old new level (Ok done) same (undone, seen) leaves =
     let c : ℕ = old.now.number in
+    let leaving : List Entry = entries.Leave c (Some level) ∷ undone_by c undone in
     record {
       same_token = same;
       goes_on = passed_on old.now (calls.Back level) new.now (entries.Leave c (Some level) ∷ undone_by c undone ++ entries.Returned c level ∷ []) seen
           (adds_undoing c undone (entries.Leave c (Some level)) (entries.Returned c level) refl refl tt)
-          (append_none (entries.Leave c (Some level) ∷ undone_by c undone) (entries.Returned c level ∷ []) (λ t. undone_none c undone t) (λ t. refl)) leaves;
+          (append_none (entries.Leave c (Some level) ∷ undone_by c undone) (entries.Returned c level ∷ []) (λ t. undone_none c undone t) (λ t. refl))
+          (holds_open new.now (old.now.seen ++ leaving) (entries.Returned c level) tt (seen ∙ sym (append_assoc old.now.seen leaving (entries.Returned c level ∷ []))))
+          leaves;
     }
 returned words old new level (Err stop) same seen leaves = record { same_token = same; goes_on = stopped_on words old.now (calls.Back level) stop new.now refl leaves }

@@ -10,6 +10,7 @@ use Rattle.txn_trace.specs.History.{is_commit}
 use Rattle.txn_trace.specs.declared.answer.Answer.TheVariants as answers
 use Rattle.txn_trace.specs.declared.entry.Entry.{Entry}
 use Rattle.txn_trace.specs.declared.entry.Entry.TheVariants as entries
+use Rattle.txn_trace.specs.declared.op.Op.{Op}
 use Rattle.txn_trace.specs.declared.refusal.Refusal.{Refusal}
 use Rattle.txn_trace.specs.declared.refusal.Refusal.TheVariants.{OutOfStep}
 use Rattle.txn_trace.specs.declared.seat.Phase.{Phase}
@@ -22,11 +23,12 @@ use Rattle.txn_drive.specs.declared.«end».End.{End}
 use Rattle.txn_drive.specs.declared.«end».End.TheVariants as ends
 use Rattle.txn_drive.specs.Drives.{first_step}
 use Rattle.txn_drive.specs.Made.{undone_by, IsMade}
-use Rattle.locked_map.specs.Calls.{Ended, Ran, FellOut, Failed, WasRefused, refused_by, refused_at}
+use Rattle.locked_map.specs.Calls.{Ended, Ran, FellOut, Failed, TriedNothing, WasRefused, WentOn, refused_by, refused_at}
+use Rattle.locked_map.specs.Claims.{Claimed, Readies, given_back}
 use Rattle.locked_map.specs.Holds.{CommitNothing}
 use Rattle.locked_map.specs.Tokens.{Token, IsSameCaller, is_over}
 use Rattle.locked_map.specs.Noted.{began_by, last_txn}
-use Rattle.shared_transactions.specs.Within.{is_steady, is_steady_in, IsOver, IsSince, GoesOn, IsTakenBack, IsUndone, IsBegun, IsCommitted, IsRun, is_quiet}
+use Rattle.shared_transactions.specs.Within.{is_idle, is_steady, is_steady_in, HoldsNone, HoldsWithin, IsOver, IsSince, GoesOn, IsTakenBack, IsUndone, IsBegun, IsCommitted, IsRun, is_quiet}
 use Rattle.shared_transactions.specs.Keeps.{Keeps}
 use Rattle.shared_transactions.specs.Tries.{IsNotBegun, is_busy_stop}
 use Rattle.std.specs.Borrow.{MutBor}
@@ -372,6 +374,123 @@ txn_ended words k call (ends.Answered a) l inner did = λ sound. txn_ran words k
 txn_ended words k call (ends.Busy x) l inner did = λ sound. txn_ran words k call (ends.Busy x) l inner refl did
 txn_ended words k call ends.Helped l inner did = λ sound. txn_ran words k call ends.Helped l inner refl did
 
+-- Each of these entries leaves a transaction.
+abbrev pub ends_open : Entry → Type 0
+ends_open (entries.Began c t) = Unit {0}
+ends_open (entries.Did c r) = Unit {0}
+ends_open (entries.Saved c) = Unit {0}
+ends_open (entries.Returned c n) = Unit {0}
+ends_open e = ⊥
+
+if_open : (b : Bool) (s : Seat) → is_idle (Some s) ≡ false → is_idle (if b then Some s else None) ≡ false
+if_open true s open_at = open_at
+if_open false s open_at = refl
+
+row_open : (phase : Phase) (standing : ℕ) (kept : List ℕ) (e : Entry) → ends_open e → is_idle (row (record { phase = phase; standing = standing; kept = kept }) phase e) ≡ false
+row_open Closed standing kept (entries.Began c t) ends = refl
+row_open Closed standing kept (entries.Did c r) ends = refl
+row_open Closed standing kept (entries.Saved c) ends = refl
+row_open Closed standing kept (entries.Returned c n) ends = refl
+row_open Opened standing kept (entries.Began c t) ends = refl
+row_open Opened standing kept (entries.Did c r) ends = refl
+row_open Opened standing kept (entries.Saved c) ends = refl
+row_open Opened standing kept (entries.Returned c n) ends = refl
+row_open (Waiting op) standing kept (entries.Began c t) ends = refl
+row_open (Waiting op) standing kept (entries.Did c r) ends = refl
+row_open (Waiting op) standing kept (entries.Saved c) ends = refl
+row_open (Waiting op) standing kept (entries.Returned c n) ends = refl
+row_open (LeavingTo m) standing kept (entries.Began c t) ends = refl
+row_open (LeavingTo m) standing kept (entries.Did c r) ends = refl
+row_open (LeavingTo m) standing kept (entries.Saved c) ends = refl
+row_open (LeavingTo m) standing kept (entries.Returned c n) ends = if_open ((m == n) && (slice_index kept m == standing)) _ refl
+row_open LeavingToEnd standing kept (entries.Began c t) ends = refl
+row_open LeavingToEnd standing kept (entries.Did c r) ends = refl
+row_open LeavingToEnd standing kept (entries.Saved c) ends = refl
+row_open LeavingToEnd standing kept (entries.Returned c n) ends = refl
+row_open phase standing kept (entries.Asked c op) ends = absurd ends
+row_open phase standing kept (entries.Leave c n) ends = absurd ends
+row_open phase standing kept (entries.Undone c) ends = absurd ends
+row_open phase standing kept (entries.Busy c op x) ends = absurd ends
+row_open phase standing kept (entries.Committed c p) ends = absurd ends
+row_open phase standing kept (entries.Aborted c) ends = absurd ends
+
+-- A token whose last entry leaves a transaction may hold stripes.
+pub holds_open : {S : Type 0} (l : Token S) (xs : List Entry) (e : Entry) → ends_open e → l.seen ≡ xs ++ e ∷ [] → HoldsWithin l
+holds_open l xs e ends seen =
+    λ sound idle. absurd (false≢true (sym (ap (λ es. is_idle (seat_after es)) seen ∙ ap is_idle (seat_append xs (e ∷ [])) ∙ at (seat_after xs)) ∙ idle))
+  where
+    at : (seat : Option Seat) → is_idle (option_and_then (λ (s : Seat). row s s.phase e) seat) ≡ false
+    at None = refl
+    at (Some s) = row_open s.phase s.standing s.kept e ends
+
+-- All rights were given back.
+given_none : (l k : Claimed) → l ≡ given_back k → HoldsNone l
+given_none l k is = (ap (λ (c : Claimed). c.held) is, ap (λ (c : Claimed). c.seat.held) is)
+
+-- A token that has seen no more and holds the same stripes.
+holds_same : {S : Type 0} (k l : Token S) → k.broken ≡ false → l.seen ≡ k.seen → l.claims ≡ k.claims → HoldsWithin k → HoldsWithin l
+holds_same k l sound seen claims holds =
+    λ _ idle. subst HoldsNone (sym claims) (holds sound (sym (ap (λ es. is_idle (seat_after es)) seen) ∙ idle))
+
+holds_ran : {S : Type 0} (words : S → List ℕ) (k : Token S) (call : Call) (outcome : End) (l : Token S) → is_quiet call ≡ true → is_refused outcome ≡ false → Ran words k call outcome l → HoldsWithin k → HoldsWithin l
+holds_ran words k calls.Begin outcome l inner sound did holds = absurd (false≢true inner)
+holds_ran words k calls.Commit outcome l inner sound did holds = absurd (false≢true inner)
+holds_ran words k call (ends.Refused r) l inner sound did holds = absurd (false≢true (sym sound))
+holds_ran words k (calls.Op op) (ends.Answered (answers.Done reply)) l inner sound did holds =
+    holds_open l (k.seen ++ entries.Asked k.number op ∷ []) (entries.Did k.number reply) tt
+    (did.entries ∙ ap (λ es. k.seen ++ es) did.made ∙ sym (append_assoc k.seen (entries.Asked k.number op ∷ []) (entries.Did k.number reply ∷ [])))
+holds_ran words k (calls.Op op) (ends.Busy holder) l inner sound did holds = λ _ _. given_none l.claims did.went.ready.claims did.went.claims
+holds_ran words k calls.Save (ends.Answered (answers.Saved n)) l inner sound did holds =
+    holds_open l k.seen (entries.Saved k.number) tt (did.entries ∙ ap (λ es. k.seen ++ es) did.made)
+holds_ran words k (calls.Back level) (ends.Answered (answers.Returned reached)) l inner sound did holds =
+    let (same, (n, is)) = did.made in
+    let leaves : List Entry = entries.Leave k.number (Some level) ∷ undone_by k.number n in
+    holds_open l (k.seen ++ leaves) (entries.Returned k.number level) tt
+    (did.entries ∙ ap (λ es. k.seen ++ es) is ∙ sym (append_assoc k.seen leaves (entries.Returned k.number level ∷ [])))
+holds_ran words k calls.Abort (ends.Answered answers.Aborted) l inner sound did holds = λ _ _. given_none l.claims did.went.ready.claims did.went.claims
+holds_ran words k (calls.Help key) ends.Helped l inner sound did holds =
+    holds_same k l (not_broken k (calls.Help key) did.free) (did.entries ∙ ap (λ es. k.seen ++ es) did.made ∙ append-nil k.seen)
+    (did.went.claims ∙ did.went.readied) holds
+holds_ran words k call outcome l inner sound did holds = absurd did.made
+
+-- A token that lets an operation pass has a transaction.
+op_open : {S : Type 0} (k : Token S) (op : Op) → refused_by k (calls.Op op) ≡ None → is_idle (seat_after k.seen) ≡ false
+op_open k op free = at k.broken (seat_after k.seen) free
+  where
+    seated : (s : Seat) (phase : Phase) → option_or (refusal_in k.limits.half (record s { phase = phase }) (first_step 0 (calls.Op op))) None ≡ None → is_closed phase ≡ false
+    seated s Closed is = absurd (cc is)
+    seated s Opened is = refl
+    seated s (Waiting op) is = refl
+    seated s (LeavingTo n) is = refl
+    seated s LeavingToEnd is = refl
+
+    at : (broken : Bool) (seat : Option Seat) → refused_at k.limits.half broken seat (calls.Op op) ≡ None → is_idle seat ≡ false
+    at true seat is = absurd (cc is)
+    at false None is = refl
+    at false (Some s) is = seated s s.phase is
+
+-- A call that was refused later, and not as an operation, has tried no word.
+same_claims : {S : Type 0} (k : Token S) (call : Call) (r : Refusal) (l : Token S) → ((c d : Claimed) → Readies c call d → d ≡ c) → TriedNothing k r l ⊎ WentOn k call (ends.Refused r) l → l.claims ≡ k.claims
+same_claims k call r l readied (inl (memory, same)) = same
+same_claims k call r l readied (inr went) = went.claims ∙ readied k.claims went.ready.claims went.readied
+
+holds_failed : {S : Type 0} (k : Token S) (call : Call) (r : Refusal) (l : Token S) → refused_by k call ≡ None → Failed k call r l → HoldsWithin k → HoldsWithin l
+holds_failed k call OutOfStep l free fell holds = λ sound. absurd (false≢true (sym sound ∙ fell.broken))
+holds_failed k (calls.Op op) r l free found holds =
+    λ _ idle. absurd (false≢true (sym (op_open k op free) ∙ sym (ap (λ es. is_idle (seat_after es)) found.seen) ∙ idle))
+holds_failed k call r l free found holds =
+    holds_same k l (not_broken k call free) found.seen (same_claims k call r l (λ c d same. same) found.cause) holds
+
+holds_refused : {S : Type 0} (k : Token S) (call : Call) (r : Refusal) (l : Token S) → WasRefused k call r l → HoldsWithin k → HoldsWithin l
+holds_refused k call r l (inl (free, same)) holds = subst HoldsWithin (sym same) holds
+holds_refused k call r l (inr (free, failed)) holds = holds_failed k call r l free failed holds
+
+holds_ended : {S : Type 0} (words : S → List ℕ) (k : Token S) (call : Call) (outcome : End) (l : Token S) → is_quiet call ≡ true → Ended words k call outcome l → HoldsWithin k → HoldsWithin l
+holds_ended words k call (ends.Refused r) l inner refused = holds_refused k call r l refused
+holds_ended words k call (ends.Answered a) l inner did = holds_ran words k call (ends.Answered a) l inner refl did
+holds_ended words k call (ends.Busy x) l inner did = holds_ran words k call (ends.Busy x) l inner refl did
+holds_ended words k call ends.Helped l inner did = holds_ran words k call ends.Helped l inner refl did
+
 -- A call within a transaction.
 pub goes_on : {S : Type 0} (words : S → List ℕ) (k : Token S) (call : Call) (outcome : End) (l : Token S) → is_quiet call ≡ true → Ended words k call outcome l → GoesOn k l
 goes_on words k call outcome l inner ended = record {
@@ -379,6 +498,7 @@ goes_on words k call outcome l inner ended = record {
   whose = whose_ended words k call outcome l ended;
   sound = sound_ended words k call outcome l ended;
   txn = txn_ended words k call outcome l inner ended;
+  holds = holds_ended words k call outcome l inner ended;
 }
 
 -- One token after another.
@@ -388,6 +508,7 @@ goes_further k l m first second = record {
   whose = record { number = second.whose.number ∙ first.whose.number; limits = second.whose.limits ∙ first.whose.limits };
   sound = λ sound. first.sound (second.sound sound);
   txn = λ sound. second.txn sound ∙ first.txn (second.sound sound);
+  holds = λ holds. second.holds (first.holds holds);
 }
 
 pub keeps_by : {S : Type 0} (words : S → List ℕ) (old new : MutBor (Token S)) (call : Call) (outcome : End) → new.ghost_name ≡ old.ghost_name → is_quiet call ≡ true → Ended words old.now call outcome new.now → Keeps old new
@@ -395,7 +516,7 @@ keeps_by words old new call outcome same inner ended = record { same_token = sam
 
 -- One part of the work after another.
 pub keeps_stay : {S : Type 0} (me : MutBor (Token S)) → Keeps me me
-keeps_stay me = record { same_token = refl; goes_on = record { since = λ base since. since; whose = record { number = refl; limits = refl }; sound = λ sound. sound; txn = λ sound. refl } }
+keeps_stay me = record { same_token = refl; goes_on = record { since = λ base since. since; whose = record { number = refl; limits = refl }; sound = λ sound. sound; txn = λ sound. refl; holds = λ holds. holds } }
 
 pub keeps_on : {S : Type 0} (old between new : MutBor (Token S)) → Keeps old between → Keeps between new → Keeps old new
 keeps_on old between new first second = record {
@@ -403,11 +524,18 @@ keeps_on old between new first second = record {
   goes_on = goes_further old.now between.now new.now first.goes_on second.goes_on;
 }
 
+-- A seat of entries that all have rows has no transaction, or one.
+idle_of : (seat : Option Seat) → is_over seat ≡ true → is_some seat ≡ true → is_idle seat ≡ true
+idle_of None over rows = absurd (false≢true rows)
+idle_of (Some s) over rows = over
+
 -- An abort.
 pub taken_back_by : {S : Type 0} (words : S → List ℕ) (k : Token S) (outcome : End) (l : Token S) → Ended words k calls.Abort outcome l → IsTakenBack k l
 taken_back_by words k outcome l ended = record {
   goes_on = goes_on words k calls.Abort outcome l refl ended;
   over = λ base since. over_ended words base k outcome l since ended;
+  given = λ base since holds sound rows.
+      holds_ended words k calls.Abort outcome l refl ended holds sound (idle_of (seat_after l.seen) (over_ended words base k outcome l since ended sound) rows);
 }
 
 -- A call that was refused, whichever it is.
@@ -417,6 +545,7 @@ refused_on k call r l refused = record {
   whose = whose_refused k call r l refused;
   sound = sound_refused k call r l refused;
   txn = txn_refused k call r l refused;
+  holds = holds_refused k call r l refused;
 }
 
 -- A commit that was refused, and the abort after it.
@@ -428,7 +557,11 @@ not_committed words k result stop l m is leaves back =
     after (stops.Busy x) did = absurd did.made
     after (stops.Refused r) refused =
         let on : GoesOn k l = refused_on k calls.Commit r l refused in
-        record { goes_on = goes_further k l m on back.goes_on; over = λ base since. back.over base (on.since base since) }
+        record {
+          goes_on = goes_further k l m on back.goes_on;
+          over = λ base since. back.over base (on.since base since);
+          given = λ base since holds. back.given base (on.since base since) (on.holds holds);
+        }
 
 pub not_busy : {S T : Type 0} (words : S → List ℕ) (k : Token S) (result : Result T Stop) (stop : Stop) (l : Token S) → result ≡ Err stop → LeavesBy words k calls.Commit result l → is_busy_stop stop ≡ false
 not_busy words k result stop l is leaves = after stop (subst (λ r. LeavesBy words k calls.Commit r l) is leaves)
@@ -438,13 +571,14 @@ not_busy words k result stop l is leaves = after stop (subst (λ r. LeavesBy wor
     after (stops.Refused r) refused = refl
 
 -- A commit.
-pub committed : {S : Type 0} (k l : Token S) (txn place : ℕ) → txn ≡ last_txn k.seen → l.seen ≡ k.seen ++ entries.Committed k.number place ∷ [] → Passed k calls.Commit l → IsCommitted txn place k l
-committed k l txn place txn_is seen passed = record {
+pub committed : {S : Type 0} (k l : Token S) (txn place : ℕ) → txn ≡ last_txn k.seen → l.seen ≡ k.seen ++ entries.Committed k.number place ∷ [] → l.claims ≡ given_back k.claims → Passed k calls.Commit l → IsCommitted txn place k l
+committed k l txn place txn_is seen claims passed = record {
   numbered = txn_is;
   seen = seen;
   whose = passed.whose;
   sound = not_broken k calls.Commit passed.free;
   over = over_commit k l k.number place seen;
+  claims = claims;
 }
 
 -- A begin.
@@ -479,7 +613,7 @@ not_begun words k (Err stop) l leaves = after stop leaves
     }
 
 pub undone_not_begun : {S : Type 0} (stop : Stop) (k l : Token S) → IsNotBegun stop k l → IsUndone k l
-undone_not_begun stop k l none = record { since = none.goes_on.since; over = none.over }
+undone_not_begun stop k l none = record { since = none.goes_on.since; over = none.over; holds = none.goes_on.holds }
 
 since_begun : {S : Type 0} (base k l : Token S) (txn : ℕ) → IsSince base k → IsBegun k txn l → IsSince base l
 since_begun base k l txn since begun = adds base k l (entries.Began k.number txn ∷ []) since begun.whose begun.seen (record { quiet = refl; steady = λ xs. steady_after xs (entries.Began k.number txn) tt })
@@ -489,6 +623,7 @@ pub undone_after : {S : Type 0} (k t u m : Token S) (txn : ℕ) → IsBegun k tx
 undone_after k t u m txn begun goes_on back = record {
   since = λ base since. back.goes_on.since base (goes_on.since base (since_begun base k t txn since begun));
   over = λ over. back.over k (goes_on.since k (since_begun k k t txn (since_start k over) begun));
+  holds = λ _. back.goes_on.holds (goes_on.holds (holds_open t k.seen (entries.Began k.number txn) tt begun.seen));
 }
 
 -- A transaction that began, went on and was committed: its receipt has its number.
@@ -501,16 +636,18 @@ run base t u l began txn place begun goes_on committed =
       committed = committed.seen;
       whose = committed.whose;
       over = committed.over;
+      given = given_none l.claims u.claims committed.claims;
     }
 
 -- One try after another.
 pub undone_same : {S : Type 0} (k : Token S) → IsUndone k k
-undone_same k = record { since = λ base since. since; over = λ over. over }
+undone_same k = record { since = λ base since. since; over = λ over. over; holds = λ holds. holds }
 
 pub undone_on : {S : Type 0} (a b c : Token S) → IsUndone a b → IsUndone b c → IsUndone a c
 undone_on a b c first second = record {
   since = λ base since. second.since base (first.since base since);
   over = λ over. second.over (first.over over);
+  holds = λ holds. second.holds (first.holds holds);
 }
 
 -- An abort where there is no transaction is refused by the token.

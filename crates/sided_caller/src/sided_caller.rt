@@ -1,11 +1,12 @@
 //! A caller beside its side value. Each call is the caller's own, and then the side value follows
 //! what it answered.
 ghost use Rattle.std.specs.Prelude.{◌≡◌, ℕ, ◌+◌, ◌≤◌, ◌<◌, ◌%◌, ◌^◌, true, false, [], ◌∷◌, IfOk, IfErr, OnOk, OnErr, Some, None, length, if◌then◌else◌};
+ghost use mathlib.Core.List.{IsPrefix};
 ghost use Rattle.txn_trace.specs.declared.entry.Entry.TheVariants.{Began, Asked, Did, Saved, Leave, Returned, Committed, Aborted};
 ghost use Rattle.txn_trace.specs.declared.op.Op.TheVariants.{Get, Put, Take, PutIf};
 ghost use Rattle.txn_trace.specs.declared.refusal.Refusal.TheVariants.{NoMemory, NotOpen, AlreadyOpen, NoSuchLevel};
 ghost use Rattle.undo_log.specs.Sides.{HasLevel, IsBackAt, IsSameSide, IsSettled};
-ghost use Rattle.striped_map.specs.Callers.{number, seen, levels, changes, changes_above, IsStep, IsStopped};
+ghost use Rattle.striped_map.specs.Callers.{number, seen, levels, changes, changes_above, stripes_held, IsStep, IsStopped};
 ghost use Rattle.striped_map.specs.Lone.{RunsAlone};
 ghost use Rattle.striped_map.specs.Steps.{undoing};
 ghost use Rattle.sided_caller.specs.Calls.{HasStopped};
@@ -342,6 +343,26 @@ impl<S: Side> SidedCaller<S> {
         self.caller.abort()?;
         self.side.back(0);
         Ok(())
+    }
+
+    /// Lets this caller see all that another caller of the map has seen, as `Caller::catch_up` does.
+    /// Transactions that are open and both side values stay as they are.
+    ///
+    /// # Cost
+    ///
+    /// That of `Caller::catch_up`.
+    pub fn catch_up<T: Side>(&mut self, other: &mut SidedCaller<T>)
+        requires same_map { other.old.caller.map.value ≡ self.old.caller.map.value }
+        ensures open { self.new.caller.is_open ≡ self.old.caller.is_open }
+        ensures levels { levels self.new.caller ≡ levels self.old.caller }
+        ensures holds { stripes_held self.new.caller ≡ stripes_held self.old.caller }
+        ensures step { IsStep self.old.caller [] self.new.caller }
+        ensures met { IsPrefix (seen other.old.caller) (seen self.new.caller) }
+        ensures side { self.new.side ≡ self.old.side }
+        ensures other { (other.new.caller ≡ other.old.caller)
+            × (other.new.side ≡ other.old.side) }
+    {
+        self.caller.catch_up(&mut other.caller);
     }
 
     /// The caller without its side value, which is dropped.

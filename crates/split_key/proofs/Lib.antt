@@ -1,4 +1,5 @@
 pub mod SplitLemmas
 pub mod AncestorLemmas
 mod SwapLemmas
+pub mod PackedLemmas
 pub mod SortLemmas

@@ -8,16 +8,16 @@ use Rattle.split_key.specs.Split.{reversed, split}
 use Rattle.split_key.proofs.SplitLemmas.{lowest_before, lowest_before_key}
 use Rattle.split_key.specs.Sort.{is_before, IsBefore, IsNotBefore, is_same, regular_at, dummy_at}
 
-true-false : true ≡ false → ⊥
+pub true-false : true ≡ false → ⊥
 true-false e = cc
 
-below_test : (a b : ℕ) → a < b → nat_lt a b ≡ true
+pub below_test : (a b : ℕ) → a < b → nat_lt a b ≡ true
 below_test a b less = grind (arith, nat_tests)
 
-above_test : (a b : ℕ) → b ≤ a → nat_lt a b ≡ false
+pub above_test : (a b : ℕ) → b ≤ a → nat_lt a b ≡ false
 above_test a b more = grind (arith, nat_tests)
 
-same_test : (a b : ℕ) → a ≡ b → (a == b) ≡ true
+pub same_test : (a b : ℕ) → a ≡ b → (a == b) ≡ true
 same_test a b same = elim (eqb_tells a b) [
   | inl here ↦ here.0
   | inr differs ↦ absurd (differs.1 same)

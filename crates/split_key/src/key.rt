@@ -8,7 +8,7 @@ use std::fmt::Display;
 use std::marker::Model;
 
 /// Half keys are below this.
-const HALF: u64 = 1 << 63;
+pub(crate) const HALF: u64 = 1 << 63;
 
 /// A key of the table: any number of 64 bits. A contract sees it as that number.
 #[derive(Clone, Copy, Debug, PartialEq, Eq)]

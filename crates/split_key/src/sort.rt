@@ -1,17 +1,81 @@
 //! Sort keys: the order of the nodes of a list, by split key and then by key. `is_before` is the
 //! only comparison of positions in the repository.
 ghost use Rattle.std.specs.Prelude.{◌≡◌, ◌≢◌, ℕ};
-ghost use Rattle.split_key.specs.Sort.{IsBefore, dummy_at, is_before, regular_at};
+ghost use Rattle.std.proofs.Common.{rules};
+ghost use Rattle.std.specs.Cmp.Rules.{comparing};
+ghost use Rattle.split_key.specs.Sort.{IsBefore, dummy_at, is_before, is_same, regular_at};
+ghost use Rattle.split_key.specs.SortAt.{bytes_of, word_of};
 
-use crate::key::Key;
+use crate::key::{HALF, Key};
+use crate::reversal::reverse;
 use crate::split::{dummy, regular};
+use std::marker::Model;
+use std::mem::size_of;
 
 /// The position of a node in the order of the list: by split key, and among nodes of one split key
 /// by key. A dummy has key 0 here. No two nodes of a list have the same sort key.
-#[derive(Clone, Copy, Debug, PartialEq, Eq)]
+///
+/// It takes 9 bytes, at any address. A split key tells all bits of its key but the top one, which
+/// stands beside it: so a node need not have the key again.
+#[derive(Clone, Copy, Debug)]
 pub struct SortKey {
-    split: u64,
-    key: u64,
+    split: [u8; 8],
+    is_upper: bool,
+}
+
+const _: () = prove!(size_of::<SortKey>() == 9);
+
+impl Model for SortKey {
+    ghost use Rattle.std.specs.Prelude.{nat_le, ◌^◌};
+    ghost use Rattle.split_key.specs.SortAt.{SortAt, IsPacked, bytes_are, bytes_of, seen, upper_is, word_of};
+
+    ghost Value = { SortAt };
+
+    ghost view = { λ s. seen s.split s.is_upper };
+
+    ghost invariant = { λ s. IsPacked s.split s.is_upper };
+
+    ghost inverse = { λ at. record {
+      split = bytes_of at.split;
+      is_upper = nat_le (2 ^ 63) at.key;
+    } };
+
+    ghost inverse_ok = { λ s packed i. record {
+      split = bytes_are s.split s.is_upper packed i;
+      is_upper = upper_is (word_of s.split) s.is_upper packed.upper i;
+    } };
+}
+
+impl PartialEq for SortKey {
+    ghost eq = { λ a b. is_same a b };
+
+    ghost laws = { Prim.search (comparing, rules) };
+
+    fn eq(&self, other: &SortKey) -> bool {
+        if self.is_upper == other.is_upper {
+            word(self.split) == word(other.split)
+        } else {
+            false
+        }
+    }
+}
+
+impl Eq for SortKey {
+    ghost laws = { Prim.search (comparing, rules) };
+}
+
+/// The number of these bytes, the lowest first.
+fn word(bytes: [u8; 8]) -> u64
+    ensures { result ≡ word_of bytes }
+{
+    u64::from_le_bytes(bytes)
+}
+
+/// The bytes of a number, the lowest first.
+fn bytes(word: u64) -> [u8; 8]
+    ensures { result ≡ bytes_of word }
+{
+    word.to_le_bytes()
 }
 
 impl SortKey {
@@ -22,8 +86,8 @@ impl SortKey {
         ensures behind_first { IsBefore (dummy_at 0) result }
     {
         SortKey {
-            split: regular(key),
-            key: key.number(),
+            split: bytes(regular(key)),
+            is_upper: key.number() >= HALF,
         }
     }
 
@@ -33,8 +97,8 @@ impl SortKey {
         ensures behind_first { bucket ≢ 0 → IsBefore (dummy_at 0) result }
     {
         SortKey {
-            split: dummy(bucket),
-            key: 0,
+            split: bytes(dummy(bucket)),
+            is_upper: false,
         }
     }
 
@@ -42,14 +106,19 @@ impl SortKey {
     pub fn split(self) -> u64
         ensures { result ≡ self.split }
     {
-        self.split
+        word(self.split)
     }
 
-    /// The key of a regular node, and 0 for a dummy.
+    /// The key of a regular node, and 0 for a dummy. Reverses the split key.
     pub fn key(self) -> u64
         ensures { result ≡ self.key }
     {
-        self.key
+        let split = word(self.split);
+        if split % 2 == 0 {
+            return 0;
+        }
+        let low = reverse(split) % HALF;
+        if self.is_upper { low + HALF } else { low }
     }
 
     /// Whether this stands before the other: its split key is lower, or the split keys are equal
@@ -57,10 +126,12 @@ impl SortKey {
     pub fn is_before(self, other: SortKey) -> bool
         ensures { result ≡ is_before self other }
     {
-        if self.split == other.split {
-            self.key < other.key
+        let split = word(self.split);
+        let others = word(other.split);
+        if split == others {
+            !self.is_upper && other.is_upper
         } else {
-            self.split < other.split
+            split < others
         }
     }
 }

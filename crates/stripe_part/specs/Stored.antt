@@ -1,8 +1,8 @@
--- What a map and a list of changes are as a part.
-use Rattle.std.specs.Prelude.{ℕ, Option, List, reverse}
+-- What a map and a count of changes are as a part.
+use Rattle.std.specs.Prelude.{ℕ}
 use Rattle.txn_trace.specs.Map.{Map}
 use Rattle.stripe_part.specs.PartAt.{PartAt}
 
--- What a contract sees of a map's content and of changes, the newest of which is the last.
-abbrev pub part_of : Map → List (ℕ × Option ℕ) → PartAt
-part_of content changes = record { content = content; log = reverse changes }
+-- What a contract sees of a map's content and of how many changes can be taken back.
+abbrev pub part_of : Map → ℕ → PartAt
+part_of content owed = record { content = content; owed = owed }

@@ -1,28 +1,27 @@
-//! The public type: a box with the map and its log, made at the first change. Until then a part is
-//! empty, and the calls answer as on the empty map.
-ghost use Rattle.std.specs.Prelude.{◌≡◌, ◌≢◌, ℕ, true, [], ◌∷◌, List, Option, length, IfOk, IfErr, OnErr};
+//! The public type: a box with the map and the number of its changes, made at the first change.
+//! Until then a part is empty, and the calls answer as on the empty map.
+ghost use Rattle.std.specs.Prelude.{◌≡◌, ℕ, ◌<◌, true, Option, IfOk, IfErr, OnErr};
 ghost use Rattle.txn_trace.specs.Map.{count_of};
 ghost use Rattle.txn_trace.specs.Shape.{changes};
 ghost use Rattle.stripe_part.specs.PartAt.{nothing};
 ghost use Rattle.stripe_part.specs.Calls.{Does, IsRefused, TakesBack};
 
-use crate::logged_map::LoggedMap;
+use crate::counted_map::CountedMap;
 use std::alloc::{AllocError, Global};
 use std::marker::Model;
 use txn_trace::{Op, Refusal, Reply};
 
-/// The map of one stripe, with the changes of the open transaction that can be taken back.
+/// The map of one stripe, which can take changes of the open transaction back.
 ///
-/// A contract sees a `PartAt`: the content, a finite map, and the log, newest first, of each change
-/// its key and the value before it.
+/// A contract sees a `PartAt`: the content, a finite map, and how many changes are owed, that is,
+/// can be taken back without memory. Which changes these are, its user keeps.
 ///
 /// # Cost
 ///
-/// An empty part takes no memory. It takes some at the first change: a box for the map and the log,
-/// and what these take.
+/// An empty part takes no memory. It takes some at the first change: a box, and the map's array.
 #[derive(Drop)]
 pub struct Part {
-    inner: Option<Box<LoggedMap>>,
+    inner: Option<Box<CountedMap>>,
 }
 
 impl Model for Part {
@@ -39,12 +38,12 @@ impl Model for Part {
 /// Does a change on a new map.
 #[inline(never)]
 #[tactic(auto, using(crate::proofs::Calls::may_be))]
-fn begin(alloc: Global, op: Op) -> Result<(Box<LoggedMap>, Reply), Refusal>
+fn begin(alloc: Global, op: Op) -> Result<(Box<CountedMap>, Reply), Refusal>
     requires { changes op Option.None ≡ true }
     ensures ok { IfOk result (λ made. Does nothing made.0.value op made.1) }
     ensures err { IfErr result (IsRefused op) }
 {
-    let Ok(mut made) = Box::new(alloc, LoggedMap::new(alloc)) else {
+    let Ok(mut made) = Box::new(alloc, CountedMap::new(alloc)) else {
         return Err(Refusal::NoMemory);
     };
     let reply = made.apply(op)?;
@@ -64,11 +63,11 @@ impl Part {
     }
 
     /// Does an operation: the reply and the content that it leaves are those of a plain map. If it
-    /// is a change, the log has it in front.
+    /// is a change, one more is owed; its user notes the key and the reply, the value before.
     ///
     /// # Errors
     ///
-    /// `NoMemory` if memory is refused, never for a get. It leaves content and log unchanged.
+    /// `NoMemory` if memory is refused, never for a get. It leaves the part unchanged.
     ///
     /// # Cost
     ///
@@ -91,31 +90,31 @@ impl Part {
         Ok(reply)
     }
 
-    /// Takes the newest change back: its key has the value before it, and all other keys what they
-    /// have now. The log has the older changes. Wants a change in the log (`changes`).
+    /// Takes a change back: its key has the value before it, and all other keys what they have now.
+    /// One change less is owed. Wants a change (`changes`). Taken back newest first, the changes of
+    /// a transaction leave what was there before them.
     ///
     /// # Cost
     ///
     /// That of `apply`; takes no memory.
-    pub fn take_back(&mut self)
-        requires { self.old.log ≢ [] }
-        ensures { (key : ℕ) (before : Option ℕ) (older : List (ℕ × Option ℕ))
-            → self.old.log ≡ (key, before) ∷ older → TakesBack self.old self.new key before older }
+    pub fn take_back(&mut self, key: u64, before: Option<u64>)
+        requires { 0 < self.old.owed }
+        ensures { TakesBack self.old self.new key before }
     {
         match &mut self.inner {
-            Some(inner) => inner.take_back(),
+            Some(inner) => inner.take_back(key, before),
             None => unreachable!(),
         }
     }
 
-    /// Keeps all changes and empties the log: they can be taken back no more.
+    /// Keeps all changes: they can be taken back no more.
     ///
     /// # Cost
     ///
     /// Constant time; takes no memory.
     pub fn settle(&mut self)
         ensures content { self.new.content ≡ self.old.content }
-        ensures log { self.new.log ≡ [] }
+        ensures owed { self.new.owed ≡ 0 }
     {
         if let Some(inner) = &mut self.inner {
             inner.settle();
@@ -124,7 +123,7 @@ impl Part {
 
     /// How many changes can be taken back. Constant time.
     pub fn changes(&self) -> usize
-        ensures { result ≡ length self.now.log }
+        ensures { result ≡ self.now.owed }
     {
         match &self.inner {
             Some(inner) => inner.changes(),

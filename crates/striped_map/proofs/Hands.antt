@@ -26,7 +26,7 @@ use Rattle.striped_map.specs.declared.held.Held.{Held}
 use Rattle.striped_map.specs.Rule.{times, Holds, Fits}
 use Rattle.striped_map.specs.Steps.{Extends, TakesIn, removed, lost, undone}
 use Rattle.striped_map.specs.Handling.{under}
-use Rattle.striped_map.specs.Sound.{stripes_in, log_in, AreHeld, AreLogged}
+use Rattle.striped_map.specs.Sound.{stripes_in, owed_in, at_place, of_job, Change, Spot, AreHeld, AreLogged}
 use Rattle.striped_map.proofs.Lands.{own-append, own-none}
 
 abbrev pub Job : Type 0
@@ -156,64 +156,66 @@ parts_taken n k v w held part s none t = let new : Held = record { stripe = k; p
     }
 
 -- The changes of a stripe.
-log_mine : (n k : ℕ) (job : Job) (jobs : List Job) → stripe_of n job.0 ≡ k → log_in n k (job ∷ jobs) ≡ (job.0 / n, job.1) ∷ log_in n k jobs
-log_mine n k job jobs is = ap (λ b. cond b ((job.0 / n, job.1) ∷ log_in n k jobs) (log_in n k jobs)) (eq-eqb (stripe_of n job.0) k is)
+owed_mine : (n k : ℕ) (job : Job) (jobs : List Job) → stripe_of n job.0 ≡ k → owed_in n k (job ∷ jobs) ≡ owed_in n k jobs + 1
+owed_mine n k job jobs is = ap (λ b. cond b (owed_in n k jobs + 1) (owed_in n k jobs)) (eq-eqb (stripe_of n job.0) k is)
 
-log_other : (n k : ℕ) (job : Job) (jobs : List Job) → stripe_of n job.0 ≢ k → log_in n k (job ∷ jobs) ≡ log_in n k jobs
-log_other n k job jobs ne = ap (λ b. cond b ((job.0 / n, job.1) ∷ log_in n k jobs) (log_in n k jobs)) (ne_eqb (stripe_of n job.0) k ne)
+owed_other : (n k : ℕ) (job : Job) (jobs : List Job) → stripe_of n job.0 ≢ k → owed_in n k (job ∷ jobs) ≡ owed_in n k jobs
+owed_other n k job jobs ne = ap (λ b. cond b (owed_in n k jobs + 1) (owed_in n k jobs)) (ne_eqb (stripe_of n job.0) k ne)
 
-abbrev at_place : List ℕ → ℕ → Option ℕ
-at_place ks place = slice_get ks place
-
-abbrev of_job : ℕ → Job → Option ℕ
-of_job n job = Some (stripe_of n job.0)
-
-head_same : (a b : Option ℕ) (xs ys : List (Option ℕ)) → a ∷ xs ≡ b ∷ ys → a ≡ b
+head_same : (a b : Spot) (xs ys : List Spot) → a ∷ xs ≡ b ∷ ys → a ≡ b
 head_same a b xs ys e = cc (e)
 
-tail_same : (a b : Option ℕ) (xs ys : List (Option ℕ)) → a ∷ xs ≡ b ∷ ys → xs ≡ ys
+tail_same : (a b : Spot) (xs ys : List Spot) → a ∷ xs ≡ b ∷ ys → xs ≡ ys
 tail_same a b xs ys e = cc (e)
 
-nil_cons : (a : Option ℕ) (xs : List (Option ℕ)) → [] ≡ a ∷ xs → ⊥
+nil_cons : (a : Spot) (xs : List Spot) → [] ≡ a ∷ xs → ⊥
 nil_cons a xs e = cc (e)
 
--- The newest change, and the place of its part.
-pub record Newest (n place : ℕ) (ks places : List ℕ) (jobs : List Job) : Type 0 where
+spot_same : (a b : Option ℕ) (x y : Job) → a ≡ b → x ≡ y → ◌≡◌ {A = Spot} (a, x) (b, y)
+spot_same a b x y e f i = (e i, f i)
+
+-- The newest change, with the place of its part, the sub-key and the value before.
+pub record Newest (n : ℕ) (change : Change) (ks : List ℕ) (changes : List Change) (jobs : List Job) : Type 0 where
   pub job : Job
   pub older : List Job
   pub jobs_are : jobs ≡ job ∷ older
-  pub place_is : slice_get ks place ≡ Some (stripe_of n job.0)
-  pub ordered : map (at_place ks) places ≡ map (of_job n) older
+  pub place_is : slice_get ks change.0 ≡ Some (stripe_of n job.0)
+  pub what_is : ◌≡◌ {A = Job} (change.1, change.2) (job.0 / n, job.1)
+  pub ordered : map (at_place ks) changes ≡ map (of_job n) older
 
-newest_of : (n place : ℕ) (ks places : List ℕ) (jobs : List Job) → map (at_place ks) (place ∷ places) ≡ map (of_job n) jobs → Newest n place ks places jobs
-newest_of n place ks places [] e = absurd (nil_cons (at_place ks place) (map (at_place ks) places) (sym e))
-newest_of n place ks places (job ∷ jobs) e = record {
+newest_of : (n : ℕ) (change : Change) (ks : List ℕ) (changes : List Change) (jobs : List Job) → map (at_place ks) (change ∷ changes) ≡ map (of_job n) jobs → Newest n change ks changes jobs
+newest_of n change ks changes [] e = absurd (nil_cons (at_place ks change) (map (at_place ks) changes) (sym e))
+newest_of n change ks changes (job ∷ jobs) e = let head = head_same (at_place ks change) (of_job n job) (map (at_place ks) changes) (map (of_job n) jobs) e in record {
   job = job;
   older = jobs;
   jobs_are = refl;
-  place_is = head_same (at_place ks place) (of_job n job) (map (at_place ks) places) (map (of_job n) jobs) e;
-  ordered = tail_same (at_place ks place) (of_job n job) (map (at_place ks) places) (map (of_job n) jobs) e;
+  place_is = ap (λ (s : Spot). s.0) head;
+  what_is = ap (λ (s : Spot). s.1) head;
+  ordered = tail_same (at_place ks change) (of_job n job) (map (at_place ks) changes) (map (of_job n) jobs) e;
 }
 
-log_none : (n k : ℕ) (ks places : List ℕ) (jobs : List Job) → map (at_place ks) places ≡ map (of_job n) jobs → ((i : ℕ) → slice_get ks i ≢ Some k) → log_in n k jobs ≡ []
-log_none n k ks places [] e none = refl
-log_none n k ks [] (job ∷ jobs) e none = absurd (nil_cons (of_job n job) (map (of_job n) jobs) e)
-log_none n k ks (place ∷ places) (job ∷ jobs) e none = let first = newest_of n place ks places (job ∷ jobs) e in
-    let here : slice_get ks place ≡ Some (stripe_of n job.0) = head_same (at_place ks place) (of_job n job) (map (at_place ks) places) (map (of_job n) jobs) e in
-    log_other n k job jobs (λ is. none place (here ∙ ap (λ (x : ℕ). Some x) is)) ∙ log_none n k ks places jobs (tail_same (at_place ks place) (of_job n job) (map (at_place ks) places) (map (of_job n) jobs) e) none
+owed_none : (n k : ℕ) (ks : List ℕ) (changes : List Change) (jobs : List Job) → map (at_place ks) changes ≡ map (of_job n) jobs → ((i : ℕ) → slice_get ks i ≢ Some k) → owed_in n k jobs ≡ 0
+owed_none n k ks changes [] e none = refl
+owed_none n k ks [] (job ∷ jobs) e none = absurd (nil_cons (of_job n job) (map (of_job n) jobs) e)
+owed_none n k ks (change ∷ changes) (job ∷ jobs) e none =
+    let head = head_same (at_place ks change) (of_job n job) (map (at_place ks) changes) (map (of_job n) jobs) e in
+    let here : slice_get ks change.0 ≡ Some (stripe_of n job.0) = ap (λ (s : Spot). s.0) head in
+    owed_other n k job jobs (λ is. none change.0 (here ∙ ap (λ (x : ℕ). Some x) is)) ∙ owed_none n k ks changes jobs (tail_same (at_place ks change) (of_job n job) (map (at_place ks) changes) (map (of_job n) jobs) e) none
 
-ordered_push : (n k : ℕ) (ks places : List ℕ) (jobs : List Job) → map (at_place ks) places ≡ map (of_job n) jobs → map (at_place (ks ++ k ∷ [])) places ≡ map (of_job n) jobs
+ordered_push : (n k : ℕ) (ks : List ℕ) (changes : List Change) (jobs : List Job) → map (at_place ks) changes ≡ map (of_job n) jobs → map (at_place (ks ++ k ∷ [])) changes ≡ map (of_job n) jobs
 ordered_push n k ks [] jobs e = e
-ordered_push n k ks (place ∷ places) [] e = absurd (nil_cons (at_place ks place) (map (at_place ks) places) (sym e))
-ordered_push n k ks (place ∷ places) (job ∷ jobs) e =
-    let here : slice_get ks place ≡ Some (stripe_of n job.0) = head_same (at_place ks place) (of_job n job) (map (at_place ks) places) (map (of_job n) jobs) e in
-    let more = ordered_push n k ks places jobs (tail_same (at_place ks place) (of_job n job) (map (at_place ks) places) (map (of_job n) jobs) e) in
-    ap (λ (o : Option ℕ). o ∷ map (at_place (ks ++ k ∷ [])) places) (push_old ks k (stripe_of n job.0) place here) ∙ ap (λ (l : List (Option ℕ)). of_job n job ∷ l) more
+ordered_push n k ks (change ∷ changes) [] e = absurd (nil_cons (at_place ks change) (map (at_place ks) changes) (sym e))
+ordered_push n k ks (change ∷ changes) (job ∷ jobs) e =
+    let head = head_same (at_place ks change) (of_job n job) (map (at_place ks) changes) (map (of_job n) jobs) e in
+    let here : slice_get ks change.0 ≡ Some (stripe_of n job.0) = ap (λ (s : Spot). s.0) head in
+    let what : ◌≡◌ {A = Job} (change.1, change.2) (job.0 / n, job.1) = ap (λ (s : Spot). s.1) head in
+    let more = ordered_push n k ks changes jobs (tail_same (at_place ks change) (of_job n job) (map (at_place ks) changes) (map (of_job n) jobs) e) in
+    ap (λ (s : Spot). s ∷ map (at_place (ks ++ k ∷ [])) changes) (spot_same _ _ _ _ (push_old ks k (stripe_of n job.0) change.0 here) what) ∙ ap (λ (l : List Spot). of_job n job ∷ l) more
 
-pub logged_taken : (n k : ℕ) (held : List Held) (order : List ℕ) (jobs : List Job) (part : PartAt) → AreLogged n held order jobs → ((i : ℕ) → slice_get (stripes_in held) i ≢ Some k) → part.log ≡ [] → AreLogged n (held ++ (record { stripe = k; part = part }) ∷ []) order jobs
+pub logged_taken : (n k : ℕ) (held : List Held) (order : List Change) (jobs : List Job) (part : PartAt) → AreLogged n held order jobs → ((i : ℕ) → slice_get (stripes_in held) i ≢ Some k) → part.owed ≡ 0 → AreLogged n (held ++ (record { stripe = k; part = part }) ∷ []) order jobs
 logged_taken n k held order jobs part s none empty = let new : Held = record { stripe = k; part = part } in let ks : List ℕ = stripes_in held in record {
-  logs = λ i h at. ⊎_elim (λ (x : slice_get held i ≡ Some h). s.logs i h x)
-      (λ (x : (i ≡ length held) × (new ≡ h)). subst (λ (y : Held). y.part.log ≡ log_in n y.stripe jobs) x.1 (empty ∙ sym (log_none n k ks (reverse order) jobs s.ordered none))) (push_at held new h i at);
+  owed = λ i h at. ⊎_elim (λ (x : slice_get held i ≡ Some h). s.owed i h x)
+      (λ (x : (i ≡ length held) × (new ≡ h)). subst (λ (y : Held). y.part.owed ≡ owed_in n y.stripe jobs) x.1 (empty ∙ sym (owed_none n k ks (reverse order) jobs s.ordered none))) (push_at held new h i at);
   ordered = ap (λ (l : List ℕ). map (at_place l) (reverse order)) (stripes_push held new) ∙ ordered_push n k ks (reverse order) jobs s.ordered;
 }
 
@@ -229,13 +231,13 @@ parts_changed n v held m k s j h new at same fits still = let is = stripes_set h
       ∙ sym (still q (λ in_h. t.0 (s.apart i j h.stripe (stripe_at held i other t.1 ∙ ap (λ (x : ℕ). Some x) (sym in_k ∙ in_h)) (stripe_at held j h at))))) (set_place held j i new other there);
 }
 
-pub logged_changed : (n : ℕ) (v : View) (held : List Held) (m : Map) (order later : List ℕ) (jobs more : List Job) → AreHeld n v held m → AreLogged n held order jobs → (j : ℕ) (h new : Held) → slice_get held j ≡ Some h → new.stripe ≡ h.stripe
-    → new.part.log ≡ log_in n h.stripe more → ((k : ℕ) → k ≢ h.stripe → log_in n k more ≡ log_in n k jobs)
+pub logged_changed : (n : ℕ) (v : View) (held : List Held) (m : Map) (order later : List Change) (jobs more : List Job) → AreHeld n v held m → AreLogged n held order jobs → (j : ℕ) (h new : Held) → slice_get held j ≡ Some h → new.stripe ≡ h.stripe
+    → new.part.owed ≡ owed_in n h.stripe more → ((k : ℕ) → k ≢ h.stripe → owed_in n k more ≡ owed_in n k jobs)
     → map (at_place (stripes_in held)) (reverse later) ≡ map (of_job n) more → AreLogged n (set held j new) later more
-logged_changed n v held m order later jobs more p s j h new at same log still ordered = record {
-  logs = λ i other there. ⊎_elim
-      (λ (t : (i ≡ j) × (new ≡ other)). subst (λ (y : Held). y.part.log ≡ log_in n y.stripe more) t.1 (log ∙ ap (λ (k : ℕ). log_in n k more) (sym same)))
-      (λ (t : (i ≢ j) × (slice_get held i ≡ Some other)). s.logs i other t.1
+logged_changed n v held m order later jobs more p s j h new at same owed still ordered = record {
+  owed = λ i other there. ⊎_elim
+      (λ (t : (i ≡ j) × (new ≡ other)). subst (λ (y : Held). y.part.owed ≡ owed_in n y.stripe more) t.1 (owed ∙ ap (λ (k : ℕ). owed_in n k more) (sym same)))
+      (λ (t : (i ≢ j) × (slice_get held i ≡ Some other)). s.owed i other t.1
       ∙ sym (still other.stripe (λ in_h. t.0 (p.apart i j h.stripe (stripe_at held i other t.1 ∙ ap (λ (x : ℕ). Some x) in_h) (stripe_at held j h at))))) (set_place held j i new other there);
   ordered = ap (λ (l : List ℕ). map (at_place l) (reverse later)) (stripes_set held j h new at same) ∙ ordered;
 }
@@ -286,55 +288,56 @@ pub reply_right : (n : ℕ) (v : View) (held : List Held) (m : Map) → AreHeld 
     → Does h.part part (under op (key_of op / n)) reply → reply ≡ get m (key_of op)
 reply_right n v held m s j h part op reply at in_k does = does.reply_is ∙ ap (get h.part.content) (under_key op (key_of op / n)) ∙ s.fits j h at (key_of op) (sym in_k)
 
-log_split : (b : Bool) (n k : ℕ) (job : Job) (jobs : List Job) → stripe_of n job.0 ≢ k → log_in n k (cond b (job ∷ jobs) jobs) ≡ log_in n k jobs
-log_split true n k job jobs ne = log_other n k job jobs ne
-log_split false n k job jobs ne = refl
+owed_split : (b : Bool) (n k : ℕ) (job : Job) (jobs : List Job) → stripe_of n job.0 ≢ k → owed_in n k (cond b (job ∷ jobs) jobs) ≡ owed_in n k jobs
+owed_split true n k job jobs ne = owed_other n k job jobs ne
+owed_split false n k job jobs ne = refl
 
-log_grows : (b : Bool) (n k : ℕ) (job : Job) (jobs : List Job) → stripe_of n job.0 ≡ k → cond b ((job.0 / n, job.1) ∷ log_in n k jobs) (log_in n k jobs) ≡ log_in n k (cond b (job ∷ jobs) jobs)
-log_grows true n k job jobs is = sym (log_mine n k job jobs is)
-log_grows false n k job jobs is = refl
+owed_grows : (b : Bool) (n k : ℕ) (job : Job) (jobs : List Job) → stripe_of n job.0 ≡ k → cond b (owed_in n k jobs + 1) (owed_in n k jobs) ≡ owed_in n k (cond b (job ∷ jobs) jobs)
+owed_grows true n k job jobs is = sym (owed_mine n k job jobs is)
+owed_grows false n k job jobs is = refl
 
-order_grows : (b : Bool) (n j : ℕ) (ks order : List ℕ) (job : Job) (jobs : List Job) → slice_get ks j ≡ Some (stripe_of n job.0) → map (at_place ks) (reverse order) ≡ map (of_job n) jobs
-    → map (at_place ks) (reverse (cond b (order ++ j ∷ []) order)) ≡ map (of_job n) (cond b (job ∷ jobs) jobs)
-order_grows true n j ks order job jobs at e = ap (map (at_place ks)) (reverse-append order (j ∷ [])) ∙ ap (λ (o : Option ℕ). o ∷ map (at_place ks) (reverse order)) at ∙ ap (λ (l : List (Option ℕ)). of_job n job ∷ l) e
+order_grows : (b : Bool) (n j : ℕ) (ks : List ℕ) (order : List Change) (job : Job) (jobs : List Job) → slice_get ks j ≡ Some (stripe_of n job.0) → map (at_place ks) (reverse order) ≡ map (of_job n) jobs
+    → map (at_place ks) (reverse (cond b (order ++ (j, job.0 / n, job.1) ∷ []) order)) ≡ map (of_job n) (cond b (job ∷ jobs) jobs)
+order_grows true n j ks order job jobs at e = ap (map (at_place ks)) (reverse-append order ((j, job.0 / n, job.1) ∷ []))
+    ∙ ap (λ (s : Spot). s ∷ map (at_place ks) (reverse order)) (spot_same _ _ _ _ at refl) ∙ ap (λ (l : List Spot). of_job n job ∷ l) e
 order_grows false n j ks order job jobs at e = e
 
-pub logged_noted : (n : ℕ) (v : View) (held : List Held) (m : Map) (order : List ℕ) (jobs : List Job) → AreHeld n v held m → AreLogged n held order jobs → (j : ℕ) (h : Held) (part : PartAt) (op : Op) (reply : Option ℕ) → slice_get held j ≡ Some h
+pub logged_noted : (n : ℕ) (v : View) (held : List Held) (m : Map) (order : List Change) (jobs : List Job) → AreHeld n v held m → AreLogged n held order jobs → (j : ℕ) (h : Held) (part : PartAt) (op : Op) (reply : Option ℕ) → slice_get held j ≡ Some h
     → h.stripe ≡ stripe_of n (key_of op) → Does h.part part (under op (key_of op / n)) reply
-    → AreLogged n (set held j (record { stripe = h.stripe; part = part })) (cond (changes op reply) (order ++ j ∷ []) order) (cond (changes op reply) ((key_of op, reply) ∷ jobs) jobs)
+    → AreLogged n (set held j (record { stripe = h.stripe; part = part })) (cond (changes op reply) (order ++ (j, key_of op / n, reply) ∷ []) order) (cond (changes op reply) ((key_of op, reply) ∷ jobs) jobs)
 logged_noted n v held m order jobs p s j h part op reply at in_k does = let b : Bool = changes op reply in let job : Job = (key_of op, reply) in let sub : ℕ = key_of op / n in
-    logged_changed n v held m order (cond b (order ++ j ∷ []) order) jobs (cond b (job ∷ jobs) jobs) p s j h (record { stripe = h.stripe; part = part }) at refl
-    (does.log_is ∙ ap (λ (c : Bool). cond c ((key_of (under op sub), reply) ∷ h.part.log) h.part.log) (under_changes op sub reply) ∙ ap (λ (x : ℕ). cond b ((x, reply) ∷ h.part.log) h.part.log) (under_key op sub)
-    ∙ ap (λ (l : List Job). cond b ((sub, reply) ∷ l) l) (s.logs j h at) ∙ log_grows b n h.stripe job jobs (sym in_k))
-    (λ k ne. log_split b n k job jobs (λ e. ne (sym e ∙ sym in_k)))
+    logged_changed n v held m order (cond b (order ++ (j, sub, reply) ∷ []) order) jobs (cond b (job ∷ jobs) jobs) p s j h (record { stripe = h.stripe; part = part }) at refl
+    (does.owed_is ∙ ap (λ (c : Bool). cond c (h.part.owed + 1) h.part.owed) (under_changes op sub reply)
+    ∙ ap (λ (x : ℕ). cond b (x + 1) x) (s.owed j h at) ∙ owed_grows b n h.stripe job jobs (sym in_k))
+    (λ k ne. owed_split b n k job jobs (λ e. ne (sym e ∙ sym in_k)))
     (order_grows b n j (stripes_in held) order job jobs (stripe_at held j h at ∙ ap (λ (x : ℕ). Some x) in_k) s.ordered)
 
 -- The newest change, where the order ends in the place of its part.
-pub newest : (n : ℕ) (held : List Held) (order : List ℕ) (place : ℕ) (jobs : List Job) → AreLogged n held (order ++ place ∷ []) jobs → Newest n place (stripes_in held) (reverse order) jobs
-newest n held order place jobs s = newest_of n place (stripes_in held) (reverse order) jobs (ap (map (at_place (stripes_in held))) (sym (reverse-append order (place ∷ []))) ∙ s.ordered)
+pub newest : (n : ℕ) (held : List Held) (order : List Change) (change : Change) (jobs : List Job) → AreLogged n held (order ++ change ∷ []) jobs → Newest n change (stripes_in held) (reverse order) jobs
+newest n held order change jobs s = newest_of n change (stripes_in held) (reverse order) jobs (ap (map (at_place (stripes_in held))) (sym (reverse-append order (change ∷ []))) ∙ s.ordered)
 
--- The log of its part begins with it.
-pub newest_log : (n : ℕ) (held : List Held) (order : List ℕ) (place : ℕ) (jobs : List Job) (s : AreLogged n held (order ++ place ∷ []) jobs) (h : Held) → slice_get held place ≡ Some h
-    → let new = newest n held order place jobs s in h.part.log ≡ (new.job.0 / n, new.job.1) ∷ log_in n h.stripe new.older
-newest_log n held order place jobs s h at = let new = newest n held order place jobs s in
-    let in_k : stripe_of n new.job.0 ≡ h.stripe = some_same _ _ (sym new.place_is ∙ stripe_at held place h at) in
-    s.logs place h at ∙ ap (log_in n h.stripe) new.jobs_are ∙ log_mine n h.stripe new.job new.older in_k
+-- Its part can take it back.
+pub newest_owed : (n : ℕ) (held : List Held) (order : List Change) (change : Change) (jobs : List Job) (s : AreLogged n held (order ++ change ∷ []) jobs) (h : Held) → slice_get held change.0 ≡ Some h
+    → let new = newest n held order change jobs s in h.part.owed ≡ owed_in n h.stripe new.older + 1
+newest_owed n held order change jobs s h at = let new = newest n held order change jobs s in
+    let in_k : stripe_of n new.job.0 ≡ h.stripe = some_same _ _ (sym new.place_is ∙ stripe_at held change.0 h at) in
+    s.owed change.0 h at ∙ ap (owed_in n h.stripe) new.jobs_are ∙ owed_mine n h.stripe new.job new.older in_k
 
 -- It is taken back.
-pub parts_back : (n : ℕ) (v : View) (held : List Held) (m : Map) → AreHeld n v held m → (j : ℕ) (h : Held) (part : PartAt) (job : Job) (older : List Job) → slice_get held j ≡ Some h → h.stripe ≡ stripe_of n job.0
-    → TakesBack h.part part (job.0 / n) job.1 older → AreHeld n v (set held j (record { stripe = h.stripe; part = part })) (set_at m job.0 job.1)
-parts_back n v held m s j h part job older at in_k back = parts_changed n v held m (set_at m job.0 job.1) s j h (record { stripe = h.stripe; part = part }) at refl
+pub parts_back : (n : ℕ) (v : View) (held : List Held) (m : Map) → AreHeld n v held m → (j : ℕ) (h : Held) (part : PartAt) (job : Job) → slice_get held j ≡ Some h → h.stripe ≡ stripe_of n job.0
+    → TakesBack h.part part (job.0 / n) job.1 → AreHeld n v (set held j (record { stripe = h.stripe; part = part })) (set_at m job.0 job.1)
+parts_back n v held m s j h part job at in_k back = parts_changed n v held m (set_at m job.0 job.1) s j h (record { stripe = h.stripe; part = part }) at refl
     (λ q in_h. ap (λ (c : Map). get c (q / n)) back.content_is ∙ get-set_at h.part.content (job.0 / n) job.1 (q / n) ∙ dite (ℕ_discrete q job.0)
     (λ (e : q ≡ job.0). ap (λ b. cond b job.1 (get h.part.content (q / n))) (eq-eqb (q / n) (job.0 / n) (ap (λ (x : ℕ). x / n) e)) ∙ sym (get-set_at m job.0 job.1 q ∙ ap (λ b. cond b job.1 (get m q)) (eq-eqb q job.0 e)))
     (λ ne. ap (λ b. cond b job.1 (get h.part.content (q / n))) (ne_eqb (q / n) (job.0 / n) (sub_apart n q job.0 (in_h ∙ in_k) ne)) ∙ s.fits j h at q in_h ∙ sym (get-set_at m job.0 job.1 q ∙ ap (λ b. cond b job.1 (get m q)) (ne_eqb q job.0 ne))))
     (λ q out. get-set_at m job.0 job.1 q ∙ ap (λ b. cond b job.1 (get m q)) (ne_eqb q job.0 (λ e. out (ap (stripe_of n) e ∙ sym in_k))))
 
-pub logged_back : (n : ℕ) (v : View) (held : List Held) (m : Map) (order : List ℕ) (jobs : List Job) → AreHeld n v held m → (j : ℕ) (s : AreLogged n held (order ++ j ∷ []) jobs) (h : Held) (part : PartAt) → slice_get held j ≡ Some h
-    → let new = newest n held order j jobs s in part.log ≡ log_in n h.stripe new.older → AreLogged n (set held j (record { stripe = h.stripe; part = part })) order new.older
-logged_back n v held m order jobs p j s h part at log = let new = newest n held order j jobs s in
-    let in_k : stripe_of n new.job.0 ≡ h.stripe = some_same _ _ (sym new.place_is ∙ stripe_at held j h at) in
-    logged_changed n v held m (order ++ j ∷ []) order jobs new.older p s j h (record { stripe = h.stripe; part = part }) at refl log
-    (λ k ne. sym (ap (log_in n k) new.jobs_are ∙ log_other n k new.job new.older (λ e. ne (sym e ∙ in_k)))) new.ordered
+pub logged_back : (n : ℕ) (v : View) (held : List Held) (m : Map) (order : List Change) (jobs : List Job) → AreHeld n v held m → (change : Change) (s : AreLogged n held (order ++ change ∷ []) jobs) (h : Held) (part : PartAt) → slice_get held change.0 ≡ Some h
+    → let new = newest n held order change jobs s in part.owed ≡ owed_in n h.stripe new.older → AreLogged n (set held change.0 (record { stripe = h.stripe; part = part })) order new.older
+logged_back n v held m order jobs p change s h part at owed = let new = newest n held order change jobs s in
+    let in_k : stripe_of n new.job.0 ≡ h.stripe = some_same _ _ (sym new.place_is ∙ stripe_at held change.0 h at) in
+    logged_changed n v held m (order ++ change ∷ []) order jobs new.older p s change.0 h (record { stripe = h.stripe; part = part }) at refl owed
+    (λ k ne. sym (ap (owed_in n k) new.jobs_are ∙ owed_other n k new.job new.older (λ e. ne (sym e ∙ in_k)))) new.ordered
 
 removed_first : (k : ℕ) (ks : List ℕ) → removed k (k ∷ ks) ≡ ks
 removed_first k ks = ap (λ b. cond b ks (k ∷ removed k ks)) (eq-eqb k k refl)
@@ -358,7 +361,7 @@ pub parts_none : (n : ℕ) (v : View) (m : Map) → v.held ≡ [] → AreHeld n 
 parts_none n v m is = record { kept = is; apart = λ i j k a b. absurd (none_some k a); fits = λ i h at. absurd (none_some h at) }
 
 pub logged_none : (n : ℕ) (held : List Held) → ((i : ℕ) (h : Held) → slice_get held i ≡ Some h → ⊥) → AreLogged n held [] []
-logged_none n held none = record { logs = λ i h at. absurd (none i h at); ordered = refl }
+logged_none n held none = record { owed = λ i h at. absurd (none i h at); ordered = refl }
 
 -- The caller's own entries after the history went on.
 pub own_extends : (n c : ℕ) (seen es log : List Entry) → Extends n c seen es log → own c es ≡ es → own c log ≡ own c seen ++ es

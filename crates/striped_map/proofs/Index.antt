@@ -1,5 +1,11 @@
 -- The index by stripe: which places it has once parts are taken or given back.
-use Rattle.std.proofs.Common.{◌≡◌, ◌≢◌, ℕ, zero, suc, ◌<◌, ◌≤◌, List, [], ◌∷◌, ◌++◌, length, set, take, reverse, None, Some, slice_get, sym, refl, ◌∙◌, ap, ⊎_elim, arith}
+use Rattle.std.proofs.Common.{◌≡◌, ◌≢◌, ℕ, zero, suc, ◌<◌, ◌≤◌, ◌==◌, true, false, ◌||◌, List, [], ◌∷◌, ◌++◌, length, set, take, reverse, None, Some, slice_get, sym, refl, ◌∙◌, ap, subst, ⊎_elim, arith, ne_eqb}
+use mathlib.Core.Logic.{dite}
+use native.Mathlib.Decide.{ℕ_discrete}
+use Rattle.std.specs.List.{AllByRecursion, IsDistinct, list_any}
+use Rattle.std.proofs.Math.Dec.{eqb}
+use Rattle.std.proofs.lemmas.Bool.{false≢true}
+use Rattle.std.proofs.lemmas.Map.Steps.{length-le_from_distinct_below}
 use Rattle.std.proofs.lemmas.List.{reverse-reverse}
 use Rattle.txn_trace.specs.Map.{Map}
 use Rattle.striped_map.specs.declared.view.View.{View}
@@ -63,3 +69,24 @@ indexed_taken held index new place none lt long is i stripe at =
 -- The parts of a seat that holds the same stripes.
 pub same_stripes : (n k : ℕ) (v : View) (held new : List Held) (m l : Map) → AreHeld n v held m → AreHeld k v new l → stripes_in new ≡ stripes_in held
 same_stripes n k v held new m l old later = sym (reverse-reverse (stripes_in new)) ∙ ap reverse (sym later.kept ∙ old.kept) ∙ reverse-reverse (stripes_in held)
+
+-- A list whose numbers differ and are below n is no longer than n.
+others_apart : (k : ℕ) (ks : List ℕ) → ((i : ℕ) → slice_get ks i ≢ Some k) → AllByRecursion (λ other. eqb k other ≡ false) ks
+others_apart k [] none = tt
+others_apart k (x ∷ ks) none = (ne_eqb k x (λ e. none 0 (ap (λ (y : ℕ). Some y) (sym e))), others_apart k ks (λ i. none (suc i)))
+
+distinct : (ks : List ℕ) → ((i j k : ℕ) → slice_get ks i ≡ Some k → slice_get ks j ≡ Some k → i ≡ j) → IsDistinct eqb ks
+unfolding IsDistinct
+distinct [] one = tt
+distinct (x ∷ ks) one = (
+  others_apart x ks (λ i at. let e = one 0 (suc i) x refl at in absurd (omega arith)),
+  distinct ks (λ i j k a b. let e = one (suc i) (suc j) k a b in omega arith),
+)
+
+member_at : (ks : List ℕ) (k : ℕ) → list_any (eqb k) ks ≡ true → (i : ℕ) × (slice_get ks i ≡ Some k)
+member_at [] k is = absurd (false≢true is)
+member_at (x ∷ ks) k is = dite (ℕ_discrete x k) (λ (e : x ≡ k). (0, ap (λ (y : ℕ). Some y) e))
+    (λ ne. let deep = member_at ks k (sym (ap (λ b. b || list_any (eqb k) ks) (ne_eqb k x (λ e. ne (sym e)))) ∙ is) in (suc deep.0, deep.1))
+
+pub few : (n : ℕ) (ks : List ℕ) → ((i j k : ℕ) → slice_get ks i ≡ Some k → slice_get ks j ≡ Some k → i ≡ j) → ((i k : ℕ) → slice_get ks i ≡ Some k → k < n) → length ks ≤ n
+few n ks apart below = length-le_from_distinct_below ks n (distinct ks apart) (λ q is. let at = member_at ks q is in below at.0 q at.1)

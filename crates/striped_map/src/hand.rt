@@ -22,7 +22,7 @@ ghost use Rattle.striped_map.specs.Steps.{HasAll, HasNoOther, IsAt, SeesIn, seat
 
 use crate::addition::Addition;
 use crate::contents;
-use crate::held::Held;
+use crate::held::{Change, Held};
 use crate::map::{StripedMap, Taken};
 use crate::seat::MapSeat;
 use map_answers::Stop;
@@ -34,8 +34,8 @@ use txn_trace::{Op, Refusal, Reply};
 pub(crate) struct Hand {
     pub(crate) seat: MapSeat,
     held: Vec<Held>,
-    index: Vec<usize>,
-    order: Vec<usize>,
+    index: Vec<u16>,
+    order: Vec<Change>,
     levels: Vec<usize>,
     ghost sound: { IsSound seat.seat.table_id.slots (known seat) held.items order.items
         levels.items },
@@ -45,14 +45,15 @@ pub(crate) struct Hand {
 /// The place of a stripe among the parts that are held. What the index has for a stripe that is not
 /// held may be any place, so it is looked at.
 #[inline(always)]
-fn place_of(held: &Vec<Held>, index: &Vec<usize>, stripe: usize) -> Option<usize>
+fn place_of(held: &Vec<Held>, index: &Vec<u16>, stripe: usize) -> Option<usize>
     requires { IsIndexed held.now.items index.now.items }
     ensures some { IfSome result (λ place. slice_get (stripes_in held.now.items) place
         ≡ Some stripe) }
     ensures none { result ≡ None → (place : ℕ)
         → slice_get (stripes_in held.now.items) place ≢ Some stripe }
 {
-    let place = *index.get(stripe)?;
+    let found = index.get(stripe)?;
+    let place = usize::from(*found);
     if held.get(place)?.stripe == stripe {
         Some(place)
     } else {
@@ -62,7 +63,7 @@ fn place_of(held: &Vec<Held>, index: &Vec<usize>, stripe: usize) -> Option<usize
 
 /// Gives each stripe a place in the index. It takes memory the first time.
 #[tactic(auto, using(crate::proofs::Index::resized_at))]
-fn widen(index: &mut Vec<usize>, stripes: usize) -> Result<(), AllocError>
+fn widen(index: &mut Vec<u16>, stripes: usize) -> Result<(), AllocError>
     ensures long { OnOk result (stripes ≤ vec_len index.new) }
     ensures keeps { (stripe place : ℕ) → slice_get index.old.items stripe ≡ Some place
         → slice_get index.new.items stripe ≡ Some place }
@@ -100,7 +101,7 @@ fn take_back(
     stripes: usize,
     seat: &MapSeat,
     held: &mut Vec<Held>,
-    order: &mut Vec<usize>,
+    order: &mut Vec<Change>,
     mark: usize,
 )
     requires some { 0 < stripes }
@@ -116,10 +117,10 @@ fn take_back(
 {
     let (_stripes, _seat) = (stripes, seat);
     while mark < order.len() {
-        let Some(place) = order.pop() else {
+        let Some((place, key, before)) = order.pop() else {
             unreachable!()
         };
-        held[place].part.take_back();
+        held[place].part.take_back(key, before);
     }
 }
 
@@ -204,7 +205,8 @@ impl Hand {
             Taken::Granted(part) => {
                 let place = self.held.len();
                 self.held.push_reserved(Held { stripe, part });
-                self.index[stripe] = place;
+                // A place is below 4,096, the most stripes that there are.
+                self.index[stripe] = place as u16;
                 Ok(place)
             }
             Taken::Denied(holder) => Err(Stop::Busy { holder }),
@@ -376,7 +378,7 @@ impl Hand {
         let reply = self.held[place].part.apply(alloc, under(op, sub_key))?;
         map.add(&mut self.seat, map.quiet(), Addition::Note(op, reply));
         if op.changes(reply) {
-            self.order.push_reserved(place);
+            self.order.push_reserved((place, sub_key, reply));
         }
         Ok(reply)
     }
@@ -498,13 +500,8 @@ impl Hand {
         ensures idle { (known self.new.seat).held ≡ [] }
         ensures moves { Moves map.now self.old (entries_of (known self.old.seat) what) self.new }
     {
-        take_back(
-            map.stripes(),
-            &self.seat,
-            &mut self.held,
-            &mut self.order,
-            0,
-        );
+        let stripes = map.stripes();
+        take_back(stripes, &self.seat, &mut self.held, &mut self.order, 0);
         map.add(&mut self.seat, map.quiet(), what);
         self.order.clear();
         self.levels.clear();

@@ -1,4 +1,4 @@
-//! A part that a caller holds.
+//! A part that a caller holds, and a change that it can take back.
 use stripe_part::Part;
 
 /// The part of a stripe that a caller holds.
@@ -7,3 +7,6 @@ pub(crate) struct Held {
     pub(crate) stripe: usize,
     pub(crate) part: Part,
 }
+
+/// A change that a caller can take back: the place of its part, its sub-key, and the value before.
+pub(crate) type Change = (usize, u64, Option<u64>);

@@ -122,7 +122,7 @@ fn nodes(alloc: Global, list: &NodeList) -> Result<Vec<(Kind, u64, bool)>, Alloc
         if let Some(node) = node {
             nodes.push((node.kind, node.at.key(), node.marked))?;
         }
-        next = node.and_then(|node| node.next);
+        next = node.and_then(|node| node.next());
     }
     Ok(nodes)
 }
@@ -182,7 +182,9 @@ fn link_stale(
 
 /// Whether there is a node behind this one.
 fn is_followed(list: &NodeList, node: NodeRef) -> bool {
-    list.linked_node(node).and_then(|node| node.next).is_some()
+    list.linked_node(node)
+        .and_then(|node| node.next())
+        .is_some()
 }
 
 /// Seeks keys 2 and 4 in a new list, and links key 4 first, so that the cursor of key 2 no longer

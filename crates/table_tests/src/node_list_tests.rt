@@ -50,7 +50,7 @@ enum Call {
 fn link(list: &mut NodeList, number: u64, value: u64) -> Result<(), Fail> {
     let head = list.head();
     let mut spare = list.spare()?;
-    if list.node(head).next.is_some() {
+    if list.node(head).next().is_some() {
         return Err("a node behind the first".into());
     }
     spare.fill(SortKey::regular(Key::new(number)), Kind::Regular, value);
@@ -61,7 +61,7 @@ fn link(list: &mut NodeList, number: u64, value: u64) -> Result<(), Fail> {
 
 /// The place of the second node.
 fn second(list: &NodeList) -> Option<NodeRef> {
-    list.linked_node(list.head())?.next
+    list.linked_node(list.head())?.next()
 }
 
 /// Whether the second node is at this place.
@@ -149,7 +149,7 @@ fn mark(list: &mut NodeList, place: NodeRef) -> Result<(), Fail> {
 /// Unlinks the second node, which must be marked, and tests that it is gone.
 fn unlink_second(list: &mut NodeList) -> Result<(), Fail> {
     let head = list.head();
-    let Some(next) = list.node(head).next else {
+    let Some(next) = list.node(head).next() else {
         return Err("no second node".into());
     };
     if !list.node(next).marked {

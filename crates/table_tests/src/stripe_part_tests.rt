@@ -8,6 +8,20 @@ use std::test::Fail;
 use stripe_part::Part;
 use txn_trace::{Op, Refusal, Reply};
 
+/// A part, with the changes that it can take back: each key with the value before, the newest last.
+#[derive(Drop)]
+struct Logged {
+    part: Part,
+    log: Vec<(u64, Option<u64>)>,
+}
+
+fn fresh(alloc: Global) -> Logged {
+    Logged {
+        part: Part::new(),
+        log: Vec::new(alloc),
+    }
+}
+
 /// A plain map with the changes that can be taken back.
 #[derive(Drop)]
 struct Plain {
@@ -71,7 +85,7 @@ fn draw_op(draws: &mut Draws, keys: u64) -> Op {
 
 /// Does an operation; if memory is refused, the part is unchanged and the operation is tried once
 /// more.
-fn apply_again(rt: &impl Abort, alloc: Global, part: &mut Part, op: Op) -> Result<Reply, Fail> {
+fn try_again(rt: &impl Abort, alloc: Global, part: &mut Part, op: Op) -> Result<Reply, Fail> {
     let seen = (part.len(), part.changes());
     match part.apply(alloc, op) {
         Ok(reply) => Ok(reply),
@@ -86,6 +100,19 @@ fn apply_again(rt: &impl Abort, alloc: Global, part: &mut Part, op: Op) -> Resul
     }
 }
 
+/// Does an operation so, and notes its change. Its place in the log is made first, and asked for once
+/// more if memory is refused.
+fn apply_again(rt: &impl Abort, alloc: Global, one: &mut Logged, op: Op) -> Result<Reply, Fail> {
+    if one.log.reserve(1).is_err() {
+        one.log.reserve(1)?;
+    }
+    let reply = try_again(rt, alloc, &mut one.part, op)?;
+    if op.changes(reply) {
+        one.log.push((op.key(), reply))?;
+    }
+    Ok(reply)
+}
+
 /// The pairs of a part, asked for once more if memory is refused.
 fn pairs_of(alloc: Global, part: &Part) -> Result<Vec<(u64, u64)>, AllocError> {
     match part.pairs(alloc) {
@@ -95,10 +122,10 @@ fn pairs_of(alloc: Global, part: &Part) -> Result<Vec<(u64, u64)>, AllocError> {
 }
 
 /// Checks that the part has the pairs of the plain map, and as many changes to take back.
-fn is_alike(rt: &impl Abort, alloc: Global, part: &Part, plain: &Plain) -> Result<(), Fail> {
-    let pairs = pairs_of(alloc, part)?;
-    assert!(rt; part.changes() == plain.log.len());
-    assert!(rt; part.len() == plain.map.len() as u64);
+fn is_alike(rt: &impl Abort, alloc: Global, one: &Logged, plain: &Plain) -> Result<(), Fail> {
+    let pairs = pairs_of(alloc, &one.part)?;
+    assert!(rt; one.part.changes() == plain.log.len());
+    assert!(rt; one.part.len() == plain.map.len() as u64);
     assert!(rt; pairs.len() == plain.map.len());
     for pair in &pairs {
         assert!(rt; plain.map.get(&pair.0).copied() == Some(pair.1));
@@ -107,15 +134,17 @@ fn is_alike(rt: &impl Abort, alloc: Global, part: &Part, plain: &Plain) -> Resul
 }
 
 /// Takes back the newest change, if there is one.
-fn undo_one(part: &mut Part) {
-    if part.changes() > 0 {
-        part.take_back();
+fn undo_one(one: &mut Logged) {
+    if one.part.changes() > 0
+        && let Some((key, before)) = one.log.pop()
+    {
+        one.part.take_back(key, before);
     }
 }
 
 /// Takes back the newest change on both, if there is one.
-fn undo_both(part: &mut Part, plain: &mut Plain) -> Result<(), Fail> {
-    undo_one(part);
+fn undo_both(one: &mut Logged, plain: &mut Plain) -> Result<(), Fail> {
+    undo_one(one);
     if let Some((key, before)) = plain.log.pop() {
         set(plain, key, before)?;
     }
@@ -128,18 +157,19 @@ fn step_both(
     alloc: Global,
     draws: &mut Draws,
     keys: u64,
-    part: &mut Part,
+    one: &mut Logged,
     plain: &mut Plain,
 ) -> Result<(), Fail> {
     match draw(draws, 8) {
         0 => {
-            part.settle();
+            one.part.settle();
+            one.log.clear();
             plain.log.clear();
         }
-        1 | 2 => undo_both(part, plain)?,
+        1 | 2 => undo_both(one, plain)?,
         _ => {
             let op = draw_op(draws, keys);
-            let reply = apply_again(rt, alloc, part, op)?;
+            let reply = apply_again(rt, alloc, one, op)?;
             let expected = do_plain(plain, op)?;
             assert!(rt; reply == expected, "{op:?}");
         }
@@ -155,19 +185,19 @@ fn run_drawn(
     keys: u64,
     steps: u64,
 ) -> Result<(), Fail> {
-    let mut part = Part::new();
+    let mut one = fresh(alloc);
     let mut plain = Plain {
         map: BTreeMap::new(alloc),
         log: Vec::new(alloc),
     };
     for _ in 0..steps {
-        step_both(rt, alloc, draws, keys, &mut part, &mut plain)?;
+        step_both(rt, alloc, draws, keys, &mut one, &mut plain)?;
     }
-    is_alike(rt, alloc, &part, &plain)?;
+    is_alike(rt, alloc, &one, &plain)?;
     for _ in 0..steps {
-        undo_both(&mut part, &mut plain)?;
+        undo_both(&mut one, &mut plain)?;
     }
-    is_alike(rt, alloc, &part, &plain)
+    is_alike(rt, alloc, &one, &plain)
 }
 
 #[test]
@@ -185,20 +215,20 @@ fn drawn_steps_beside_a_plain_map(rt: HostRuntime) -> Result<(), Fail> {
 #[test]
 fn refused_memory(rt: HostRuntime) -> Result<(), Fail> {
     let alloc = rt.alloc();
-    let mut part = Part::new();
+    let mut one = fresh(alloc);
     for key in 0..300 {
-        let reply = apply_again(&rt, alloc, &mut part, Op::Put(key, key))?;
+        let reply = apply_again(&rt, alloc, &mut one, Op::Put(key, key))?;
         assert!(rt; reply.is_none());
     }
     for key in 100..200 {
-        let reply = apply_again(&rt, alloc, &mut part, Op::Take(key))?;
+        let reply = apply_again(&rt, alloc, &mut one, Op::Take(key))?;
         assert!(rt; reply == Some(key));
     }
-    assert!(rt; part.len() == 200 && part.changes() == 400);
+    assert!(rt; one.part.len() == 200 && one.part.changes() == 400);
     for _ in 0..300 {
-        undo_one(&mut part);
+        undo_one(&mut one);
     }
-    let pairs = pairs_of(alloc, &part)?;
+    let pairs = pairs_of(alloc, &one.part)?;
     assert!(rt; pairs.len() == 100);
     for pair in &pairs {
         assert!(rt; pair.0 < 100 && pair.1 == pair.0);
@@ -226,20 +256,20 @@ fn empty(rt: HostRuntime) -> Result<(), Fail> {
 #[test]
 fn rising_keys(rt: HostRuntime) -> Result<(), Fail> {
     let alloc = rt.alloc();
-    let mut part = Part::new();
+    let mut one = fresh(alloc);
     for key in 0..100_000 {
-        let reply = part.apply(alloc, Op::Put(key, key));
+        let reply = one.part.apply(alloc, Op::Put(key, key));
         assert!(rt; reply == Ok(None));
     }
-    part.settle();
+    one.part.settle();
     for key in 0..100_000 {
-        let reply = part.apply(alloc, Op::Take(key));
-        assert!(rt; reply == Ok(Some(key)));
+        let reply = apply_again(&rt, alloc, &mut one, Op::Take(key))?;
+        assert!(rt; reply == Some(key));
     }
-    assert!(rt; part.len() == 0 && part.changes() == 100_000);
+    assert!(rt; one.part.len() == 0 && one.part.changes() == 100_000);
     for _ in 0..100_000 {
-        undo_one(&mut part);
+        undo_one(&mut one);
     }
-    assert!(rt; part.len() == 100_000);
+    assert!(rt; one.part.len() == 100_000);
     Ok(())
 }

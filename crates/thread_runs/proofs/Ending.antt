@@ -34,10 +34,11 @@ use Rattle.script_worker.specs.Attempts.{attempt_at, first_attempt, call_of, cal
 use Rattle.locked_map.specs.Calls.{Ran, Failed, refused_at as refused_token, refused_help}
 use Rattle.locked_map.specs.Suits.{may_refuse}
 use Rattle.locked_map.specs.Tokens.{Token}
-use Rattle.thread_runs.specs.Accounts.{Outcome}
+use Rattle.script_worker.specs.Accounts.{Outcome}
 use Rattle.thread_runs.specs.Possible.{has_bad_key, is_back, is_abort, MayBeRefused, MayCome, is_op}
-use Rattle.thread_runs.specs.Runs.{HasPhase, IsIn, HasEnded, phase_at, outcome_by}
-use Rattle.thread_runs.proofs.Lists.{get_empty}
+use Rattle.script_worker.specs.Chunks.{outcome_by}
+use Rattle.thread_runs.specs.Runs.{HasPhase, IsIn, HasEnded, phase_at}
+use Rattle.script_worker.proofs.Every.{get_empty}
 use Rattle.thread_runs.proofs.Seating.{is_refusal, phase_by, made_landed}
 
 -- An action of the script that passes a test.

@@ -1,13 +1,10 @@
 -- Elements of lists by their positions, and lists whose elements all have a property.
-use Rattle.std.proofs.Common.{◌≡◌, ℕ, ◌⊎◌, zero, suc, List, [], ◌∷◌, ◌++◌, length, map, set, Some, None, refl, sym, ap, subst, ◌∙◌, inl, inr}
+use Rattle.std.proofs.Common.{◌≡◌, ℕ, ◌⊎◌, zero, suc, List, [], ◌∷◌, ◌++◌, length, map, set, Some, refl, sym, ap, subst, ◌∙◌, inl, inr}
 use Rattle.std.specs.Prelude.{slice_get, All}
 use Rattle.std.specs.Option.{option_map}
 use Rattle.std.proofs.lemmas.Option.{slice_get_within, slice_get-map, get_or_from_slice_get}
+use Rattle.script_worker.proofs.Every.{get_empty}
 use Rattle.thread_runs.specs.Each.{Each}
-
-pub get_empty : {X : Type 0} (k : ℕ) → slice_get {X = X} [] k ≡ None
-get_empty zero = refl
-get_empty (suc k) = refl
 
 pub each_none : {X : Type 0} (P : ℕ → X → Type 0) → Each P []
 each_none P i x is = absurd (cc (get_empty i, is))

@@ -6,9 +6,10 @@ use Rattle.txn_trace.specs.declared.action.Action.{Action}
 use Rattle.txn_trace.specs.declared.answer.Answer.TheVariants as answers
 use Rattle.txn_trace.specs.declared.entry.Entry.{Entry}
 use Rattle.txn_trace.specs.Shape.{seat_after}
-use Rattle.thread_runs.specs.Accounts.{Outcome}
+use Rattle.script_worker.specs.Accounts.{Outcome}
 use Rattle.thread_runs.proofs.Working.{told_more}
-use Rattle.thread_runs.specs.Runs.{AreToldIn, Adds, txn_then, replies_then, outcome_by, HasRunTo}
+use Rattle.script_worker.specs.Chunks.{IsChunk, txn_then, replies_then, outcome_by}
+use Rattle.thread_runs.specs.Runs.{AreToldIn, Adds, HasRunTo}
 use Rattle.txn_drive.specs.declared.call.Call.{Call}
 use Rattle.txn_drive.specs.declared.«end».End.{End}
 use Rattle.txn_drive.specs.declared.«end».End.TheVariants as ends
@@ -18,7 +19,7 @@ use Rattle.script_worker.specs.declared.attempt.Progress.TheVariants.{Next, Over
 use Rattle.script_worker.specs.declared.attempt.Outcome as attempts
 use Rattle.script_worker.specs.declared.attempt.Outcome.TheVariants as overs
 use Rattle.script_worker.specs.Attempts.{first_attempt, call_at, progress_of}
-use Rattle.thread_runs.proofs.Chunks.{IsChunk, chunk_begun, chunk_goes, chunk_over}
+use Rattle.script_worker.proofs.Chunks.{chunk_begun, chunk_goes, chunk_over}
 
 -- The loop over the calls of a script; the entries `base` were seen before it.
 abbrev pub IsRunning : ℕ → List Action → Attempt → ℕ → List (Option ℕ) → List Entry → List Entry → Type 0

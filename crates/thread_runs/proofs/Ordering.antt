@@ -6,9 +6,9 @@ use Rattle.std.proofs.Math.Nat.{mod-lt}
 use Rattle.std.proofs.lemmas.Bool.{cases_eq}
 use Rattle.std.proofs.lemmas.List.{append-nil, length-reverse, length-set, reverse-append}
 use Rattle.std.proofs.lemmas.Option.{slice_get_within, slice_get_cases, slice_get_read}
-use Rattle.thread_runs.specs.Accounts.{every}
+use Rattle.script_worker.specs.Accounts.{every}
 use Rattle.thread_runs.specs.Each.{Each}
-use Rattle.thread_runs.proofs.Every.{every-hit, every-miss, every-length, every-fewer, number_at, one_remainder}
+use Rattle.script_worker.proofs.Every.{every-hit, every-miss, every-length, every-fewer, number_at, one_remainder}
 use Rattle.thread_runs.proofs.Lists.{get_set_same, get_set_other}
 
 -- The rest of the rows: the elements of each that are not out yet.

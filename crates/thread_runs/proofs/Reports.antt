@@ -12,18 +12,20 @@ use Rattle.txn_trace.specs.declared.action.Action.{Action}
 use Rattle.txn_trace.specs.declared.entry.Entry.{Entry}
 use Rattle.txn_trace.specs.History.{caller_of}
 use Rattle.txn_trace.specs.Legal.{IsLegal}
+use Rattle.txn_trace.specs.Replies.{RepliesHold}
 use Rattle.txn_trace.specs.Shape.{own, IsShaped}
 use Rattle.txn_trace.specs.Sizes.{Sizes}
 use Rattle.locked_map.specs.Closes.{IsOwn}
 use Rattle.locked_map.specs.Tokens.{Ticket, new_ticket}
 use Rattle.thread_runs.specs.declared.outcome.Outcome as codes
 use Rattle.thread_runs.specs.declared.worker.WorkerReport.{WorkerReport}
-use Rattle.thread_runs.specs.Accounts.{Outcome, every, AreAllTrue}
+use Rattle.script_worker.specs.Accounts.{Outcome, every, AreAllTrue}
 use Rattle.thread_runs.specs.Each.{Each}
 use Rattle.thread_runs.specs.Possible.{MayCome}
 use Rattle.thread_runs.specs.Runs.{AreToldIn, MayAllCome, HasReported, HasRunScripts, told_of}
-use Rattle.thread_runs.proofs.Every.{every-map, get-every, number_at}
+use Rattle.script_worker.proofs.Every.{every-map, get-every, number_at}
 use Rattle.thread_runs.proofs.Lists.{all_at, get_map, map_get}
+use Rattle.script_worker.proofs.Accounts.{true_plays}
 use Rattle.thread_runs.proofs.Working.{all_true, told_within}
 
 -- A report of a pass that has this number and these limits.
@@ -64,8 +66,8 @@ module _ {L W : Type 0} (items : W → List codes.Outcome) (half : Bool) (worker
         ∙ ap (map told_of) (ap (λ (n : ℕ). every n c outcomes) (sym as_many_rows) ∙ order c row in_rows ∙ ap reverse row_is ∙ reverse-reverse r.outcomes.items)
 
     -- If each worker has seen its own entries of the history, the outcomes are true of it.
-    pub reports_true : (h : List Entry) → IsShaped h → ((c : ℕ) (r : WorkerReport L) → slice_get reports c ≡ Some r → own r.caller.number h ≡ r.caller.seen) → AreAllTrue workers tries scripts (map told_of outcomes) h
-    reports_true h shape owns = all_true workers tries scripts (map told_of outcomes) h shape by
+    pub reports_true : (h : List Entry) → IsShaped h → RepliesHold h → ((c : ℕ) (r : WorkerReport L) → slice_get reports c ≡ Some r → own r.caller.number h ≡ r.caller.seen) → AreAllTrue workers tries scripts (map told_of outcomes) h
+    reports_true h shape replies owns = all_true workers tries scripts (map told_of outcomes) h shape replies by
       where
         by : (c : ℕ) → c < workers → AreToldIn c tries (every workers c scripts) (every workers c (map told_of outcomes)) (own c h)
         by c below =
@@ -93,12 +95,16 @@ pub run_true : {L W : Type 0} (items : W → List codes.Outcome) (limits sizes :
     → 0 < workers → length reports ≡ workers → Each (HasReported limits.half workers tries scripts) reports → callers ≡ map (λ r. r.caller) reports → map items rows ≡ map (λ r. reverse r.outcomes.items) reports → length outcomes ≡ length scripts
     → Each (λ c row. every (length rows) c outcomes ≡ reverse (items row)) rows → trace ≡ h → sizes ≡ limits → workers ≡ limits.callers → IsLegal Begun sizes.stripes h → All (λ e. caller_of e < sizes.callers) h → All (λ k. IsOwn h k) callers
     → HasRunScripts limits workers tries scripts (map told_of outcomes) trace
-run_true items limits sizes workers tries scripts reports callers rows outcomes trace h some as_many each callers_are rows_are one_each order same is all_workers legal below own = record {
+run_true items limits sizes workers tries scripts reports callers rows outcomes trace h some as_many each callers_are rows_are one_each order same is all_workers legal below own =
+    let trues : AreAllTrue workers tries scripts (map told_of outcomes) trace =
+    subst (AreAllTrue workers tries scripts (map told_of outcomes)) (sym same)
+      (reports_true items limits.half workers tries scripts reports rows as_many each rows_are outcomes order h legal.shape legal.replies (λ c r at. all_at (λ k. IsOwn h k) (λ q. q.caller) reports callers callers_are own c r at)) in
+    record {
   legal = subst (IsLegal Begun limits.stripes) (sym same) (subst (λ (z : Sizes). IsLegal Begun z.stripes h) is legal);
   callers = subst (All (λ e. caller_of e < workers)) (sym same) (subst (λ (n : ℕ). All (λ e. caller_of e < n) h) (ap (λ (z : Sizes). z.callers) is ∙ sym all_workers) below);
   one_each = length-map outcomes told_of ∙ one_each;
-  true_of = subst (AreAllTrue workers tries scripts (map told_of outcomes)) (sym same)
-      (reports_true items limits.half workers tries scripts reports rows as_many each rows_are outcomes order h legal.shape (λ c r at. all_at (λ k. IsOwn h k) (λ q. q.caller) reports callers callers_are own c r at));
+  true_of = trues;
+  plays = λ c low. true_plays workers c low scripts trace tries (every workers c (map told_of outcomes)) (trues c low);
   allowed = reports_may items limits.half workers tries scripts reports rows as_many each rows_are outcomes order some;
 }
 

@@ -6,12 +6,13 @@ use Rattle.std.proofs.Math.Nat.{suc-mul}
 use Rattle.std.proofs.lemmas.Option.{slice_get_within, slice_get_cases, slice_get-get_or}
 use Rattle.txn_trace.specs.declared.action.Action.{Action}
 use Rattle.txn_trace.specs.declared.entry.Entry.{Entry}
-use Rattle.thread_runs.specs.Accounts.{Outcome, Told, every, tolds_of}
+use Rattle.script_worker.specs.Accounts.{Outcome, Told, every, tolds_of}
 use Rattle.thread_runs.specs.Runs.{AreToldIn, MayAllCome, HasRunAll, HasRunTo}
 use Rattle.thread_runs.specs.Possible.{MayCome}
 use Rattle.thread_runs.proofs.Looping.{told_run}
-use Rattle.thread_runs.proofs.Every.{get-every}
-use Rattle.thread_runs.proofs.Working.{told_none, tolds_of-none, tolds_of-push}
+use Rattle.script_worker.proofs.Every.{get-every}
+use Rattle.thread_runs.proofs.Working.{told_none}
+use Rattle.script_worker.proofs.Accounts.{tolds_of-none, tolds_of-push}
 
 all_push : (P : Told → Type 0) (tolds : List Told) (told : Told) → AllByRecursion P tolds → P told → AllByRecursion P (tolds ++ told ∷ [])
 all_push P [] told all here = (here, tt)

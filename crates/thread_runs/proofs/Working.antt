@@ -1,47 +1,34 @@
 -- The scripts of each caller, and the outcomes of all of them as statements about the history.
-use Rattle.std.proofs.Common.{◌≡◌, ℕ, ◌+◌, ◌*◌, ◌/◌, ◌%◌, ◌<◌, true, List, [], ◌∷◌, ◌++◌, length, is_some, Some, refl, sym, ap, subst, ◌∙◌}
+use Rattle.std.proofs.Common.{◌≡◌, ℕ, ◌+◌, ◌*◌, ◌/◌, ◌%◌, ◌<◌, true, List, [], ◌∷◌, ◌++◌, length, is_some, Some, sym, ap, subst, ◌∙◌}
 use Prim.Native.Nat.{zero, suc}
 use Rattle.std.specs.List.{slice_get, AllByRecursion}
 use Rattle.std.proofs.Math.Nat.{mod-lt}
 use Rattle.txn_trace.specs.declared.action.Action.{Action}
 use Rattle.txn_trace.specs.declared.entry.Entry.{Entry}
+use Rattle.txn_trace.specs.Replies.{RepliesHold}
 use Rattle.txn_trace.specs.Shape.{seat_after, own, IsShaped}
-use Rattle.thread_runs.specs.Accounts.{Outcome, Told, IsAccount, AreAccounts, HasCome, every, tolds_of, AreAllTrue}
+use Rattle.script_worker.specs.Accounts.{Outcome, Told, IsAccount, HasCome, every, tolds_of, AreAllTrue}
 use Rattle.thread_runs.specs.Runs.{AreToldIn}
 use Rattle.txn_trace.proofs.Running.{has_seat}
-use Rattle.thread_runs.proofs.Parts.{seat_front}
-use Rattle.thread_runs.proofs.Telling.{accounts_true}
-use Rattle.thread_runs.proofs.Attempting.{accounts_more}
-use Rattle.thread_runs.proofs.Every.{get-every, number_at}
-use Rattle.thread_runs.proofs.Lists.{get_empty}
-
-pub tolds_of-none : (scripts : List (List Action)) → tolds_of scripts [] ≡ []
-tolds_of-none [] = refl
-tolds_of-none (script ∷ scripts) = refl
-
--- One more script has its outcome.
-pub tolds_of-push : (scripts : List (List Action)) (outcomes : List Outcome) (script : List Action) (outcome : Outcome) → slice_get scripts (length outcomes) ≡ Some script
-    → tolds_of scripts (outcomes ++ outcome ∷ []) ≡ tolds_of scripts outcomes ++ record { script = script; outcome = outcome } ∷ []
-tolds_of-push [] outcomes script outcome is = absurd (cc (get_empty (length outcomes), is))
-tolds_of-push (first ∷ scripts) [] script outcome is =
-    let same : first ≡ script = cc is in
-    (λ i. record { script = same i; outcome = outcome } ∷ tolds_of-none scripts i)
-tolds_of-push (first ∷ scripts) (o ∷ outcomes) script outcome is = ap (λ ts. record { script = first; outcome = o } ∷ ts) (tolds_of-push scripts outcomes script outcome is)
+use Rattle.script_worker.proofs.Parts.{seat_front}
+use Rattle.script_worker.proofs.Telling.{accounts_true}
+use Rattle.script_worker.proofs.Accounts.{account_more, no_account}
+use Rattle.script_worker.proofs.Every.{get-every, number_at}
+use Rattle.script_worker.proofs.Every.{get_empty}
 
 pub told_none : (c tries : ℕ) (scripts : List (List Action)) → AreToldIn c tries scripts [] []
-told_none c tries scripts whole = subst (λ ts. AreAccounts c tries ts []) (sym (tolds_of-none scripts)) refl
+told_none c tries scripts whole = no_account c tries scripts
 
 pub told_more : (c tries : ℕ) (scripts : List (List Action)) (outcomes : List Outcome) (script : List Action) (outcome : Outcome) (seen chunk : List Entry) → slice_get scripts (length outcomes) ≡ Some script
     → AreToldIn c tries scripts outcomes seen → (is_some (seat_after (seen ++ chunk)) ≡ true → IsAccount c tries script outcome chunk) → AreToldIn c tries scripts (outcomes ++ outcome ∷ []) (seen ++ chunk)
 told_more c tries scripts outcomes script outcome seen chunk here told account whole =
-    subst (λ ts. AreAccounts c tries ts (seen ++ chunk)) (sym (tolds_of-push scripts outcomes script outcome here))
-    (accounts_more c tries (tolds_of scripts outcomes) script outcome seen chunk (told (seat_front seen chunk whole)) (account whole))
+    account_more c tries scripts outcomes script outcome seen chunk here (told (seat_front seen chunk whole)) (account whole)
 
 -- If each caller has seen its own entries in the history, the outcomes are true.
-pub all_true : (callers tries : ℕ) (scripts : List (List Action)) (outcomes : List Outcome) (h : List Entry) → IsShaped h
+pub all_true : (callers tries : ℕ) (scripts : List (List Action)) (outcomes : List Outcome) (h : List Entry) → IsShaped h → RepliesHold h
     → ((c : ℕ) → c < callers → AreToldIn c tries (every callers c scripts) (every callers c outcomes) (own c h)) → AreAllTrue callers tries scripts outcomes h
-all_true callers tries scripts outcomes h shape told c below =
-    accounts_true c tries h (tolds_of (every callers c scripts) (every callers c outcomes)) shape (told c below (has_seat h shape c))
+all_true callers tries scripts outcomes h shape replies told c below =
+    accounts_true c tries h (tolds_of (every callers c scripts) (every callers c outcomes)) shape replies (told c below (has_seat h shape c))
 
 pub told_within : (P : Told → Type 0) (scripts : List (List Action)) (outcomes : List Outcome) (k : ℕ) (script : List Action) (outcome : Outcome) → slice_get scripts k ≡ Some script → slice_get outcomes k ≡ Some outcome
     → AllByRecursion P (tolds_of scripts outcomes) → P (record { script = script; outcome = outcome })

@@ -7,7 +7,7 @@ use Rattle.txn_trace.specs.declared.refusal.Refusal.{Refusal}
 use Rattle.txn_trace.specs.declared.refusal.Refusal.TheVariants.{BadKey, NoSuchLevel, NoMemory, StampsUsedUp, StaleWord, OutOfStep}
 use Rattle.txn_trace.specs.Map.{key_of}
 use Rattle.txn_trace.specs.Sizes.{is_bad_key}
-use Rattle.thread_runs.specs.Accounts.{Outcome, Aborted, Refused}
+use Rattle.script_worker.specs.Accounts.{Outcome, Aborted, Refused}
 
 -- Whether an action has a key that is refused; the argument says whether only half keys are taken.
 abbrev pub has_bad_key : Bool → Action → Bool

@@ -1,5 +1,5 @@
 -- The entries that a worker's run of a script adds.
-use Rattle.std.specs.Prelude.{◌≡◌, ◌<◌, ◌⊎◌, ℕ, Bool, Option, Some, true, List, [], ◌∷◌, ◌++◌, length, map, slice_get, is_some}
+use Rattle.std.specs.Prelude.{◌≡◌, ◌<◌, ◌⊎◌, ℕ, Bool, Option, Some, None, true, false, List, ◌++◌, length, map, slice_get, is_some}
 use Rattle.std.specs.List.{All, AllByRecursion}
 use Rattle.txn_trace.specs.declared.holder.Holder.TheVariants.{Begun}
 use Rattle.txn_trace.specs.declared.action.Action.{Action}
@@ -11,6 +11,7 @@ use Rattle.txn_trace.specs.declared.seat.Phase.{Phase}
 use Rattle.txn_trace.specs.declared.seat.Phase.TheVariants.{Closed, Opened}
 use Rattle.txn_trace.specs.History.{caller_of}
 use Rattle.txn_trace.specs.Legal.{IsLegal}
+use Rattle.txn_trace.specs.Plays.{PlayScripts}
 use Rattle.txn_trace.specs.Sizes.{Sizes}
 use Rattle.txn_trace.specs.Shape.{Seat, seat_after}
 use Rattle.txn_drive.specs.declared.call.Call.{Call}
@@ -20,14 +21,12 @@ use Rattle.txn_drive.specs.declared.«end».End.TheVariants as ends
 use Rattle.txn_drive.specs.Made.{IsMade}
 use Rattle.script_worker.specs.declared.attempt.Stage.{Stage}
 use Rattle.script_worker.specs.declared.attempt.Stage.TheVariants.{Beginning}
-use Rattle.script_worker.specs.declared.attempt.Outcome as attempts
-use Rattle.script_worker.specs.declared.attempt.Outcome.TheVariants as overs
 use Rattle.locked_map.specs.Calls.{Ended}
 use Rattle.locked_map.specs.Holds.{IsQuiet}
 use Rattle.locked_map.specs.Suits.{may_refuse}
 use Rattle.locked_map.specs.Tokens.{Token}
-use Rattle.thread_runs.specs.Accounts as accounts
-use Rattle.thread_runs.specs.Accounts.{Outcome, IsAccount, AreAccounts, AreAllTrue, every, tolds_of}
+use Rattle.script_worker.specs.Accounts as accounts
+use Rattle.script_worker.specs.Accounts.{Outcome, IsAccount, AreAccounts, AreAllTrue, every, tolds_of}
 use Rattle.thread_runs.specs.Possible.{MayCome}
 use Rattle.thread_runs.specs.declared.outcome.Outcome as codes
 use Rattle.thread_runs.specs.declared.outcome.Outcome.TheVariants as outcomes
@@ -61,15 +60,13 @@ pub record Adds (c : ℕ) (call : Call) (outcome : End) (seen seen' : List Entry
   pub made : IsMade c call outcome added
   pub quiet : is_some (seat_after seen') ≡ true → IsQuiet outcome added
 
--- The transaction and the replies of an attempt after a call.
-abbrev pub txn_then : ℕ → End → ℕ
-txn_then txn (ends.Answered (answers.Began t)) = t
-txn_then txn outcome = txn
-
-abbrev pub replies_then : List (Option ℕ) → End → List (Option ℕ)
-replies_then replies (ends.Answered (answers.Began t)) = []
-replies_then replies (ends.Answered (answers.Done reply)) = replies ++ reply ∷ []
-replies_then replies outcome = replies
+-- The caller after the table may have had its turn to grow, if the last call had this end: it is
+-- the same if it is still in step; else it had put a key, and fell out of step by a call for help.
+abbrev pub Grows : {S : Type 0} → Token S → End → Bool → Token S → Type 0
+Grows k outcome true l = (l.seen ≡ k.seen) × (l.broken ≡ k.broken)
+Grows {S} k outcome false l =
+    (outcome ≡ ends.Answered (answers.Done None)) × (key : ℕ) × (words : S → List ℕ)
+    × Ended words k (calls.Help key) (ends.Refused OutOfStep) l
 
 -- There is room for the reply of a call, and of an end.
 abbrev pub HasRoomFor : Call → ℕ → Type 0
@@ -79,15 +76,6 @@ HasRoomFor call room = Unit {0}
 abbrev pub HasRoomAt : End → ℕ → Type 0
 HasRoomAt (ends.Answered (answers.Done reply)) room = 0 < room
 HasRoomAt outcome room = Unit {0}
-
--- The outcome of a script whose attempt is over, with this end of the last call.
-abbrev pub outcome_by : attempts.Outcome → End → ℕ → List (Option ℕ) → Outcome
-outcome_by overs.Committed (ends.Answered (answers.Committed place)) txn replies =
-    accounts.Committed txn place replies
-outcome_by overs.Committed outcome txn replies = accounts.Refused OutOfStep
-outcome_by overs.Aborted outcome txn replies = accounts.Aborted
-outcome_by overs.Busy outcome txn replies = accounts.Busy
-outcome_by (overs.Refused refusal) outcome txn replies = accounts.Refused refusal
 
 -- The outcome, as accounts tell it.
 abbrev pub told_of : codes.Outcome → Outcome
@@ -128,14 +116,16 @@ pub record HasReported {L : Type 0} (half : Bool) (workers tries : ℕ)
       HasRunAll half workers tries c scripts (map told_of report.outcomes.items) report.caller.seen
 
 -- A run of scripts on a map with these limits: its history is legal and has only entries of these
--- workers; there is one outcome for each script; the outcomes are true of the history; and each is
--- one that its script allows.
+-- workers; there is one outcome for each script; the outcomes are true of the history, so that each
+-- worker's committed transactions play its scripts, with rising numbers; and each outcome is one
+-- that its script allows.
 pub record HasRunScripts (limits : Sizes) (workers tries : ℕ) (scripts : List (List Action))
     (outcomes : List Outcome) (trace : List Entry) : Type 0 where
   pub legal : IsLegal Begun limits.stripes trace
   pub callers : All (λ e. caller_of e < workers) trace
   pub one_each : length outcomes ≡ length scripts
   pub true_of : AreAllTrue workers tries scripts outcomes trace
+  pub plays : PlayScripts workers scripts trace
   pub allowed : (i : ℕ) (script : List Action) (outcome : Outcome)
       → slice_get scripts i ≡ Some script → slice_get outcomes i ≡ Some outcome
       → MayCome limits.half script outcome

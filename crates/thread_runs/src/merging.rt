@@ -1,7 +1,7 @@
 //! The outcomes of all workers, merged into the scripts' order. Each row has its last outcome
 //! first, so the next one is taken from its end, in constant time.
 ghost use Rattle.std.specs.Prelude.{◌≡◌, ◌<◌, IfOk, length, reverse};
-ghost use Rattle.thread_runs.specs.Accounts.{every};
+ghost use Rattle.script_worker.specs.Accounts.{every};
 ghost use Rattle.thread_runs.specs.Each.{Each};
 
 use crate::outcome::Outcome;

@@ -1,12 +1,12 @@
 //! The result of a run of scripts: an outcome for each script, and the history.
 use crate::outcome::Outcome;
-use txn_trace::Entry;
+use txn_trace::SmallEntry;
 
 /// The result of a run.
 #[derive(Debug, Drop)]
 pub struct Ran {
     /// The outcome of each script, in the scripts' order.
     pub outcomes: Vec<Outcome>,
-    /// The history of the run.
-    pub trace: Vec<Entry>,
+    /// The history of the run, packed: `txn_trace::Unpacked` goes over it.
+    pub trace: Vec<SmallEntry>,
 }

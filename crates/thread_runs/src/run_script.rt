@@ -8,9 +8,11 @@ ghost use Rattle.txn_trace.specs.Shape.{seat_after};
 ghost use Rattle.locked_map.specs.Suits.{may_refuse};
 ghost use Rattle.locked_map.specs.Tokens.{IsSameCaller};
 ghost use Rattle.thread_runs.specs.Possible.{MayCome};
-ghost use Rattle.thread_runs.specs.Runs.{Adds, HasEnded, IsIn, HasRoomAt, HasRoomFor, HasRunTo, outcome_by, replies_then, told_of, txn_then};
+ghost use Rattle.script_worker.specs.Chunks.{outcome_by, replies_then, txn_then};
+ghost use Rattle.thread_runs.specs.Runs.{Adds, HasEnded, IsIn, HasRoomAt, HasRoomFor, HasRunTo, told_of};
 
 use crate::gate::Gate;
+use crate::growth::Growth;
 use crate::outcome::Outcome;
 use boost_core::{Call, End};
 use locked_map::{Caller, NoSide, OnRelease, SharedMap};
@@ -151,6 +153,7 @@ pub(crate) fn run_script<L: Ledger, G: Gate, R: Wait>(
     script: &[Action],
     tries: u64,
     gate: &G,
+    growth: &mut Growth,
 ) -> Outcome
     requires closed { IsIn Phase.Closed me.old.broken me.old.seen }
     ensures same { IsSameCaller me.old me.new }
@@ -167,7 +170,11 @@ pub(crate) fn run_script<L: Ledger, G: Gate, R: Wait>(
         if let Stage::Acting(action) = attempt.stage {
             gate.before(worker, number, action);
         }
-        let end = heard.hear(rt, map, me, attempt.call(script), &freed);
+        let call = attempt.call(script);
+        let end = heard.hear(rt, map, me, call, &freed);
+        if !growth.grow(rt, map, me, call, end, &freed) {
+            return Outcome::Refused(Refusal::OutOfStep);
+        }
         give_way(end);
         match attempt.progress(script, tries, end) {
             Progress::Next(next) => attempt = next,

@@ -22,11 +22,12 @@ use txn_trace::{Limits, Refusal, Script};
 /// Runs each script in the thread of its worker, on a new map. There are as many workers as the
 /// limits have callers: script `i` belongs to worker `i` modulo the workers, and worker `w` is
 /// caller `w`. A script that found a stripe held is tried again at most `tries` times, after other
-/// threads had a chance to run.
+/// threads had a chance to run. A worker that has put seven new keys without a help in between
+/// helps the table to grow by itself, which adds no entry.
 ///
 /// With `Ok` the history is legal by the rule that a Busy may name any other worker that has begun
 /// a transaction; each of its entries is of one of these workers; and each script has one outcome,
-/// which is true of the history:
+/// which is true of the history, so that each worker's committed transactions play its scripts:
 ///
 /// - `Committed` stands for a transaction of the script's worker, which plays the script, is
 ///   committed with that number and has exactly those replies. Each Committed entry of the history

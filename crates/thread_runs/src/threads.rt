@@ -7,6 +7,7 @@ ghost use Rattle.thread_runs.specs.Runs.{HasReported, IsRunRefusal};
 use crate::gate::Gate;
 use crate::terms::Terms;
 use crate::worker::{Orders, WorkerReport};
+use core::thread::Stack;
 use locked_map::Pass;
 use std::alloc::{AllocError, Global};
 use std::marker::PhantomData;
@@ -16,6 +17,11 @@ use std::sync::ledger::Ledger;
 use std::thread;
 use std::thread::{Promise, PromisedHandle, Threads};
 use txn_trace::{Limits, Refusal};
+
+/// The size of a worker's stack in bytes. No function of a worker calls itself, and all frames take
+/// a few thousand bytes. The system's own size, often 8 MiB, is refused to many workers where the
+/// address space is limited.
+const STACK: usize = 256 * 1024;
 
 /// The thread of a pass returns its caller, with its scripts run.
 #[derive(Drop)]
@@ -64,7 +70,12 @@ pub(crate) fn in_threads<
                     pass: Snapshot::of(&pass),
                     terms: PhantomData,
                 };
-                let started = scope.spawn_with(promise, move || orders.work(rt, alloc, pass));
+                let stack = Stack::new().stack_size(STACK);
+                let started = stack.spawn_scoped_with(
+                    scope,
+                    promise,
+                    move || orders.work(rt, alloc, pass),
+                );
                 let Ok(thread) = started else {
                     return Err(Refusal::NoThread);
                 };

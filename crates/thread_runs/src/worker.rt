@@ -5,6 +5,7 @@ ghost use Rattle.locked_map.specs.Tokens.{IsSameCaller};
 ghost use Rattle.thread_runs.specs.Runs.{HasReported, HasRunAll, told_of};
 
 use crate::gate::Gate;
+use crate::growth::Growth;
 use crate::outcome::Outcome;
 use crate::run_script::run_script;
 use crate::terms::Terms;
@@ -76,12 +77,21 @@ impl<L: Ledger, G: Gate, T: Terms> Orders<'_, L, G, T> {
             me.old.number T.scripts (map told_of outcomes.items) me.new.seen) }
     {
         let mut outcomes = Vec::new(alloc);
+        let mut growth = Growth::new();
         let mut number = me.number() as usize;
         while let Some(script) = self.scripts.get(number) {
             outcomes.reserve(1)?;
             let actions = script.actions();
             let outcome = run_script(
-                rt, alloc, self.map, me, number, actions, self.tries, self.gate,
+                rt,
+                alloc,
+                self.map,
+                me,
+                number,
+                actions,
+                self.tries,
+                self.gate,
+                &mut growth,
             );
             outcomes.push_reserved(outcome);
             self.gate.done(number);

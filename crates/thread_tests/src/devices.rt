@@ -12,7 +12,7 @@ use std::process::Abort;
 use std::sync::Wait;
 use std::sync::ledger::{Blank, Ledger};
 use std::test::Fail;
-use txn_trace::{Entry, Holder, Limits, Op, Reply};
+use txn_trace::{Entry, Holder, Limits, Op, Reply, SmallEntry, Unpacked};
 use undo_log::Side;
 
 /// The number of a ledger's parts.
@@ -274,13 +274,14 @@ pub(crate) fn close<L: Ledger, S: Side>(
 /// entry of a caller that the checker does not take.
 pub(crate) fn judge(
     alloc: Global,
-    trace: &[Entry],
+    trace: &[SmallEntry],
     stripes: u64,
 ) -> Result<Option<Verdict>, AllocError> {
-    if stripes == 0 || !has_callers(trace) {
+    let entries: Vec<Entry> = Unpacked::new(trace).collect(alloc)?;
+    if stripes == 0 || !has_callers(entries.as_slice()) {
         return Ok(None);
     }
-    Ok(Some(check(alloc, trace, stripes, Holder::Begun)?))
+    Ok(Some(check(alloc, entries.as_slice(), stripes, Holder::Begun)?))
 }
 
 /// Whether each caller's number is one that the checker takes.
@@ -290,8 +291,17 @@ fn has_callers(trace: &[Entry]) -> bool
     trace.iter().all(|entry| entry.caller() < 64)
 }
 
+/// Whether a history is this one.
+pub(crate) fn is_history(trace: &[SmallEntry], wanted: &[Entry]) -> bool {
+    Unpacked::new(trace).eq(wanted.iter().copied())
+}
+
 /// Whether a history for this number of stripes is legal by the checker, with no transaction open.
-pub(crate) fn is_settled(alloc: Global, trace: &[Entry], stripes: u64) -> Result<bool, AllocError> {
+pub(crate) fn is_settled(
+    alloc: Global,
+    trace: &[SmallEntry],
+    stripes: u64,
+) -> Result<bool, AllocError> {
     let verdict = judge(alloc, trace, stripes)?;
     Ok(matches!(verdict, Some(Verdict::Legal { running: 0, .. })))
 }

@@ -11,7 +11,7 @@ use std::thread;
 use std::thread::Threads;
 use std::time::{Clock, Duration};
 use thread_runs::{Gate, Open, Outcome, Ran, run_scripts};
-use txn_trace::{Action, Entry, Limits, Op, Refusal, Script};
+use txn_trace::{Action, Entry, Limits, Op, Refusal, Script, SmallEntry, Unpacked};
 
 /// Runs scripts on this number of workers, on a map of this number of stripes. A script that finds
 /// a stripe held is tried again at most this number of times.
@@ -188,8 +188,8 @@ fn step_between(rt: HostRuntime) -> Result<(), Fail> {
         Entry::Did(0, None),
         Entry::Committed(0, 2),
     ];
-    let later = ran.trace.iter().filter(|entry| !is_began(entry));
-    assert!(rt; later.eq(wanted.iter()));
+    let later = Unpacked::new(ran.trace.as_slice()).filter(|entry| !is_began(entry));
+    assert!(rt; later.eq(wanted.iter().copied()));
     Ok(())
 }
 
@@ -302,16 +302,20 @@ fn ran_alone<R: Threads + Wait + Abort + Sync>(rt: &R, alloc: Global) -> Option<
 }
 
 /// The numbers of transactions that a history begins, commits and aborts.
-fn counts(trace: &[Entry]) -> (usize, usize, usize) {
-    let began = trace.iter().filter(|entry| is_began(entry)).count();
-    let committed = trace.iter().filter(|entry| is_committed(entry)).count();
-    let aborted = trace.iter().filter(|entry| is_aborted(entry)).count();
+fn counts(trace: &[SmallEntry]) -> (usize, usize, usize) {
+    let began = Unpacked::new(trace).filter(|entry| is_began(entry)).count();
+    let committed = Unpacked::new(trace)
+        .filter(|entry| is_committed(entry))
+        .count();
+    let aborted = Unpacked::new(trace)
+        .filter(|entry| is_aborted(entry))
+        .count();
     (began, committed, aborted)
 }
 
 /// Whether a history is legal, with no caller in a transaction. If the checker is refused memory
 /// twice, the history is taken as legal.
-fn is_legal<R: Abort>(rt: &R, alloc: Global, trace: &[Entry]) -> bool {
+fn is_legal<R: Abort>(rt: &R, alloc: Global, trace: &[SmallEntry]) -> bool {
     assert!(rt; trace.iter().all(|entry| entry.caller() < 64));
     for _ in 0..2 {
         if let Ok(settled) = is_settled(alloc, trace, 8) {

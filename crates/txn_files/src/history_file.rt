@@ -11,7 +11,7 @@ use crate::operation::{is_old_op, leading_op_in, op_in};
 use arrayvec::ArrayVec;
 use json::Reader;
 use piece_files::{
-    FileFault, Part, PieceKind, Plain, Stop, end_in, number_in, one_in, optional_in,
+    FileFault, Part, PieceKind, Plain, Stop, elements_at, end_in, number_in, one_in, optional_in,
     plain_elements, read_file, word_in,
 };
 use std::alloc::{AllocError, Global};
@@ -140,6 +140,20 @@ impl PieceKind for EntryKind {
         } else {
             Ok(None)
         }
+    }
+
+    fn read_plain(
+        _alloc: Global,
+        text: &str,
+        at: &mut usize,
+        _depth: usize,
+    ) -> Result<Option<PackedEntry>, AllocError> {
+        let mut elements = ArrayVec::<Plain<'_>, MAX_ELEMENTS>::new();
+        let Some(end) = elements_at(text, *at, &mut elements) else {
+            return Ok(None);
+        };
+        *at = end;
+        Ok(packed_entry_in(&elements))
     }
 }
 

@@ -11,9 +11,9 @@
 //! keys, which are those below 2^63. A file of any other version is tested for the shapes of
 //! version 2, and is then refused.
 //!
-//! Proved: `read_steps`, `read_scripts`, `read_history` and `read_packed_history` compute these
-//! functions, or say that memory was refused. `history_text` writes a history, as `text_of_history`
-//! says.
+//! Proved: `read_steps`, `read_scripts`, `read_history` and the two packed readers compute these
+//! functions, or say that memory was refused. `history_text` and `small_history_text` write a
+//! history, as `text_of_history` says.
 //!
 //! Cost: time and memory in proportion to the length of the file or text. A file is read once. At
 //! most one step, entry or script more than a file may have is kept, but all actions of a script.
@@ -22,12 +22,14 @@
 mod history_file;
 mod operation;
 mod script_file;
+mod small_text;
 mod step_file;
 mod text;
 
 pub use history_file::{read_history, read_packed_history};
 pub use piece_files::{FileFault, Part};
 pub use script_file::read_scripts;
-pub use step_file::read_steps;
+pub use small_text::small_history_text;
+pub use step_file::{read_packed_steps, read_steps};
 pub use text::history_text;
 pub use txn_trace::{Script, Scripts};

@@ -1,8 +1,13 @@
 //! Script files: actions and scripts as pieces, and the numbers around them. The loops over tokens
 //! are those of `piece_files`; this file says which shapes and ranges actions and scripts have.
-ghost use Rattle.std.specs.Prelude.{◌≡◌, map, true, false};
+ghost use Rattle.std.specs.Prelude.{◌≡◌, ◌<◌, ◌^◌, List, Result, map, true, false};
 ghost use Rattle.std.specs.List.{list_all};
+ghost use Rattle.std.specs.Result.{result_ok};
+ghost use Rattle.piece_files.specs.declared.file_fault.FileFault.{FileFault};
+ghost use Rattle.piece_files.specs.declared.part.Part.TheVariants as parts;
 ghost use Rattle.piece_files.specs.Plain.{data_of};
+ghost use Rattle.piece_files.specs.Tokens.{FindsBoth};
+ghost use Rattle.txn_trace.specs.declared.action.Action.{Action};
 ghost use Rattle.piece_files.specs.Faults.{Gives};
 ghost use Rattle.txn_files.specs.Actions.{action_of, is_old_action, is_old_script, script_of};
 ghost use Rattle.txn_files.specs.ScriptFile.{max_scripts, is_short, are_scripts, work_from, scripts_of};
@@ -12,10 +17,10 @@ use crate::step_file::limits_in;
 use arrayvec::ArrayVec;
 use json::Reader;
 use piece_files::{
-    FileFault, Part, PieceKind, Plain, Stop, end_in, one_in, pieces_in, plain_elements, read_file,
-    word_in,
+    FileFault, Part, PieceKind, Pieces, Plain, Stop, elements_at, end_in, one_in, pieces_at,
+    pieces_in, plain_elements, read_file, word_in,
 };
-use std::alloc::Global;
+use std::alloc::{AllocError, Global};
 use txn_trace::{Action, Script, Scripts};
 
 /// The most times that a script may be tried again.
@@ -99,6 +104,34 @@ impl PieceKind for ActionKind {
             Ok(None)
         }
     }
+
+    fn read_plain(
+        _alloc: Global,
+        text: &str,
+        at: &mut usize,
+        _depth: usize,
+    ) -> Result<Option<Action>, AllocError> {
+        let mut elements = ArrayVec::<Plain<'_>, MAX_ELEMENTS>::new();
+        let Some(end) = elements_at(text, *at, &mut elements) else {
+            return Ok(None);
+        };
+        *at = end;
+        Ok(action_in(&elements))
+    }
+}
+
+/// The script of the actions that an array begins with, if all its elements are actions.
+fn script_in(found: Pieces<Action>) -> Option<Script>
+    requires { found.count < 2 ^ 64 }
+    ensures { (old all : Result (List Action) FileFault)
+        → FindsBoth parts.Script 18446744073709551615 found old all → result ≡ result_ok all }
+{
+    if !found.are_all {
+        return None;
+    }
+    let mut actions = found.pieces;
+    actions.shrink_to_fit();
+    Some(Script::new(actions))
 }
 
 /// Scripts, as pieces of a script file.
@@ -134,13 +167,20 @@ impl PieceKind for ScriptKind {
     #[tactic(auto, unfolding(crate::specs::Actions::script_of))]
     fn read(alloc: Global, reader: &mut Reader<'_>, depth: usize) -> Result<Option<Script>, Stop> {
         let found = pieces_in::<ActionKind>(alloc, reader, depth)?;
-        if found.are_all {
-            let mut actions = found.pieces;
-            actions.shrink_to_fit();
-            Ok(Some(Script::new(actions)))
-        } else {
-            Ok(None)
-        }
+        Ok(script_in(found))
+    }
+
+    #[tactic(auto, unfolding(crate::specs::Actions::script_of))]
+    fn read_plain(
+        alloc: Global,
+        text: &str,
+        at: &mut usize,
+        depth: usize,
+    ) -> Result<Option<Script>, AllocError> {
+        let Some(found) = pieces_at::<ActionKind>(alloc, text, at, depth)? else {
+            return Ok(None);
+        };
+        Ok(script_in(found))
     }
 }
 

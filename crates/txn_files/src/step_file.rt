@@ -1,6 +1,6 @@
 //! Step files: the thirteen steps as pieces, and the limits around them. The loops over tokens are
 //! those of `piece_files`; this file says which shapes and ranges steps have.
-ghost use Rattle.std.specs.Prelude.{◌≡◌, map, true, false};
+ghost use Rattle.std.specs.Prelude.{◌≡◌, IfOk, map, true, false};
 ghost use Rattle.piece_files.specs.Plain.{data_of};
 ghost use Rattle.piece_files.specs.Faults.{Gives};
 ghost use Rattle.txn_files.specs.Steps.{ask_of, is_old_step, numbered_of, step_of};
@@ -10,11 +10,11 @@ use crate::operation::{is_old_op, op_in};
 use arrayvec::ArrayVec;
 use json::Reader;
 use piece_files::{
-    FileFault, Part, PieceKind, Plain, Stop, number_in, one_in, plain_elements, read_file, two_in,
-    word_in,
+    FileFault, Part, PieceKind, Plain, Stop, elements_at, number_in, one_in, plain_elements,
+    read_file, two_in, word_in,
 };
-use std::alloc::Global;
-use txn_trace::{Limits, Step};
+use std::alloc::{AllocError, Global};
+use txn_trace::{Limits, PackedStep, Step};
 
 /// The most steps that a file may have.
 const MAX_STEPS: usize = 1_000_000;
@@ -83,13 +83,20 @@ fn step_in(values: &[Plain<'_>]) -> Option<Step>
     }
 }
 
-/// Steps, as pieces of a step file.
+/// The step that has these elements, packed.
+fn packed_step_in(values: &[Plain<'_>]) -> Option<PackedStep>
+    ensures { result ≡ step_of (map data_of values.now) }
+{
+    Some(PackedStep::new(step_in(values)?))
+}
+
+/// Steps, as pieces of a step file. They are kept packed.
 struct StepKind;
 
 impl PieceKind for StepKind {
     ghost use Rattle.piece_files.specs.declared.part.Part.TheVariants as parts;
 
-    type Piece = Step;
+    type Piece = PackedStep;
 
     ghost of = { step_of };
 
@@ -105,8 +112,8 @@ impl PieceKind for StepKind {
         Part::Step
     }
 
-    fn is_old(step: &Step) -> bool {
-        match *step {
+    fn is_old(step: &PackedStep) -> bool {
+        match step.step() {
             Step::Ask(_, op) => is_old_op(op),
             _ => true,
         }
@@ -117,13 +124,31 @@ impl PieceKind for StepKind {
     }
 
     #[tactic(auto, using(crate::proofs::PlainPieces::no_step))]
-    fn read(_alloc: Global, reader: &mut Reader<'_>, depth: usize) -> Result<Option<Step>, Stop> {
+    fn read(
+        _alloc: Global,
+        reader: &mut Reader<'_>,
+        depth: usize,
+    ) -> Result<Option<PackedStep>, Stop> {
         let mut elements = ArrayVec::<Plain<'_>, MAX_ELEMENTS>::new();
         if plain_elements(reader, depth, &mut elements)? {
-            Ok(step_in(&elements))
+            Ok(packed_step_in(&elements))
         } else {
             Ok(None)
         }
+    }
+
+    fn read_plain(
+        _alloc: Global,
+        text: &str,
+        at: &mut usize,
+        _depth: usize,
+    ) -> Result<Option<PackedStep>, AllocError> {
+        let mut elements = ArrayVec::<Plain<'_>, MAX_ELEMENTS>::new();
+        let Some(end) = elements_at(text, *at, &mut elements) else {
+            return Ok(None);
+        };
+        *at = end;
+        Ok(packed_step_in(&elements))
     }
 }
 
@@ -166,8 +191,8 @@ pub fn limits_in(
 fn steps_in(
     version: u64,
     numbers: [u64; 3],
-    steps: Vec<Step>,
-) -> Result<(Limits, Vec<Step>), FileFault>
+    steps: Vec<PackedStep>,
+) -> Result<(Limits, Vec<PackedStep>), FileFault>
     ensures { Gives (λ file. (file.0, file.1.items)) result
         (steps_from version numbers steps.items) }
 {
@@ -199,8 +224,44 @@ fn steps_in(
 ///
 /// # Cost
 ///
-/// Time and memory in proportion to the bytes.
+/// Time and memory in proportion to the bytes. The steps are in memory twice, once of them packed.
 pub fn read_steps(alloc: Global, bytes: &[u8]) -> Result<(Limits, Vec<Step>), FileFault>
+    ensures { Gives (λ file. (file.0, file.1.items)) result (file_of bytes.now) }
+{
+    let (limits, packed) = read_packed_steps(alloc, bytes)?;
+    let steps = unpacked(alloc, &packed)?;
+    Ok((limits, steps))
+}
+
+/// The steps that were packed.
+///
+/// # Errors
+///
+/// `AllocError` if memory is refused.
+fn unpacked(alloc: Global, packed: &[PackedStep]) -> Result<Vec<Step>, AllocError>
+    ensures { IfOk result (λ steps. steps.items ≡ packed.now) }
+{
+    let mut steps = Vec::with_capacity(alloc, packed.len())?;
+    for step in packed {
+        steps.push(step.step())?;
+    }
+    Ok(steps)
+}
+
+/// The limits and the packed steps of a step file, as `read_steps` reads it. Packed steps take five
+/// sevenths of the memory.
+///
+/// # Errors
+///
+/// Those of `read_steps`, in its order.
+///
+/// # Cost
+///
+/// Time and memory in proportion to the bytes.
+pub fn read_packed_steps(
+    alloc: Global,
+    bytes: &[u8],
+) -> Result<(Limits, Vec<PackedStep>), FileFault>
     ensures { Gives (λ file. (file.0, file.1.items)) result (file_of bytes.now) }
 {
     let names = ["callers", "stripes", "buckets"];

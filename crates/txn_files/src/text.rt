@@ -80,7 +80,8 @@ fn put_busy(text: &mut String, caller: u64, op: Op, holder: u64) -> Result<(), A
     write!(text, ",{holder}]")
 }
 
-fn put_entry(text: &mut String, entry: &Entry) -> Result<(), AllocError>
+/// Adds an entry, as an array.
+pub(crate) fn put_entry(text: &mut String, entry: &Entry) -> Result<(), AllocError>
     ensures { OnOk result (string_bytes text.new ≡ string_bytes text.old ++ entry_text entry.now) }
 {
     match *entry {

@@ -40,3 +40,4 @@ pub mod PlayedCases
 pub mod HolderCases
 pub mod Levels
 pub mod Committing
+pub mod Packing

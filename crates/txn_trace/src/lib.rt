@@ -14,7 +14,7 @@
 //! Proved: the laws of histories in `proofs/`, entry by entry, for the crates above to cite; and,
 //! as the contract of `laws::erased`, that aborted transactions leave nothing behind. The functions
 //! compute definitions that the crates above share: limits and texts, the entry of a step with its
-//! answer, a packed entry, the room that an operation or a step needs in a history, and a caller's
+//! answer, packed entries and steps, the room that an operation or a step needs in a history, and a caller's
 //! seat. Calls take constant time and no memory unless they say otherwise.
 #![tactic(auto)]
 
@@ -26,9 +26,11 @@ pub mod laws;
 mod limits;
 mod op;
 mod packed_entry;
+mod packed_step;
 mod refusal;
 mod script;
 mod seat;
+mod small_entry;
 mod step;
 
 pub use action::Action;
@@ -38,7 +40,9 @@ pub use holder::Holder;
 pub use limits::Limits;
 pub use op::{Op, Reply};
 pub use packed_entry::PackedEntry;
+pub use packed_step::PackedStep;
 pub use refusal::Refusal;
 pub use script::{Script, Scripts};
 pub use seat::{Phase, Seat};
+pub use small_entry::{SmallEntry, Unpacked};
 pub use step::{Step, entry_of};

@@ -9,8 +9,8 @@ use std::marker::Model;
 use std::mem::size_of;
 
 /// The kind of an operation, and whether a put may expect a value.
-#[derive(Clone, Copy)]
-enum OpKind {
+#[derive(Clone, Copy, Debug)]
+pub(crate) enum OpKind {
     Put,
     Take,
     Get,
@@ -19,8 +19,8 @@ enum OpKind {
 }
 
 /// The kind of an entry, and whether a reply or a level is there.
-#[derive(Clone, Copy)]
-enum Kind {
+#[derive(Clone, Copy, Debug)]
+pub(crate) enum Kind {
     Began,
     Asked,
     Did,
@@ -39,14 +39,14 @@ enum Kind {
 /// entry.
 #[derive(Drop)]
 pub struct PackedEntry {
-    kind: Kind,
-    op: OpKind,
-    caller: u64,
+    pub(crate) kind: Kind,
+    pub(crate) op: OpKind,
+    pub(crate) caller: u64,
     /// The key of its operation, or its one other number.
-    number: u64,
-    value: u64,
-    expected: u64,
-    holder: u64,
+    pub(crate) number: u64,
+    pub(crate) value: u64,
+    pub(crate) expected: u64,
+    pub(crate) holder: u64,
 }
 
 const _: () = prove!(size_of::<PackedEntry>() == 48);
@@ -149,7 +149,7 @@ impl PackedEntry {
 }
 
 /// The kind of an operation, its key, its value and the value that it expects; 0 if it has none.
-fn parts_of(op: Op) -> (OpKind, u64, u64, u64)
+pub(crate) fn parts_of(op: Op) -> (OpKind, u64, u64, u64)
     ensures { packed_op result.0 result.1 result.2 result.3 ≡ op }
 {
     match op {
@@ -162,7 +162,7 @@ fn parts_of(op: Op) -> (OpKind, u64, u64, u64)
 }
 
 /// The operation of these parts.
-fn op_of(kind: OpKind, key: u64, value: u64, expected: u64) -> Op
+pub(crate) fn op_of(kind: OpKind, key: u64, value: u64, expected: u64) -> Op
     ensures { result ≡ packed_op kind key value expected }
 {
     match kind {

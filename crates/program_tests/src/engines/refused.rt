@@ -3,10 +3,10 @@
 
 use boost_core::Core;
 use history_check::{Verdict, check};
-use std::alloc::Global;
+use std::alloc::{AllocError, Global};
 use std::process::Abort;
 use std::test::Fail;
-use txn_trace::{Answer, Entry, Holder, Limits, Op, Refusal, Step};
+use txn_trace::{Answer, Entry, Holder, Limits, Op, Refusal, SmallEntry, Step, Unpacked};
 
 /// The number of times that a call is tried before memory is taken to be refused for good: once
 /// more than `docs/tests/refused.py` refuses in a row, unless it refuses all from one on.
@@ -212,7 +212,7 @@ fn abort(core: &mut Core, caller: u64) -> Answer {
 }
 
 /// The history, and the number of entries owed beyond it.
-fn history_of(core: &Core) -> (&[Entry], usize) {
+fn history_of(core: &Core) -> (&[SmallEntry], usize) {
     (core.trace(), core.owed())
 }
 
@@ -311,7 +311,7 @@ fn compare_entries(rt: &impl Abort, core: &Core, entries: &[Entry]) {
     let mut wanted = entries.iter();
     for entry in history_of(core).0 {
         if entry.caller() != ONLOOKER {
-            assert!(rt; wanted.next() == Some(entry));
+            assert!(rt; wanted.next() == Some(&entry.entry()));
         }
     }
     assert!(rt; wanted.next().is_none());
@@ -422,12 +422,17 @@ fn abort_all(rt: &impl Abort, core: &mut Core, entries: &[Entry]) {
     assert!(rt; history_of(core).0.len() == wanted_length);
 }
 
+/// The checker's verdict on the history.
+fn verdict_of(rt: &impl Abort, alloc: Global, core: &Core) -> Result<Verdict, AllocError> {
+    let entries: Vec<Entry> = Unpacked::new(history_of(core).0).collect(alloc)?;
+    assert!(rt; entries.iter().all(|entry| entry.caller() < 64));
+    check(alloc, entries.as_slice(), 8, Holder::Now)
+}
+
 /// Has the checker judge the history, which is legal and leaves no caller in a transaction.
 fn judge(rt: &impl Abort, alloc: Global, core: &Core) {
-    let (trace, _) = history_of(core);
-    assert!(rt; trace.iter().all(|entry| entry.caller() < 64));
     for _ in 0..TRIES {
-        if let Ok(verdict) = check(alloc, trace, 8, Holder::Now) {
+        if let Ok(verdict) = verdict_of(rt, alloc, core) {
             let legal = Verdict::Legal {
                 commits: 0,
                 running: 0,

@@ -146,7 +146,7 @@ impl Home {
     pub fn node(&self, rank: usize) -> Option<(u64, Kind, u64)> {
         let mut place = self.list.head();
         for _ in 0..rank {
-            place = self.list.linked_node(place)?.next?;
+            place = self.list.linked_node(place)?.next()?;
         }
         let node = self.list.linked_node(place)?;
         Some((node.at.split(), node.kind, node.at.key()))

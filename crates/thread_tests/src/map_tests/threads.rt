@@ -2,7 +2,9 @@
 ghost use Rattle.std.specs.Prelude.{◌≡◌};
 
 use super::rows::{Row, play_row};
-use crate::devices::{Shared, Told, callers_of, close, has_seen, is_settled, make, open};
+use crate::devices::{
+    Shared, Told, callers_of, close, has_seen, is_history, is_settled, make, open,
+};
 use boost_core::Call;
 use locked_map::{Caller, Closed, NoSide, Stop};
 use std::alloc::Global;
@@ -189,7 +191,7 @@ fn in_turn<L: Ledger, R: Abort>(rt: &R, closed: &Closed<L, NoSide>) {
         Entry::Committed(1, 2),
     ];
     let callers = closed.callers.as_slice();
-    assert!(rt; closed.core.trace() == wanted.as_slice());
+    assert!(rt; is_history(closed.core.trace(), wanted.as_slice()));
     assert!(rt; has_seen(callers, 0, &wanted[..4]));
     assert!(rt; has_seen(callers, 1, &wanted[4..]));
 }

@@ -1,8 +1,9 @@
 use Rattle.std.proofs.Common.{true, ap, ◌∙◌}
 use Rattle.std.proofs.lemmas.Result.{IfOk-weaker}
 use Rattle.clap.specs.Simple.{Shape, app_of_fields, on_top}
-use Rattle.command_line.specs.Words.{Has, without_commands}
-use Rattle.command_line.proofs.Building.{added}
+use Rattle.program_host.specs.Words.{Has}
+use Rattle.program_host.proofs.Building.{added}
+use Rattle.command_line.specs.Words.{without_commands}
 use Rattle.command_line.proofs.words.command.Goals as goal
 
 pub returns : goal.returns

@@ -6,7 +6,7 @@ use Rattle.piece_files.proofs.ItemLists.{list_of-items_from}
 use Rattle.txn_files.specs.Entries.{entry_of}
 use Rattle.entry_lines.proofs.line.entry_in_plain.Goals as goal
 
-pub returns-then-take_elements : goal.returns-then-take_elements
-returns-then-take_elements c =
-    let ds = map data_of c.take_elements.new.elements.items in
-    (array (items_from ds), c.take_elements.ensures c.if-take_elements.true, c.entry_with.ensures ∙ ap (λ es. entry_of (map data_of es)) c.deref.ensures.0 ∙ ap entry_of (sym (list_of-items_from ds)))
+pub returns-then-whole_array : goal.returns-then-whole_array
+returns-then-whole_array c =
+    let ds = map data_of c.whole_array.new.elements.items in
+    (array (items_from ds), c.whole_array.ensures c.if-whole_array.true, c.entry_with.ensures ∙ ap (λ es. entry_of (map data_of es)) c.deref.ensures.0 ∙ ap entry_of (sym (list_of-items_from ds)))

@@ -3,8 +3,9 @@ use Rattle.std.proofs.lemmas.Result.{IfOk-weaker}
 use Rattle.clap.specs.declared.builder.command.Command.{Command}
 use Rattle.clap.specs.declared.builder.command.Command.TheOpen.{Command-F}
 use Rattle.clap.specs.Simple.{Shape, app_of_fields, on_top}
-use Rattle.judge_line.specs.Words.{Has, without_commands}
-use Rattle.judge_line.proofs.Building.{added}
+use Rattle.program_host.specs.Words.{Has}
+use Rattle.judge_line.specs.Words.{without_commands}
+use Rattle.program_host.proofs.Building.{added}
 use Rattle.judge_line.proofs.words.command.Goals as goal
 
 pub returns : goal.returns

@@ -1,7 +1,8 @@
 use Rattle.std.proofs.lemmas.Result.{IfOk-weaker}
 use Rattle.clap.specs.Words.{new_app}
-use Rattle.judge_line.specs.Words.{Has, serializable_word}
-use Rattle.judge_line.proofs.Building.{with_word}
+use Rattle.program_host.specs.Words.{Has}
+use Rattle.judge_line.specs.Words.{serializable_word}
+use Rattle.program_host.proofs.Building.{with_word}
 use Rattle.judge_line.proofs.words.flagged_command.Goals as goal
 
 pub returns : goal.returns

@@ -1,7 +1,7 @@
 use Rattle.std.proofs.Common.{codes}
 use Rattle.std.proofs.lemmas.Result.{IfOk-weaker}
 use Rattle.judge_line.specs.Words.{flagged, stripes_word}
-use Rattle.judge_line.proofs.Building.{with_word}
+use Rattle.program_host.proofs.Building.{with_word}
 use Rattle.judge_line.proofs.words.watch_command.Goals as goal
 
 pub returns : goal.returns

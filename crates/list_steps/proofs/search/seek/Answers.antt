@@ -14,26 +14,26 @@ node-requires c = c.search.invariant.linked
 
 pub node-node-requires : goal.node-node-requires
 node-node-requires c =
-    next_linked _ _ _ c.node.ensures.sound.spread (c.node.ensures.next ∙ c.in-Some.is)
+    next_linked _ _ _ c.node.ensures.sound.spread (c.node.ensures.next ∙ sym c.in-Some.ensures)
 
 pub unlink_after-requires : goal.unlink_after-requires
 unlink_after-requires c =
     record {
       node = seen c.in-Some.next c.node-node.result.now;
-      next = next_node _ _ _ c.node.ensures.sound.spread (c.node.ensures.next ∙ c.in-Some.is) _ c.node-node.ensures.node;
+      next = next_node _ _ _ c.node.ensures.sound.spread (c.node.ensures.next ∙ sym c.in-Some.ensures) _ c.node-node.ensures.node;
       marked = c.if-node.true;
     }
 
 pub search-smaller-then-node : goal.search-smaller-then-node
 search-smaller-then-node c =
-    let next = next_node _ _ _ c.node.ensures.sound.spread (c.node.ensures.next ∙ c.in-Some.is) _ c.node-node.ensures.node in
+    let next = next_node _ _ _ c.node.ensures.sound.spread (c.node.ensures.next ∙ sym c.in-Some.ensures) _ c.node-node.ensures.node in
     rw c.unlink_after.ensures.unlinked.nodes (behind_fewer _ _ _ _ (c.search.invariant.pred c.node.ensures.sound.plain).is next)
 
 pub search-preserved-then-node : goal.search-preserved-then-node
 search-preserved-then-node c =
     let before = c.search.invariant in
     let now = c.unlink_after.ensures.unlinked in
-    let next = next_node _ _ _ c.node.ensures.sound.spread (c.node.ensures.next ∙ c.in-Some.is) _ c.node-node.ensures.node in
+    let next = next_node _ _ _ c.node.ensures.sound.spread (c.node.ensures.next ∙ sym c.in-Some.ensures) _ c.node-node.ensures.node in
     record {
       rest = rw now.nodes (sought_unlinked _ _ _ (before.pred c.node.ensures.sound.plain) _ next c.if-node.true ∙ before.rest);
       linked = rw now.nodes (found_linked _ _ _ (pred_unlinked _ _ _ (before.pred c.node.ensures.sound.plain)).is);
@@ -50,13 +50,13 @@ search-preserved-then-node c =
 
 pub search-smaller : goal.search-smaller
 search-smaller c =
-    let next = next_node _ _ _ c.node.ensures.sound.spread (c.node.ensures.next ∙ c.in-Some.is) _ c.node-node.ensures.node in
+    let next = next_node _ _ _ c.node.ensures.sound.spread (c.node.ensures.next ∙ sym c.in-Some.ensures) _ c.node-node.ensures.node in
     behind_next _ _ _ _ (c.search.invariant.pred c.node.ensures.sound.plain).is next c.node.ensures.sound.spread
 
 pub search-preserved : goal.search-preserved
 search-preserved c =
     let before = c.search.invariant in
-    let next = next_node _ _ _ c.node.ensures.sound.spread (c.node.ensures.next ∙ c.in-Some.is) _ c.node-node.ensures.node in
+    let next = next_node _ _ _ c.node.ensures.sound.spread (c.node.ensures.next ∙ sym c.in-Some.ensures) _ c.node-node.ensures.node in
     record {
       rest = sought_passed _ _ _ (before.pred c.node.ensures.sound.plain) _ next c.node.ensures.sound.spread c.if-node.false (sym c.is_before.ensures ∙ c.if-is_before.true) ∙ before.rest;
       linked = found_linked _ _ _ c.node-node.ensures.node;
@@ -74,12 +74,12 @@ search-preserved c =
 
 pub behind-requires-clause-beyond : goal.behind-requires-clause-beyond
 behind-requires-clause-beyond c =
-    let next = next_node _ _ _ c.node.ensures.sound.spread (c.node.ensures.next ∙ c.in-Some.is) _ c.node-node.ensures.node in
+    let next = next_node _ _ _ c.node.ensures.sound.spread (c.node.ensures.next ∙ sym c.in-Some.ensures) _ c.node-node.ensures.node in
     rw next (c.if-node.false, (sym c.is_before.ensures ∙ c.if-is_before.false))
 
 pub returns-else-is_before-clause-nodes : goal.returns-else-is_before-clause-nodes
 returns-else-is_before-clause-nodes c =
-    let next = next_node _ _ _ c.node.ensures.sound.spread (c.node.ensures.next ∙ c.in-Some.is) _ c.node-node.ensures.node in
+    let next = next_node _ _ _ c.node.ensures.sound.spread (c.node.ensures.next ∙ sym c.in-Some.ensures) _ c.node-node.ensures.node in
     sym (sought_stopped _ _ _ (c.search.invariant.pred c.node.ensures.sound.plain) _ next c.if-node.false (sym c.is_before.ensures ∙ c.if-is_before.false)) ∙ c.search.invariant.rest
 
 pub returns-else-is_before-clause-content : goal.returns-else-is_before-clause-content
@@ -87,7 +87,7 @@ returns-else-is_before-clause-content c = ap pairs (returns-else-is_before-claus
 
 pub returns-clause-nodes : goal.returns-clause-nodes
 returns-clause-nodes c =
-    let nothing = no_place _ (c.node.ensures.next ∙ c.in_default.is) in
+    let nothing = no_place _ (c.node.ensures.next ∙ sym c.next.ensures ∙ c.in_default.is) in
     sym (sought_at_end _ _ _ (c.search.invariant.pred c.node.ensures.sound.plain) nothing) ∙ c.search.invariant.rest
 
 pub returns-clause-content : goal.returns-clause-content

@@ -1,4 +1,4 @@
-use Rattle.std.proofs.Common.{◌∙◌}
+use Rattle.std.proofs.Common.{◌∙◌, sym}
 use Rattle.node_list.specs.Seen.{seen}
 use Rattle.list_steps.proofs.NodeLemmas.{is_linked, next_linked, next_node, no_place, node_at}
 use Rattle.list_steps.proofs.SeekLemmas.{behind_next}
@@ -13,30 +13,30 @@ node-requires c = is_linked _ _ _ c.walk.invariant.at
 
 pub node-requires-in-Some : goal.node-requires-in-Some
 node-requires-in-Some c =
-    next_linked _ _ _ c.node.ensures.sound.spread (c.node.ensures.next ∙ c.in-Some.is)
+    next_linked _ _ _ c.node.ensures.sound.spread (c.node.ensures.next ∙ sym c.in-Some.ensures)
 
 pub walk-smaller : goal.walk-smaller
 walk-smaller c =
-    let next = next_node _ _ _ c.node.ensures.sound.spread (c.node.ensures.next ∙ c.in-Some.is) _ c.node-in-Some.ensures.node in
+    let next = next_node _ _ _ c.node.ensures.sound.spread (c.node.ensures.next ∙ sym c.in-Some.ensures) _ c.node-in-Some.ensures.node in
     behind_next _ _ _ _ (node_at _ _ _ c.walk.invariant.at) next c.node.ensures.sound.spread
 
 pub walk-preserved : goal.walk-preserved
 walk-preserved c =
-    let next = next_node _ _ _ c.node.ensures.sound.spread (c.node.ensures.next ∙ c.in-Some.is) _ c.node-in-Some.ensures.node in
+    let next = next_node _ _ _ c.node.ensures.sound.spread (c.node.ensures.next ∙ sym c.in-Some.ensures) _ c.node-in-Some.ensures.node in
     sweeping_passed _ _ c.walk.invariant _ c.node.ensures.sound.spread next c.if-node.false
 
 pub returns-then-node-clause-marked : goal.returns-then-node-clause-marked
 returns-then-node-clause-marked c =
     record {
       node = seen c.in-Some.next c.node-in-Some.result.now;
-      next = next_node _ _ _ c.node.ensures.sound.spread (c.node.ensures.next ∙ c.in-Some.is) _ c.node-in-Some.ensures.node;
+      next = next_node _ _ _ c.node.ensures.sound.spread (c.node.ensures.next ∙ sym c.in-Some.ensures) _ c.node-in-Some.ensures.node;
       marked = c.if-node.true;
     }
 
 pub returns-then-node-clause-first : goal.returns-then-node-clause-first
 returns-then-node-clause-first c =
-    let next = next_node _ _ _ c.node.ensures.sound.spread (c.node.ensures.next ∙ c.in-Some.is) _ c.node-in-Some.ensures.node in
+    let next = next_node _ _ _ c.node.ensures.sound.spread (c.node.ensures.next ∙ sym c.in-Some.ensures) _ c.node-in-Some.ensures.node in
     sweeping_found _ _ c.walk.invariant _ next c.if-node.true
 
 pub unreachable-requires : goal.unreachable-requires
-unreachable-requires c = c.requires.some (sweeping_ends _ _ c.walk.invariant (no_place _ (c.node.ensures.next ∙ c.in_default.is)))
+unreachable-requires c = c.requires.some (sweeping_ends _ _ c.walk.invariant (no_place _ (c.node.ensures.next ∙ sym c.next.ensures ∙ c.in_default.is)))

@@ -1,11 +1,8 @@
-use Rattle.std.proofs.Common.{◌≡◌, length, arith}
-use Rattle.std.proofs.lemmas.List.{length-map}
-use Rattle.piece_files.specs.Members.{kind_named}
-use Rattle.piece_files.proofs.Taken.{nothing_found}
+use Rattle.serde_json.specs.Data.{object}
+use Rattle.piece_files.proofs.PlainLemmas.{its_some}
 use Rattle.piece_files.proofs.members.members_in.Goals as goal
 
-pub take_value-requires : goal.take_value-requires
-take_value-requires g c =
-    let kind = kind_named c.args.names g.K.PieceKind.of g.K.PieceKind.is_old g.K.PieceKind.part g.K.PieceKind.most in
-    let same : length kind.numbers ≡ g.row.N = rw length-map c.requires.many in
-    (omega arith, (c.requires.many, (c.requires.apart, nothing_found kind g.row.N same)))
+pub returns-in-Some : goal.returns-in-Some
+returns-in-Some g c =
+    let w = its_some _ c.in_ok-plain.plain c.in-Some.found c.in-Some.is c.in_ok-plain.ensures in
+    (object w.0, w.1, w.2)

@@ -8,5 +8,5 @@ abbrev pub invariant-loop-number : goal.invariant-loop-number
 invariant-loop-number l = record {
   size : length l.workers.items ≡ l.number;
   first : l.workers.items ≡ first_crew l.scripts l.limits l.number;
-  each : (w : ℕ) (other : Worker) → w < length l.workers.items → IsMember l.scripts l.limits.callers [] w (get_or l.workers.items w other);
+  each : (tries w : ℕ) (other : Worker) → w < length l.workers.items → IsMember l.scripts tries l.limits.callers [] w (get_or l.workers.items w other);
 }

@@ -1,22 +1,23 @@
-use Rattle.std.proofs.Common.{◌≡◌, ◌∙◌, inl, inr, ◌%◌, List, [], ◌∷◌, refl, sym, ap, subst, arith}
+use Rattle.std.proofs.Common.{◌≡◌, ◌∙◌, ◌<◌, inl, inr, List, [], ◌∷◌, length, refl, sym, ap, subst, arith}
 use Rattle.rand_pcg.specs.Pcg.{pcg32}
 use Rattle.txn_trace.specs.Legal.{IsLegal}
 use Rattle.boost_core.specs.Machine.{State, holder_by, start}
 use Rattle.script_worker.specs.declared.worker.Worker.{Worker}
-use Rattle.script_mix.specs.Crews.{Goes, IsMixed}
-use Rattle.script_mix.specs.Turns.{live, AreDone, IsAtPlace}
-use Rattle.script_mix.proofs.Turns.{crew_goes, crew_plays, member_keeps}
-use Rattle.script_mix.proofs.Lives.{drawn_lives}
-use Rattle.script_mix.proofs.Mixings.{begins, crew_begins, crew_first, turn_of_work}
+use Rattle.script_mix.specs.Crews.{IsMixed}
+use Rattle.script_mix.specs.Turns.{live, live_from}
+use Rattle.script_mix.proofs.Turns.{crew_goes, crew_plays, crew_told, member_keeps}
+use Rattle.script_mix.proofs.Lives.{all_done, drawn, drawn_at, drawn_lives, kept, length-live, removed}
+use Rattle.script_mix.proofs.Mixings.{begins, crew_begins, crew_first, goes_of_work, turn_of_work}
 use Rattle.script_mix.proofs.mix.mix_scripts.Goals as goal
-use Rattle.script_mix.proofs.mix.mix_scripts.Goals.{else-loop-turn-test, then-loop-turn-test+in_default-draw_worker}
+use Rattle.script_mix.proofs.mix.mix_scripts.Goals.{then-not-lives, else-not-lives, else-loop-turn-test, then-loop-turn-test+in_default-draw_place}
 
 pub loop-turn-init : goal.loop-turn-init
 loop-turn-init c =
     let core_is : c.in-Ok.core ≡ start c.args.work.now.sizes = c.in-Ok.ensures ∙ ap start c.limits-limits.ensures in
     record {
       limits = ap (λ (s : State). s.limits) core_is;
-      crew = crew_begins c.scripts.result.now c.args.work.now.scripts c.limits-limits.result c.args.work.now.sizes c.in-Ok.core.history c.in_ok-workers.workers.items c.scripts.ensures c.limits-limits.ensures (sym (ap (λ (s : State). s.history) core_is)) c.in_ok-workers.ensures.crew;
+      crew = crew_begins c.scripts.result.now c.args.work.now.scripts c.args.work.now.tries c.limits-limits.result c.args.work.now.sizes c.in-Ok.core.history c.in_ok-workers.workers.items c.scripts.ensures c.limits-limits.ensures (sym (ap (λ (s : State). s.history) core_is)) (c.in_ok-workers.ensures.crew c.args.work.now.tries);
+      live = c.in_ok-live.ensures ∙ ap (λ (ws : List Worker). live_from 0 ws) c.deref.ensures.value;
       turns = (
         [],
         refl,
@@ -26,42 +27,55 @@ loop-turn-init c =
       );
     }
 
-pub take_turn-requires-clause-live : goal.take_turn-requires-clause-live
-take_turn-requires-clause-live c =
-    let drawn : IsAtPlace c.loop-turn.workers.items ((pcg32 c.loop-turn.generator).0 % live c.loop-turn.workers.items) c.in-Some.number =
-    subst (λ (ws : List Worker). IsAtPlace ws ((pcg32 c.loop-turn.generator).0 % live ws) c.in-Some.number) c.deref.ensures.value c.in-Some.ensures.drawn in
-    drawn_lives c.loop-turn.workers.items _ c.in-Some.number c.index_mut.result.now c.index_mut.ensures.value drawn
+pub index_mut-requires : goal.index_mut-requires
+index_mut-requires c =
+    let found = drawn c.loop-turn.workers.items c.loop-turn.live.items c.in-Some.place c.index-number.result.now c.loop-turn.invariant.live (subst (λ ns. c.in-Some.place < length ns) c.deref-in-loop-turn.ensures.value c.in-Some.ensures.below) c.index-number.ensures in
+    let within = found.within in
+    let len = c.loop-turn.workers.ok.0 in
+    omega (arith, within, len)
 
-pub take_turn-requires-clause-keeps : goal.take_turn-requires-clause-keeps
-take_turn-requires-clause-keeps c =
-    let drawn : IsAtPlace c.loop-turn.workers.items ((pcg32 c.loop-turn.generator).0 % live c.loop-turn.workers.items) c.in-Some.number =
-    subst (λ (ws : List Worker). IsAtPlace ws ((pcg32 c.loop-turn.generator).0 % live ws) c.in-Some.number) c.deref.ensures.value c.in-Some.ensures.drawn in
-    member_keeps c.scripts-in-loop-turn.result.now c.args.work.now.scripts c.args.work.now.sizes.callers c.in-Some.number c.loop-turn.core.history c.loop-turn.workers.items c.index_mut.result.now c.scripts-in-loop-turn.ensures drawn.within c.index_mut.ensures.value
+pub take_turn-lives-requires-clause-live : goal.take_turn-lives-requires-clause-live
+take_turn-lives-requires-clause-live c =
+    drawn_lives c.loop-turn.workers.items c.in-Some.place c.index-number.result.now c.index_mut.result.now c.index_mut.ensures.value
+    (drawn c.loop-turn.workers.items c.loop-turn.live.items c.in-Some.place c.index-number.result.now c.loop-turn.invariant.live (subst (λ ns. c.in-Some.place < length ns) c.deref-in-loop-turn.ensures.value c.in-Some.ensures.below) c.index-number.ensures)
+
+pub take_turn-lives-requires-clause-keeps : goal.take_turn-lives-requires-clause-keeps
+take_turn-lives-requires-clause-keeps c =
+    let found = drawn c.loop-turn.workers.items c.loop-turn.live.items c.in-Some.place c.index-number.result.now c.loop-turn.invariant.live (subst (λ ns. c.in-Some.place < length ns) c.deref-in-loop-turn.ensures.value c.in-Some.ensures.below) c.index-number.ensures in
+    member_keeps c.scripts-in-loop-turn.result.now c.args.work.now.scripts c.tries.result c.args.work.now.tries c.args.work.now.sizes.callers c.index-number.result.now c.loop-turn.core.history c.loop-turn.workers.items c.index_mut.result.now c.scripts-in-loop-turn.ensures c.tries.ensures found.within c.index_mut.ensures.value
     c.loop-turn.invariant.crew
 
 pub loop-turn-preserved : goal.loop-turn-preserved
 loop-turn-preserved c =
-    let drawn : IsAtPlace c.loop-turn.workers.items ((pcg32 c.loop-turn.generator).0 % live c.loop-turn.workers.items) c.in-Some.number =
-    subst (λ (ws : List Worker). IsAtPlace ws ((pcg32 c.loop-turn.generator).0 % live ws) c.in-Some.number) c.deref.ensures.value c.in-Some.ensures.drawn in
-    let goes = subst (λ scripts. Goes scripts c.loop-turn.core c.take_turn.new.core c.index_mut.result.now c.take_turn.new.worker) c.scripts-in-loop-turn.ensures c.take_turn.ensures.goes in
+    let found = drawn c.loop-turn.workers.items c.loop-turn.live.items c.in-Some.place c.index-number.result.now c.loop-turn.invariant.live (subst (λ ns. c.in-Some.place < length ns) c.deref-in-loop-turn.ensures.value c.in-Some.ensures.below) c.index-number.ensures in
+    let turn = c.take_turn-lives.ensures in
+    let goes = goes_of_work c.scripts-in-loop-turn.result.now c.args.work.now.scripts c.tries.result c.args.work.now.tries c.loop-turn.core c.take_turn-lives.new.core c.index_mut.result.now c.take_turn-lives.new.worker c.scripts-in-loop-turn.ensures c.tries.ensures turn.goes in
     let (numbers, count, turns) = c.loop-turn.invariant.turns in
     record {
       limits = goes.limits ∙ c.loop-turn.invariant.limits;
-      crew = crew_goes c.args.work.now.scripts c.args.work.now.sizes.callers c.in-Some.number c.loop-turn.core c.take_turn.new.core c.loop-turn.workers.items c.index_mut.result.now c.take_turn.new.worker drawn.within c.index_mut.ensures.value c.loop-turn.invariant.crew goes;
+      crew = crew_goes c.args.work.now.scripts c.args.work.now.tries c.args.work.now.sizes.callers c.index-number.result.now c.loop-turn.core c.take_turn-lives.new.core c.loop-turn.workers.items c.index_mut.result.now c.take_turn-lives.new.worker found.within c.index_mut.ensures.value c.loop-turn.invariant.crew goes turn.ready;
+      live = elim c.if-not-lives.branch [
+        | then-not-lives w ↦
+            removed c.loop-turn.workers.items c.loop-turn.live.items c.if-not-lives.live.items c.in-Some.place c.index-number.result.now c.index_mut.result.now c.take_turn-lives.new.worker c.loop-turn.invariant.live c.index_mut.ensures.value found
+            (sym turn.lives ∙ w.if-not-lives.true) (ap (λ v. v.items) w.live-is ∙ w.remove.ensures.items)
+        | else-not-lives w ↦
+            ap (λ v. v.items) w.live-is
+            ∙ kept c.loop-turn.workers.items c.loop-turn.live.items c.in-Some.place c.index-number.result.now c.index_mut.result.now c.take_turn-lives.new.worker c.loop-turn.invariant.live c.index_mut.ensures.value found (sym turn.lives ∙ w.if-not-lives.false)
+      ];
       turns = (
-        c.in-Some.number ∷ numbers,
+        c.index-number.result.now ∷ numbers,
         omega (arith, count),
         (
           record { core = c.loop-turn.core; crew = c.loop-turn.workers.items; generator = c.loop-turn.generator },
           turns,
           record {
-            drawn = drawn;
+            drawn = drawn_at c.loop-turn.workers.items c.loop-turn.live.items _ (pcg32 c.loop-turn.generator).0 c.in-Some.place c.index-number.result.now c.loop-turn.invariant.live c.deref-in-loop-turn.ensures.value c.in-Some.ensures.drawn found;
             generator = c.in-Some.ensures.generator;
             before = c.index_mut.result.now;
-            after = c.take_turn.new.worker;
+            after = c.take_turn-lives.new.worker;
             worker = c.index_mut.ensures.value;
-            turn = turn_of_work c.scripts-in-loop-turn.result.now c.args.work.now.scripts c.tries.result c.args.work.now.tries c.loop-turn.core c.take_turn.new.core c.index_mut.result.now c.take_turn.new.worker
-                c.scripts-in-loop-turn.ensures c.tries.ensures c.take_turn.ensures.takes;
+            turn = turn_of_work c.scripts-in-loop-turn.result.now c.args.work.now.scripts c.tries.result c.args.work.now.tries c.loop-turn.core c.take_turn-lives.new.core c.index_mut.result.now c.take_turn-lives.new.worker
+                c.scripts-in-loop-turn.ensures c.tries.ensures turn.takes;
             crew = refl;
           },
         ),
@@ -72,17 +86,21 @@ pub returns : goal.returns
 returns c =
     let (numbers, count, turns) = c.loop-turn.invariant.turns in
     let is : c.into_core-core.result ≡ c.loop-turn.core = c.into_core-core.ensures.value in
+    let legal = subst (λ (s : State). IsLegal (holder_by s.words) s.limits.stripes s.history) is c.trace-history.ensures.legal in
     subst (IsMixed c.args.work.now c.args.seed) (sym is) (record {
       limits = c.loop-turn.invariant.limits;
       words = ap (λ (s : State). s.words) (sym is) ∙ c.into_core-core.ensures.ordinary;
-      plays = crew_plays c.args.work.now.sizes c.args.work.now.scripts c.args.work.now.sizes.callers c.loop-turn.core.limits.stripes c.loop-turn.core.history c.loop-turn.workers.items
-          (subst (λ (s : State). IsLegal (holder_by s.words) s.limits.stripes s.history) is c.trace-history.ensures.legal) c.loop-turn.invariant.crew;
+      plays = crew_plays c.args.work.now.sizes c.args.work.now.scripts c.args.work.now.tries c.args.work.now.sizes.callers c.loop-turn.core.limits.stripes c.loop-turn.core.history c.loop-turn.workers.items legal c.loop-turn.invariant.crew;
+      told = crew_told c.args.work.now.sizes c.args.work.now.scripts c.args.work.now.tries c.args.work.now.sizes.callers c.loop-turn.core.limits.stripes c.loop-turn.core.history c.loop-turn.workers.items legal c.loop-turn.invariant.crew;
       drawn = numbers;
       last = record { core = c.loop-turn.core; crew = c.loop-turn.workers.items; generator = c.loop-turn.generator };
       core = refl;
       turns = turns;
       ended = elim c.loop-turn-test.branch [
         | else-loop-turn-test w ↦ inr (omega (arith, count, w.loop-turn-test.false, c.loop-turn.auto._turn-end))
-        | then-loop-turn-test+in_default-draw_worker w ↦ inl (subst (λ (ws : List Worker). (live ws ≡ 0) × AreDone ws) w.deref.ensures.value (w.draw_worker.ensures.none w.in_default-draw_worker.is))
+        | then-loop-turn-test+in_default-draw_place w ↦
+            let none : live c.loop-turn.workers.items ≡ 0 =
+            sym (length-live 0 c.loop-turn.workers.items) ∙ ap length (sym c.loop-turn.invariant.live ∙ sym w.deref-in-loop-turn.ensures.value ∙ w.draw_place.ensures.none w.in_default-draw_place.is) in
+            inl (none, all_done c.loop-turn.workers.items (λ i d within. (c.loop-turn.invariant.crew.each i d within).ready) none)
       ];
     })

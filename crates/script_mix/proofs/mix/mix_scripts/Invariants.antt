@@ -1,11 +1,12 @@
 use Rattle.std.proofs.Common.{◌≡◌, ℕ, List, length}
 use Rattle.script_mix.specs.Crews.{IsCrew}
-use Rattle.script_mix.specs.Turns.{beginning, TakeDrawn}
+use Rattle.script_mix.specs.Turns.{live_from, beginning, TakeDrawn}
 use Rattle.script_mix.proofs.mix.mix_scripts.Given as goal
 
 abbrev pub invariant-loop-turn : goal.invariant-loop-turn
 invariant-loop-turn l = record {
   limits : l.core.limits ≡ l.work.sizes;
-  crew : IsCrew l.work.scripts l.work.sizes.callers l.core.history l.workers.items;
+  crew : IsCrew l.work.scripts l.work.tries l.work.sizes.callers l.core.history l.workers.items;
+  live : l.live.items ≡ live_from 0 l.workers.items;
   turns : (drawn : List ℕ) × (length drawn ≡ l._turn) × TakeDrawn l.work.scripts l.work.tries (beginning l.work l.seed) drawn (record { core = l.core; crew = l.workers.items; generator = l.generator });
 }

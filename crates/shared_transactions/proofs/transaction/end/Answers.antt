@@ -7,4 +7,4 @@ returns-in-Err-clause-err g c =
 
 pub returns-in-Ok-clause-ok : goal.returns-in-Ok-clause-ok
 returns-in-Ok-clause-ok g c =
-    committed c.args.me.now c.commit.new.me _ _ c.in-Ok.ensures.ok.0 c.in-Ok.ensures.ok.1 c.in-Ok.ensures.leaves.by_result
+    committed c.args.me.now c.commit.new.me _ _ c.in-Ok.ensures.ok.0 c.in-Ok.ensures.ok.1 c.in-Ok.ensures.claims c.in-Ok.ensures.leaves.by_result

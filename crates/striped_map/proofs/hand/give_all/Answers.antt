@@ -22,7 +22,7 @@ give-requires-clause-settled c = let inv = c.loop-one.invariant in let n = c.arg
     let h : Held = c.in-Some.one in
     record {
       fits = λ q in_k. ap (λ (m : Map). get m (q / n)) c.settle.ensures.content ∙ newest_fits n v c.pop.new.self.items (now v.seen) h (subst (λ (l : List Held). AreHeld n v l (now v.seen)) c.in-Some.ensures.items inv.parts) q in_k;
-      settled = c.settle.ensures.log;
+      settled = c.settle.ensures.owed;
     }
 
 pub loop-one-preserved : goal.loop-one-preserved

@@ -42,7 +42,7 @@ add-self-inside-requires c =
     called _ c.self.invariant.tells c.index_mut-session.result.now c.answer-answer.new.self c.answer-answer.new.table c.answer-answer.new.locks c.answer-answer.ensures.placed c.answer-answer.ensures.rises c.args.claim c.args.caller c.args.step c.requires.owner at none (some_stripe c.self.inside.limits.callers c.self.inside.limits.stripes c.self.inside.limits.buckets c.stripes.ensures.limits) (claims_of c.args.claim _ _ c.args.step c.self.view_is c.requires.claim) c.answer-answer.result
     (subst (λ s. Does c.args.claim s c.self.inside.counts c.args.step c.index_mut-session.result.now c.self.inside.table c.self.inside.locks c.answer-answer.result c.answer-answer.new.self c.answer-answer.new.table c.answer-answer.new.locks) (c.from-stripes.ensures ∙ c.stripes.ensures.value) c.answer-answer.ensures.does) in
     let room = when_ok c.reserve.result c.if-is_err.ensures.value c.reserve.ensures.ok in
-    can_add _ c.self.invariant.tells c.args.caller c.index_mut-session.result.now c.answer-answer.new.self at c.args.step c.answer-answer.result c.answer-answer.new.table c.answer-answer.new.locks is c.entry_of-entry.result c.entry_of-entry.ensures (vec_len c.reserve.new.self) (vec_capacity c.reserve.new.self) c.self.inside.owed c.self.invariant.owes (omega (arith, room, c.entry_room.ensures)) (omega (arith, c.reserve.new.self.ok, c.reserve.new.self.small))
+    can_add _ c.self.invariant.tells c.args.caller c.index_mut-session.result.now c.answer-answer.new.self at c.args.step c.answer-answer.result c.answer-answer.new.table c.answer-answer.new.locks is c.entry_of-entry.result c.entry_of-entry.ensures (vec_len c.reserve.new.self) (vec_capacity c.reserve.new.self) c.self.inside.owed c.self.invariant.owes (omega (arith, room, c.entry_room.ensures)) (omega (arith, c.reserve.new.self.ok, c.reserve.new.self.small)) (few_callers c.self.inside.limits.callers c.self.inside.limits.stripes c.self.inside.limits.buckets c.stripes.ensures.limits)
 
 pub invariant_of-self-2 : goal.invariant_of-self-2
 invariant_of-self-2 c =

@@ -1,4 +1,4 @@
-use Rattle.std.proofs.Common.{◌≡◌, ◌-◌, ap, arith}
+use Rattle.std.proofs.Common.{◌≡◌, ◌-◌, ◌∙◌, sym, ap, arith}
 use Rattle.split_key.specs.declared.sort.SortKey.{SortKey}
 use Rattle.node_list.proofs.CallLemmas.{slot_linked, behind_linked, behind_place, behind_slot, behind_at, unlinked}
 use Rattle.node_list.proofs.TallyLemmas.{tallied_unlinked, tallied_some}
@@ -13,7 +13,7 @@ pub node_at-behind-requires : goal.node_at-behind-requires
 node_at-behind-requires c =
     let behind = rw (← c.self.view_is) at c.requires in
     let is_before = rw c.place.ensures at c.node_at.ensures in
-    rw c.place-in-Some.ensures (behind_slot _ _ c.self.inside.changes _ _ _ c.self.invariant.kept _ _ _ (behind_linked _ _ _ behind) is_before c.in-Some.is)
+    rw c.place-in-Some.ensures (behind_slot _ _ c.self.inside.changes _ _ _ c.self.invariant.kept _ _ _ (behind_linked _ _ _ behind) is_before (sym c.in-Some.ensures))
 
 pub replace_next-requires : goal.replace_next-requires
 replace_next-requires c =
@@ -25,7 +25,7 @@ take_away-requires c =
     let behind = rw (← c.self.view_is) at c.requires in
     let is_before = rw c.place.ensures at c.node_at.ensures in
     let is_behind = rw c.place-in-Some.ensures at c.node_at-behind.ensures in
-    let at = behind_at _ _ c.self.inside.changes _ _ _ c.self.invariant.kept _ _ _ _ behind is_before c.in-Some.is is_behind in
+    let at = behind_at _ _ c.self.inside.changes _ _ _ c.self.invariant.kept _ _ _ _ behind is_before (sym c.in-Some.ensures) is_behind in
     let split = ap (λ (k : SortKey). k.split) at in
     rw c.split.ensures (tallied_some c.self.inside.marks _ _ _ _ c.self.invariant.tallied behind.next behind.marked split)
 
@@ -36,8 +36,8 @@ invariant_of-self c =
     let is_behind = rw c.place-in-Some.ensures at c.node_at-behind.ensures in
     let passed = rw c.place-in-Some-2.ensures at c.replace_next.ensures.now c.node_at.result.now in
     let freed = rw c.place-in-Some-3.ensures at c.try_remove.ensures.updates in
-    let now = unlinked _ _ c.self.inside.changes _ _ _ c.self.invariant.kept _ _ _ _ _ _ behind is_before c.in-Some.is is_behind (passed is_before) freed in
-    let at = behind_at _ _ c.self.inside.changes _ _ _ c.self.invariant.kept _ _ _ _ behind is_before c.in-Some.is is_behind in
+    let now = unlinked _ _ c.self.inside.changes _ _ _ c.self.invariant.kept _ _ _ _ _ _ behind is_before (sym c.in-Some.ensures) is_behind (passed is_before) freed in
+    let at = behind_at _ _ c.self.inside.changes _ _ _ c.self.invariant.kept _ _ _ _ behind is_before (sym c.in-Some.ensures) is_behind in
     let split = ap (λ (k : SortKey). k.split) at in
     let less : c.take_away.new.self.total ≡ c.self.inside.marks.total - 1 = omega (arith, c.take_away.ensures.total) in
     let fewer = rw c.split.ensures at c.take_away.ensures.counts in
@@ -53,7 +53,7 @@ returns-in-Some-clause-unlinked c =
     let is_behind = rw c.place-in-Some.ensures at c.node_at-behind.ensures in
     let passed = rw c.place-in-Some-2.ensures at c.replace_next.ensures.now c.node_at.result.now in
     let freed = rw c.place-in-Some-3.ensures at c.try_remove.ensures.updates in
-    rw (c.advance.ensures.next, ← c.self.view_is) ((unlinked _ _ _ _ _ _ c.self.invariant.kept _ _ _ _ _ _ behind is_before c.in-Some.is is_behind (passed is_before) freed).1)
+    rw (c.advance.ensures.next, ← c.self.view_is) ((unlinked _ _ _ _ _ _ c.self.invariant.kept _ _ _ _ _ _ behind is_before (sym c.in-Some.ensures) is_behind (passed is_before) freed).1)
 
 pub returns-in-Some-clause-follows : goal.returns-in-Some-clause-follows
 returns-in-Some-clause-follows c =
@@ -62,10 +62,10 @@ returns-in-Some-clause-follows c =
     let is_behind = rw c.place-in-Some.ensures at c.node_at-behind.ensures in
     let passed = rw c.place-in-Some-2.ensures at c.replace_next.ensures.now c.node_at.result.now in
     let freed = rw c.place-in-Some-3.ensures at c.try_remove.ensures.updates in
-    rw (c.advance.ensures.next, ← c.self.view_is) ((unlinked _ _ _ _ _ _ c.self.invariant.kept _ _ _ _ _ _ behind is_before c.in-Some.is is_behind (passed is_before) freed).2 c.advance.ensures.fits)
+    rw (c.advance.ensures.next, ← c.self.view_is) ((unlinked _ _ _ _ _ _ c.self.invariant.kept _ _ _ _ _ _ behind is_before (sym c.in-Some.ensures) is_behind (passed is_before) freed).2 c.advance.ensures.fits)
 
 pub returns-in_default-clause-unlinked : goal.returns-in_default-clause-unlinked
 returns-in_default-clause-unlinked c =
     let behind = rw (← c.self.view_is) at c.requires in
     let is_before = rw c.place.ensures at c.node_at.ensures in
-    absurd (c.in_default.not-Some _ (behind_place _ _ c.self.inside.changes _ _ _ c.self.invariant.kept _ _ behind is_before))
+    absurd (c.in_default.not-Some _ (c.next.ensures ∙ behind_place _ _ c.self.inside.changes _ _ _ c.self.invariant.kept _ _ behind is_before))

@@ -24,7 +24,7 @@ pub returns-clause-keeps : goal.returns-clause-keeps
 returns-clause-keeps c = λ seen step is keeps.
     let told : c.told.new.self ≡ told_by c.args.scripts.now c.args.tries c.args.self.now c.args.answer =
     c.told.ensures.worker ∙ ap (λ (worker : Standing). told_by c.args.scripts.now c.args.tries worker c.args.answer) c.self.view_is in
-    subst (λ (worker : Standing). Keeps c.args.scripts.now worker (seen ++ entries_of step c.args.answer)) (sym told) (told_keeps c.args.scripts.now c.args.tries c.args.self.now c.args.answer seen step is keeps)
+    subst (λ (worker : Standing). Keeps c.args.scripts.now c.args.tries worker (seen ++ entries_of step c.args.answer)) (sym told) (told_keeps c.args.scripts.now c.args.tries c.args.self.now c.args.answer seen step is keeps)
 
 pub returns-clause-number : goal.returns-clause-number
 returns-clause-number c =

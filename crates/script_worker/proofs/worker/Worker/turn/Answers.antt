@@ -16,6 +16,6 @@ pub returns-clause-step : goal.returns-clause-step
 returns-clause-step c = c.turn.ensures.step c.self.invariant
 
 pub returns-clause-keeps : goal.returns-clause-keeps
-returns-clause-keeps c = λ scripts seen keeps.
-    subst (λ worker. Keeps scripts worker seen) (sym c.turn.ensures.worker)
-    (sized_keeps c.args.size scripts c.self.inside.standing seen (subst (λ (worker : Standing). Keeps scripts worker seen) (sym c.self.view_is) keeps))
+returns-clause-keeps c = λ scripts tries seen keeps.
+    subst (λ worker. Keeps scripts tries worker seen) (sym c.turn.ensures.worker)
+    (sized_keeps c.args.size scripts tries c.self.inside.standing seen (subst (λ (worker : Standing). Keeps scripts tries worker seen) (sym c.self.view_is) keeps))

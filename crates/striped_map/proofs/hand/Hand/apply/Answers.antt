@@ -9,7 +9,7 @@ use Rattle.striped_map.specs.declared.held.Held.{Held}
 use Rattle.striped_map.specs.Additions.{due}
 use Rattle.striped_map.specs.Handling.{under}
 use Rattle.striped_map.specs.Seats.{known}
-use Rattle.striped_map.specs.Sound.{IsSound}
+use Rattle.striped_map.specs.Sound.{Change, IsSound}
 use Rattle.striped_map.specs.Steps.{noting, seat_of}
 use Rattle.striped_map.proofs.Hands.{part_at, place_in, read_at, stripe_at, holds_at, some_same, reply_right, parts_noted, logged_noted, stripes_set}
 use Rattle.striped_map.proofs.Index.{indexed_same}
@@ -40,12 +40,13 @@ invariant_of-self-then-changes c = let me = c.args.self.now in let n = c.args.ma
     let sub = c.under.ensures ∙ ap (under op) c.requires.sub_key in
     let does : Does h.part c.apply.new.self (under op (key_of op / n)) reply = subst (λ (o : Op). Does h.part c.apply.new.self o reply) sub c.in_ok-reply.ensures.ok in
     let new : Held = record { stripe = h.stripe; part = c.apply.new.self } in
-    let later : List ℕ = me.order.items ++ c.args.place ∷ [] in
+    let later : List Change = me.order.items ++ (c.args.place, key_of op / n, reply) ∷ [] in
     let changed : changes op reply ≡ true = sym c.changes.ensures ∙ c.if-changes.true in
-    let order : c.push_reserved.new.self.items ≡ cond (changes op reply) later me.order.items = c.push_reserved.ensures.items ∙ sym (ap (λ (b : Bool). cond b later me.order.items) changed) in
+    let noted : c.push_reserved.new.self.items ≡ later = c.push_reserved.ensures.items ∙ ap (λ (k : ℕ). me.order.items ++ (c.args.place, k, reply) ∷ []) c.requires.sub_key in
+    let order : c.push_reserved.new.self.items ≡ cond (changes op reply) later me.order.items = noted ∙ sym (ap (λ (b : Bool). cond b later me.order.items) changed) in
     record {
       sound = subst (λ z. IsSound z.slots w (set held c.args.place new) c.push_reserved.new.self.items me.levels.items) (sym c.add.ensures.seat)
-          (subst (λ (l : List ℕ). IsSound n w (set held c.args.place new) l me.levels.items) (sym order)
+          (subst (λ (l : List Change). IsSound n w (set held c.args.place new) l me.levels.items) (sym order)
           (sound_added n v w _ (noting v (seat_of v) op reply) (set held c.args.place new) (cond (changes op reply) later me.order.items) me.levels.items c.add.ensures.added
           (parts_noted n v held (now v.seen) s.parts c.args.place h c.apply.new.self op reply at in_k does)
           (logged_noted n v held (now v.seen) me.order.items (due v) s.parts s.logged c.args.place h c.apply.new.self op reply at in_k does) s.levelled));
@@ -62,12 +63,12 @@ invariant_of-self-else-changes c = let me = c.args.self.now in let n = c.args.ma
     let sub = c.under.ensures ∙ ap (under op) c.requires.sub_key in
     let does : Does h.part c.apply.new.self (under op (key_of op / n)) reply = subst (λ (o : Op). Does h.part c.apply.new.self o reply) sub c.in_ok-reply.ensures.ok in
     let new : Held = record { stripe = h.stripe; part = c.apply.new.self } in
-    let later : List ℕ = me.order.items ++ c.args.place ∷ [] in
+    let later : List Change = me.order.items ++ (c.args.place, key_of op / n, reply) ∷ [] in
     let changed : changes op reply ≡ false = sym c.changes.ensures ∙ c.if-changes.false in
     let order : me.order.items ≡ cond (changes op reply) later me.order.items = sym (ap (λ (b : Bool). cond b later me.order.items) changed) in
     record {
       sound = subst (λ z. IsSound z.slots w (set held c.args.place new) me.order.items me.levels.items) (sym c.add.ensures.seat)
-          (subst (λ (l : List ℕ). IsSound n w (set held c.args.place new) l me.levels.items) (sym order)
+          (subst (λ (l : List Change). IsSound n w (set held c.args.place new) l me.levels.items) (sym order)
           (sound_added n v w _ (noting v (seat_of v) op reply) (set held c.args.place new) (cond (changes op reply) later me.order.items) me.levels.items c.add.ensures.added
           (parts_noted n v held (now v.seen) s.parts c.args.place h c.apply.new.self op reply at in_k does)
           (logged_noted n v held (now v.seen) me.order.items (due v) s.parts s.logged c.args.place h c.apply.new.self op reply at in_k does) s.levelled));

@@ -26,7 +26,7 @@ give_all-requires-clause-parts c = let me = c.args.self.now in let n = c.args.ma
     let many = order_length n me.held.items me.order.items (due v) s.logged in
     let o = me.order.ok.0 in
     let all : take (vec_len me.order - 0) (due v) ≡ due v = take_all (vec_len me.order - 0) (due v) (omega arith) in
-    let taken : AreHeld n v c.take_back.new.held.items (undone (now v.seen) (take (vec_len me.order - 0) (due v))) = subst (λ (k : ℕ). AreHeld k v c.take_back.new.held.items (undone (now v.seen) (take (vec_len me.order - 0) (due v)))) c.stripes.ensures c.take_back.ensures.parts in
+    let taken : AreHeld n v c.take_back.new.held.items (undone (now v.seen) (take (vec_len me.order - 0) (due v))) = subst (λ (k : ℕ). AreHeld k v c.take_back.new.held.items (undone (now v.seen) (take (vec_len me.order - 0) (due v)))) c.stripes-stripes.ensures c.take_back.ensures.parts in
     let back : AreHeld n v c.take_back.new.held.items (undone (now v.seen) (due v)) = subst (λ (jobs : List Job). AreHeld n v c.take_back.new.held.items (undone (now v.seen) jobs)) all taken in
     let left : AddsIn n v (entries_of v c.args.what) (at_end (undone (now v.seen) (due v))) w = subst (λ (l : Standing). AddsIn n v (entries_of v c.args.what) l w) (left_end v c.args.what c.requires.may) a in
     parts_on n v w c.take_back.new.held.items (undone (now v.seen) (due v)) (now w.seen) back (ap (λ (x : View). x.held) a.view_is) left.have

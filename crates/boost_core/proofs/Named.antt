@@ -1,0 +1,44 @@
+-- The holder that a Busy entry names is one of the callers, so the entries of a core are small.
+use Rattle.std.proofs.Common.{◌≡◌, ℕ, ◌<◌, ◌≤◌, ◌==◌, ◌&&◌, Bool, true, false, not, List, [], ◌∷◌, ◌++◌, arith}
+use Rattle.std.specs.List.{All}
+use Rattle.std.proofs.lemmas.Bool.{false≢true, and_parts, or_cases, eqb-true}
+use Rattle.std.proofs.lemmas.List.{append-nil}
+use Rattle.std.proofs.lemmas.List.Elements.{All-head, All-tail}
+use mathlib.Core.Logic.{inl, inr}
+use Rattle.txn_trace.specs.declared.entry.Entry.{Entry}
+use Rattle.txn_trace.specs.declared.entry.Entry.TheVariants.{Busy}
+use Rattle.txn_trace.specs.declared.holder.Holder.TheVariants.{Begun}
+use Rattle.txn_trace.specs.History.{caller_of, is_began}
+use Rattle.txn_trace.specs.Locks.{has_begun, is_locked}
+use Rattle.txn_trace.specs.Legal.{IsLegal}
+use Rattle.txn_trace.specs.Packed.{holder_in, is_small}
+use Rattle.txn_trace.proofs.Naming.{legal_begun}
+use Rattle.txn_trace.proofs.Packing.{small_of}
+use Rattle.boost_core.specs.State.{holder_by}
+
+-- A history that is legal by either rule is legal by the wider one.
+wider : (words : Bool) (stripes : ℕ) (h : List Entry) → IsLegal (holder_by words) stripes h → IsLegal Begun stripes h
+wider false stripes h legal = legal_begun stripes h legal
+wider true stripes h legal = legal
+
+-- Who has begun is a caller.
+begun_below : (callers c : ℕ) (h : List Entry) → All (λ e. caller_of e < callers) h → has_begun c h ≡ true → c < callers
+begun_below callers c [] all is = absurd (false≢true is)
+begun_below callers c (e ∷ h) all is = elim (or_cases (is_began e && caller_of e == c) (has_begun c h) is) [
+  | inl here ↦
+      let same = eqb-true (caller_of e) c (and_parts (is_began e) (caller_of e == c) here).1 in
+      let below = All-head (λ e. caller_of e < callers) e h all in
+      omega arith
+  | inr there ↦ begun_below callers c h (All-tail (λ e. caller_of e < callers) e h all) there
+]
+
+named_below : (stripes callers : ℕ) (h : List Entry) (e : Entry) → All (λ e. caller_of e < callers) h → is_locked Begun stripes h e ≡ true → caller_of e < callers → holder_in e < callers
+named_below stripes callers h (Busy c op x) all locked below = begun_below callers x h all (and_parts (not (x == c)) (has_begun x h) locked).1
+named_below stripes callers h _ all locked below = omega arith
+
+-- An entry that may come next is small.
+pub grown_small : (words : Bool) (stripes callers : ℕ) (h : List Entry) (e : Entry) → All (λ e. caller_of e < callers) h → IsLegal (holder_by words) stripes (h ++ e ∷ []) → caller_of e < callers → callers ≤ 64 → is_small e ≡ true
+grown_small words stripes callers h e all legal below few =
+    let locked : is_locked Begun stripes h e ≡ true = (wider words stripes (h ++ e ∷ []) legal).locks h e ([], append-nil (h ++ e ∷ [])) in
+    let named = named_below stripes callers h e all locked below in
+    small_of e (omega arith) (omega arith)

@@ -1,0 +1,21 @@
+use Rattle.std.proofs.Common.{Some, drop, ap, subst, arith}
+use Rattle.std.proofs.lemmas.Option.{IfSome_then}
+use Rattle.std.proofs.lemmas.Result.{IfOk-weaker}
+use Rattle.serde_json.specs.Data.{array}
+use Rattle.piece_files.specs.PlainBytes.{Opens}
+use Rattle.piece_files.specs.Tokens.{items_from}
+use Rattle.piece_files.proofs.ItemLists.{list_of-items_from}
+use Rattle.piece_files.proofs.PlainLemmas.{array_is}
+use Rattle.piece_files.proofs.plain_members.array_at.Goals as goal
+
+pub returns-clause-pieces : goal.returns-clause-pieces
+returns-clause-pieces g c =
+    let text = c.args.text.now in
+    let at = c.args.at.now in
+    let start = c.in-Some.start in
+    let opens = subst (λ b. Opens (drop at b) (drop start b)) c.as_bytes.ensures.value c.in-Some.ensures.array in
+    IfOk-weaker c.pieces_at.result _ _ (λ found h. IfSome_then found h (λ pieces w. (
+      array (items_from w.0),
+      array_is 126 (drop at text) (drop start text) (drop c.pieces_at.new.at text) w.0 (omega arith) opens w.1,
+      (w.0, ap (λ ds. Some ds) (list_of-items_from w.0), w.2),
+    ))) c.pieces_at.ensures.pieces

@@ -1,0 +1,101 @@
+-- Bytes in plain form, by the tokens that the reader of JSON makes of them.
+use Rattle.std.specs.Prelude.{◌≡◌, ℕ, ◌≤◌, true, false, List, [], ◌∷◌, ◌++◌, length, Some, None}
+use Rattle.json.specs.Token.{Token, begin_array, begin_object, end_array, end_object, key}
+use Rattle.json.specs.Json.{after_end_array, items, members, value}
+use Rattle.json.specs.Word.{ends_word}
+use Rattle.json.specs.Lex.{Place, token, fresh, after_value, after_comma, begins_colon, between, lex, may_begin, punctuate}
+use Rattle.serde_json.specs.Data.{Data, Members, object}
+use Rattle.serde_json.specs.Read.{converted, of_items, of_members, read}
+use Rattle.piece_files.specs.Tokens.{items_from, value_at}
+
+-- The tokens that bytes are, from this place on.
+abbrev pub tokens_at : Place → List ℕ → List Token
+tokens_at place bytes = punctuate place (lex between bytes)
+
+-- ---- what stands between values
+
+-- The bytes are white space, and then the rest.
+pub record Passed (bytes rest : List ℕ) : Type 0 where
+  pub same : lex between bytes ≡ lex between rest
+  pub ended : ends_word rest ≡ true → ends_word bytes ≡ true
+
+-- The bytes may stand behind a value: they do not go on its word, and make no key of it.
+pub record EndsValue (bytes : List ℕ) : Type 0 where
+  pub ended : ends_word bytes ≡ true
+  pub no_colon : begins_colon (lex between bytes) ≡ false
+
+-- Behind a value comes a comma, and then the rest.
+pub record Comma (bytes rest : List ℕ) : Type 0 where
+  pub ends : EndsValue bytes
+  pub left : tokens_at after_value bytes ≡ tokens_at after_comma rest
+
+-- Behind a value comes the bracket that closes an array, and then the rest.
+pub record Closes (bytes rest : List ℕ) : Type 0 where
+  pub ends : EndsValue bytes
+  pub left : tokens_at after_value bytes ≡ end_array ∷ tokens_at after_value rest
+
+-- Behind a value comes the brace that closes an object, and nothing else.
+pub record Finishes (bytes : List ℕ) : Type 0 where
+  pub ends : EndsValue bytes
+  pub left : tokens_at after_value bytes ≡ end_object ∷ []
+
+-- The bytes open an array, and then come the rest.
+abbrev pub Opens : List ℕ → List ℕ → Type 0
+Opens bytes rest = lex between bytes ≡ token begin_array ∷ lex between rest
+
+-- The bytes open an object, and then come the rest.
+abbrev pub OpensObject : List ℕ → List ℕ → Type 0
+OpensObject bytes rest = lex between bytes ≡ token begin_object ∷ lex between rest
+
+-- ---- values and keys
+
+-- Wherever a value may begin, the bytes are this value, and then the rest, if the rest may stand
+-- behind a value.
+abbrev pub IsValue : ℕ → List ℕ → Data → List ℕ → Type 0
+IsValue depth bytes d rest =
+    EndsValue rest → (place : Place) → may_begin place ≡ true
+    → (value_at depth (tokens_at place bytes) ≡ Some (d, tokens_at after_value rest))
+    × (after_end_array (tokens_at place bytes) ≡ None)
+
+-- Wherever a key may begin, the bytes are this key, and then the rest begins with a value.
+abbrev pub IsKey : List ℕ → List ℕ → List ℕ → Type 0
+IsKey bytes name rest =
+    (place : Place) → may_begin place ≡ true
+    → tokens_at place bytes ≡ key name ∷ tokens_at fresh rest
+
+-- ---- elements and members
+
+-- The tokens are the elements that are left of an array, and behind its bracket the others.
+abbrev pub AreLeft : ℕ → List Token → List Data → List Token → Type 0
+AreLeft depth ts ds others =
+    (n : ℕ) → length ts ≤ n
+    → converted of_items (items (value depth) n ts) ≡ Some (items_from ds, others)
+
+-- So are the bytes, wherever an element may begin.
+abbrev pub Begin : ℕ → List ℕ → List Data → List Token → Type 0
+Begin depth bytes ds others =
+    (place : Place) → may_begin place ≡ true → AreLeft depth (tokens_at place bytes) ds others
+
+-- Behind an element the bytes are the elements that are left.
+pub record Follow (depth : ℕ) (bytes : List ℕ) (ds : List Data) (others : List Token) : Type 0 where
+  pub ends : EndsValue bytes
+  pub left : AreLeft depth (tokens_at after_value bytes) ds others
+
+-- From `start` on the bytes are these elements, and then those of the rest.
+abbrev pub AreTaken : ℕ → List ℕ → List Data → List ℕ → Type 0
+AreTaken depth start ds rest =
+    (es : List Data) (others : List Token)
+    → Begin depth rest es others → Begin depth start (ds ++ es) others
+
+-- With the members that are left in the tokens, which are the last, the old members are all.
+abbrev pub AreMembers : List Token → Members → Members → Type 0
+AreMembers ts old all =
+    (n : ℕ) → length ts ≤ n
+    → converted (λ ms. of_members ms old) (members (value 126) n ts) ≡ Some (all, [])
+
+-- The text is an object: these members, and then those of the rest.
+abbrev pub AreMembersTaken : List ℕ → Members → List ℕ → Type 0
+AreMembersTaken text old rest =
+    (all : Members)
+    → ((place : Place) → may_begin place ≡ true → AreMembers (tokens_at place rest) old all)
+    → read text ≡ Some (object all)

@@ -1,0 +1,71 @@
+//! Arrays of plain values in plain form.
+ghost use Rattle.std.specs.Prelude.{◌≡◌, ◌<◌, ◌≤◌, ℕ, true, length, drop, map, Some, IfSome};
+ghost use Rattle.json.specs.Lex.{after_value};
+ghost use Rattle.serde_json.specs.Data.{array};
+ghost use Rattle.serde_json.specs.Read.{read};
+ghost use Rattle.piece_files.specs.Plain.{data_of};
+ghost use Rattle.piece_files.specs.PlainBytes.{Begin, tokens_at};
+ghost use Rattle.piece_files.specs.Tokens.{items_from};
+
+use crate::plain::Plain;
+use crate::plain_bytes::{after_bracket, after_comma, after_open, is_over, plain_at};
+use arrayvec::ArrayVec;
+
+/// Takes the elements of an array, from the place of the first on, into `elements`, in place of
+/// what is there. Answers where the array ends. None if there is no element, there are more than
+/// `MOST`, or the array has no plain form: then `elements` has some of them.
+///
+/// # Cost
+///
+/// Time in proportion to the text that is read; takes no memory.
+#[inline(always)]
+pub fn elements_at<'a, const MOST: usize>(
+    text: &'a str,
+    start: usize,
+    elements: &mut ArrayVec<Plain<'a>, MOST>,
+) -> Option<usize>
+    requires { start ≤ length text.now }
+    ensures place { IfSome result (λ end. (start < end) × (end ≤ length text.now)) }
+    ensures elements { IfSome result (λ end. (depth : ℕ) →
+        Begin depth (drop start text.now) (map data_of elements.new.items)
+        (tokens_at after_value (drop end text.now))) }
+{
+    elements.clear();
+    let bytes = text.as_bytes();
+    let mut at = start;
+    'elements: while let Some((element, end)) = plain_at(text, at) {
+        if elements.len() == MOST {
+            return None;
+        }
+        elements.push(element);
+        let Some(next) = after_comma(bytes, end) else {
+            return after_bracket(bytes, end);
+        };
+        at = next;
+    }
+    None
+}
+
+/// Takes the elements of an array that is all of a text into `elements`, in place of what is there,
+/// if the array has plain form and 1 to `MOST` elements. Answers whether it has.
+///
+/// # Cost
+///
+/// Time in proportion to the text; takes no memory.
+#[tactic(auto, using(crate::proofs::PlainLemmas::array_read))]
+pub fn whole_array<'a, const MOST: usize>(
+    text: &'a str,
+    elements: &mut ArrayVec<Plain<'a>, MOST>,
+) -> bool
+    ensures { result ≡ true →
+        read text.now ≡ Some (array (items_from (map data_of elements.new.items))) }
+{
+    let bytes = text.as_bytes();
+    let Some(start) = after_open(bytes, 0) else {
+        return false;
+    };
+    let Some(end) = elements_at(text, start, elements) else {
+        return false;
+    };
+    is_over(bytes, end)
+}

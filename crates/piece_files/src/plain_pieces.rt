@@ -1,0 +1,95 @@
+//! Pieces in plain form, read one after the other: one loop for all kinds of pieces. Where a piece
+//! is none, or there are more than a kind keeps, this reader gives up, and the reader of JSON
+//! decides what is wrong.
+ghost use Rattle.std.specs.Prelude.{◌≡◌, ◌^◌, ◌<◌, ◌≤◌, List, length, drop, Some, IfOk, IfSome, option_and_then};
+ghost use Rattle.json.specs.Lex.{after_value};
+ghost use Rattle.serde_json.specs.Data.{Data};
+ghost use Rattle.piece_files.specs.Elements.{elements_of};
+ghost use Rattle.piece_files.specs.Pieces.{old_of, pieces_from};
+ghost use Rattle.piece_files.specs.PlainBytes.{Begin, IsValue, tokens_at};
+ghost use Rattle.piece_files.specs.Tokens.{FindsBoth};
+
+use crate::piece::{PieceKind, Pieces};
+use crate::plain_bytes::{after_bracket, after_comma, after_open};
+use std::alloc::{AllocError, Global};
+
+/// The piece at a place, which is then behind it. None if no piece stands there in plain form.
+#[inline(always)]
+fn piece_at<K: PieceKind>(
+    alloc: Global,
+    text: &str,
+    at: &mut usize,
+    depth: usize,
+) -> Result<Option<K::Piece>, AllocError>
+    requires { at.old ≤ length text.now }
+    ensures place { IfOk result (λ found. IfSome found (λ piece.
+        (at.old < at.new) × (at.new ≤ length text.now))) }
+    ensures piece { IfOk result (λ found. IfSome found (λ piece. (d : Data)
+        × IsValue depth (drop at.old text.now) d (drop at.new text.now)
+        × (Some piece ≡ option_and_then K.of (elements_of d)))) }
+{
+    if depth == 0 {
+        return Ok(None);
+    }
+    let Some(start) = after_open(text.as_bytes(), *at) else {
+        return Ok(None);
+    };
+    *at = start;
+    K::read_plain(alloc, text, at, depth - 1)
+}
+
+/// The pieces of an array, from the place of the first on, which is then behind the array. None if
+/// there is no piece, there are more than the kind keeps, an element is no piece, or the array has
+/// no plain form: the place is then anywhere.
+///
+/// # Errors
+///
+/// `AllocError` if memory is refused.
+///
+/// # Cost
+///
+/// Time in proportion to the text that is read, where that of `K::read_plain` and `K::is_old` is
+/// so; memory for the pieces, and what `K::read_plain` takes.
+pub fn pieces_at<K: PieceKind>(
+    alloc: Global,
+    text: &str,
+    at: &mut usize,
+    depth: usize,
+) -> Result<Option<Pieces<K::Piece>>, AllocError>
+    requires { at.old ≤ length text.now }
+    ensures place { IfOk result (λ found. IfSome found (λ pieces.
+        (at.old < at.new) × (at.new ≤ length text.now))) }
+    ensures pieces { IfOk result (λ found. IfSome found (λ pieces. (ds : List Data)
+        × Begin depth (drop at.old text.now) ds (tokens_at after_value (drop at.new text.now))
+        × FindsBoth K.part K.most pieces
+        (pieces_from (old_of K.is_old K.of) K.part 0 ds) (pieces_from K.of K.part 0 ds))) }
+    ensures range { IfOk result (λ found. IfSome found (λ pieces. pieces.count < 2 ^ 64)) }
+{
+    let most = K::most();
+    let bytes = text.as_bytes();
+    let mut pieces = Vec::new(alloc);
+    let mut first_new = None;
+    let mut here = *at;
+    'pieces: while let Some(piece) = piece_at::<K>(alloc, text, &mut here, depth)? {
+        let count = pieces.len();
+        if count >= most {
+            return Ok(None);
+        }
+        first_new = first_new.or((!K::is_old(&piece)).then_some(count));
+        pieces.push(piece)?;
+        let Some(next) = after_comma(bytes, here) else {
+            let Some(end) = after_bracket(bytes, here) else {
+                return Ok(None);
+            };
+            *at = end;
+            return Ok(Some(Pieces {
+                count: pieces.len(),
+                pieces,
+                are_all: true,
+                first_new,
+            }));
+        };
+        here = next;
+    }
+    Ok(None)
+}

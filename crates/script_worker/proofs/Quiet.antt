@@ -1,0 +1,25 @@
+-- A call whose drive has ended out of step has committed nothing.
+use Rattle.std.proofs.Common.{◌≡◌, List, Some, subst, inl, inr}
+use Rattle.txn_trace.specs.declared.answer.Answer.TheVariants as answers
+use Rattle.txn_trace.specs.declared.entry.Entry.{Entry}
+use Rattle.txn_trace.specs.declared.refusal.Refusal.TheVariants.{OutOfStep}
+use Rattle.txn_drive.specs.declared.drive.Drive.{Drive}
+use Rattle.txn_drive.specs.declared.«end».End.{End}
+use Rattle.txn_drive.specs.declared.«end».End.TheVariants as ends
+use Rattle.txn_drive.specs.Drives.{end_of}
+use Rattle.txn_drive.specs.Made.{made}
+use Rattle.txn_drive.proofs.Quiet.{made_quiet}
+use Rattle.script_worker.specs.Accounts.{CommitNothing}
+use Rattle.script_worker.specs.Chunks.{IsQuiet}
+
+if_quiet : (outcome : End) (es : List Entry) → CommitNothing es → IsQuiet outcome es
+if_quiet (ends.Refused OutOfStep) es quiet = quiet
+if_quiet outcome es quiet = tt
+
+pub ended_quiet : (d : Drive) (outcome : End) → end_of d ≡ Some outcome → IsQuiet outcome (made d)
+ended_quiet d outcome is = elim (made_quiet d) [
+  | inl quiet ↦ if_quiet outcome (made d) quiet
+  | inr (p, committed) ↦
+      let same : ends.Answered (answers.Committed p) ≡ outcome = cc (is, committed) in
+      subst (λ (o : End). IsQuiet o (made d)) same tt
+]

@@ -1,0 +1,134 @@
+-- The outcomes of a caller's scripts, as the caller's own entries tell them, and as statements
+-- about the history.
+use Rattle.std.specs.Prelude.{◌≡◌, ℕ, ◌+◌, ◌-◌, ◌*◌, ◌<◌, ◌≤◌, Bool, true, false, Option, Some, None, List, [], ◌∷◌, ◌++◌, length, slice_get}
+use Prim.Native.Nat.{zero, suc}
+use Rattle.std.specs.List.{filter, filter_map, AllByRecursion}
+use Rattle.txn_trace.specs.declared.action.Action.{Action}
+use Rattle.txn_trace.specs.declared.refusal.Refusal.{Refusal}
+use Rattle.txn_trace.specs.declared.entry.Entry.{Entry}
+use Rattle.txn_trace.specs.declared.entry.Entry.TheVariants as entries
+use Rattle.txn_trace.specs.History.{is_commit, of, is_committed, commits}
+use Rattle.txn_trace.specs.Shape.{own, how_many}
+use Rattle.txn_trace.specs.Plays.{without_undone, IsPlayed, Plays, commits_of}
+
+-- None of the entries commits.
+abbrev pub CommitNothing : List Entry → Type 0
+CommitNothing es = filter is_commit es ≡ []
+
+-- The outcome of a script: committed, as this transaction, with this commit number and these
+-- replies; or with nothing committed.
+pub data Outcome : Type 0 where
+  Committed : ℕ → ℕ → List (Option ℕ) → Outcome
+  Aborted : Outcome
+  Busy : Outcome
+  Refused : Refusal → Outcome
+
+-- A script that a caller has run, and its outcome.
+pub record Told : Type 0 where
+  pub script : List Action
+  pub outcome : Outcome
+
+-- Whether an entry tells that a stripe was held.
+abbrev pub is_busy : Entry → Bool
+is_busy (entries.Busy c op x) = true
+is_busy _ = false
+
+-- The reply of an entry, if it has one.
+abbrev pub reply_in : Entry → Option (Option ℕ)
+reply_in (entries.Did c reply) = Some reply
+reply_in _ = None
+
+-- The replies of the entries, in order.
+abbrev pub replies_in : List Entry → List (Option ℕ)
+replies_in es = filter_map reply_in es
+
+-- This number of attempts found a stripe held: nothing is committed, and at least this many entries
+-- tell so.
+pub record AreBusy (attempts : ℕ) (es : List Entry) : Type 0 where
+  pub nothing : CommitNothing es
+  pub enough : attempts ≤ how_many is_busy es
+
+-- The entries are those of a transaction of the caller, from its Began to its Committed, which
+-- plays the script and has these replies.
+pub record IsPlayedBy (c : ℕ) (script : List Action) (txn place : ℕ) (replies : List (Option ℕ))
+    (es : List Entry) : Type 0 where
+  pub inner : List Entry
+  pub whole : es ≡ entries.Began c txn ∷ inner ++ entries.Committed c place ∷ []
+  pub plays : IsPlayed script (without_undone es)
+  pub replied : replies_in es ≡ replies
+
+-- The entries are those that a caller has added by a script with this outcome: first those of
+-- attempts without a commit, and then, if it is committed, those of its transaction.
+abbrev pub IsAccount : ℕ → ℕ → List Action → Outcome → List Entry → Type 0
+IsAccount c tries script (Committed txn place replies) es =
+    (before : List Entry) × (part : List Entry) × (es ≡ before ++ part) × CommitNothing before
+    × IsPlayedBy c script txn place replies part
+IsAccount c tries script Aborted es = CommitNothing es
+IsAccount c tries script Busy es = AreBusy (tries + 1) es
+IsAccount c tries script (Refused refusal) es = CommitNothing es
+
+-- The entries are those of these scripts, one after the other.
+abbrev pub AreAccounts : ℕ → ℕ → List Told → List Entry → Type 0
+AreAccounts c tries [] es = es ≡ []
+AreAccounts c tries (told ∷ more) es =
+    (here : List Entry) × (later : List Entry) × (es ≡ here ++ later)
+    × IsAccount c tries told.script told.outcome here × AreAccounts c tries more later
+
+-- In the history the transaction belongs to the caller, plays the script, is committed with this
+-- number, and has these replies.
+pub record IsCommittedAs (c : ℕ) (script : List Action) (txn place : ℕ)
+    (replies : List (Option ℕ)) (h : List Entry) : Type 0 where
+  pub inner : List Entry
+  pub whole : of txn h ≡ entries.Began c txn ∷ inner ++ entries.Committed c place ∷ []
+  pub plays : Plays txn script h
+  pub committed : is_committed txn h ≡ true
+  pub placed : slice_get (commits h) (place - 1) ≡ Some txn
+  pub replied : replies_in (of txn h) ≡ replies
+
+-- An outcome, as a statement about the history.
+abbrev pub HasCome : ℕ → List Entry → List Action → Outcome → Type 0
+HasCome c h script (Committed txn place replies) = IsCommittedAs c script txn place replies h
+HasCome c h script outcome = Unit {0}
+
+-- The Committed entry of an outcome, and its transaction, if it has one.
+abbrev pub commit_in : ℕ → Outcome → Option Entry
+commit_in c (Committed txn place replies) = Some (entries.Committed c place)
+commit_in c outcome = None
+
+abbrev pub txn_in : Outcome → Option ℕ
+txn_in (Committed txn place replies) = Some txn
+txn_in outcome = None
+
+-- Whether a script found a stripe held in each of its attempts.
+abbrev pub is_busy_outcome : Outcome → Bool
+is_busy_outcome Busy = true
+is_busy_outcome outcome = false
+
+-- The outcomes of a caller's scripts are true of the history: each committed one stands for a
+-- transaction of the caller; the caller's Committed entries, and its committed transactions, are
+-- those of the outcomes, in order; and there are at least `tries + 1` Busy entries for each outcome
+-- that is busy.
+pub record AreTrue (c tries : ℕ) (h : List Entry) (tolds : List Told) : Type 0 where
+  pub each : AllByRecursion (λ told. HasCome c h told.script told.outcome) tolds
+  pub entries_are : filter is_commit (own c h) ≡ filter_map (λ told. commit_in c told.outcome) tolds
+  pub txns_are : commits_of c h ≡ filter_map (λ told. txn_in told.outcome) tolds
+  pub busy : length (filter (λ told. is_busy_outcome told.outcome) tolds) * (tries + 1)
+      ≤ how_many is_busy (own c h)
+
+-- Every `n`-th element of a list, after `after` others.
+abbrev pub every : {X : Type 0} → ℕ → ℕ → List X → List X
+every n after [] = []
+every n zero (x ∷ xs) = x ∷ every n (n - 1) xs
+every n (suc after) (x ∷ xs) = every n after xs
+
+-- Each script with its outcome, as far as there are both.
+abbrev pub tolds_of : List (List Action) → List Outcome → List Told
+tolds_of (script ∷ scripts) (outcome ∷ outcomes) =
+    record { script = script; outcome = outcome } ∷ tolds_of scripts outcomes
+tolds_of scripts outcomes = []
+
+-- The outcomes of all scripts are true of the history. Every `callers`-th script is a caller's,
+-- beginning with the one of the caller's own number.
+abbrev pub AreAllTrue : ℕ → ℕ → List (List Action) → List Outcome → List Entry → Type 0
+AreAllTrue callers tries scripts outcomes h = (c : ℕ) → c < callers
+    → AreTrue c tries h (tolds_of (every callers c scripts) (every callers c outcomes))

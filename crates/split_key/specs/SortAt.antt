@@ -1,0 +1,75 @@
+-- A sort key as contracts see it, and what its fields stand for.
+use Rattle.std.specs.Prelude.{◌≡◌, ℕ, ◌+◌, ◌%◌, ◌^◌, ◌<◌, ◌==◌, Bool, true, false, List, length, slice_index_or, nat_le, if◌then◌else◌}
+use Rattle.std.specs.Int.{w64, to_le_bytes, from_le_bytes}
+use Rattle.std.proofs.Common.{refl, arith, inl, inr, ne_eqb, eq-eqb}
+use Rattle.std.proofs.lemmas.Bool.{cases_eq}
+use Rattle.std.proofs.lemmas.Bool.Decides.{leb_tells}
+use Rattle.std.proofs.lemmas.Nat.{le_bytes_8}
+use Rattle.split_key.specs.Split.{reversed}
+
+-- A split key, and the key, or 0 for a dummy.
+pub record SortAt : Type 0 where
+  pub split : ℕ
+  pub key : ℕ
+
+-- The number of eight bytes, the lowest first.
+unfoldable pub word_of : List ℕ → ℕ
+word_of bytes = from_le_bytes w64 bytes
+
+-- The eight bytes of a number, the lowest first.
+unfoldable pub bytes_of : ℕ → List ℕ
+bytes_of word = to_le_bytes w64 word
+
+-- The key that has this split key, of the upper half of the keys or not, and 0 for a dummy's split
+-- key.
+unfoldable pub key_in : ℕ → Bool → ℕ
+key_in split is_upper =
+    if split % 2 == 0 then 0 else reversed split % 2 ^ 63 + (if is_upper then 2 ^ 63 else 0)
+
+-- The sort key with these bytes of its split key.
+abbrev pub seen : List ℕ → Bool → SortAt
+seen bytes is_upper = record {
+  split = word_of bytes;
+  key = key_in (word_of bytes) is_upper;
+}
+
+-- These are eight bytes, and no dummy is of the upper half.
+pub record IsPacked (bytes : List ℕ) (is_upper : Bool) : Type 0 where
+  pub width : length bytes ≡ 8
+  pub small : (place : ℕ) → slice_index_or bytes place 0 < 256
+  pub upper : is_upper ≡ true → word_of bytes % 2 ≡ 1
+
+-- The key of a dummy's split key.
+pub key_in_dummy : (split : ℕ) (is_upper : Bool) → split % 2 ≡ 0 → key_in split is_upper ≡ 0
+unfolding key_in
+key_in_dummy split is_upper even = rw (eq-eqb (split % 2) 0 even) refl
+
+-- The key of a regular node's split key.
+pub key_in_regular : (split : ℕ) (is_upper : Bool) → split % 2 ≡ 1
+    → key_in split is_upper ≡ reversed split % 2 ^ 63 + (if is_upper then 2 ^ 63 else 0)
+unfolding key_in
+key_in_regular split is_upper odd = rw (ne_eqb (split % 2) 0 (λ even. omega arith)) refl
+
+-- A key tells its half.
+pub upper_is : (split : ℕ) (is_upper : Bool) → (is_upper ≡ true → split % 2 ≡ 1)
+    → nat_le (2 ^ 63) (key_in split is_upper) ≡ is_upper
+upper_is split true odd =
+    elim (leb_tells (2 ^ 63) (key_in split true)) [
+      | inl over ↦ over.0
+      | inr under ↦ absurd (omega (arith, under.1, key_in_regular split true (odd refl)))
+    ]
+upper_is split false odd =
+    elim (leb_tells (2 ^ 63) (key_in split false)) [
+      | inl over ↦ absurd (elim (cases_eq (split % 2) 0) [
+        | inl even ↦ omega (arith, over.1, key_in_dummy split false even)
+        | inr other ↦ omega (arith, over.1, key_in_regular split false (omega arith))
+      ])
+      | inr under ↦ under.0
+    ]
+
+-- The bytes of the number of some bytes are these.
+pub bytes_are : (bytes : List ℕ) (is_upper : Bool) → IsPacked bytes is_upper
+    → bytes_of (word_of bytes) ≡ bytes
+unfolding word_of bytes_of
+bytes_are bytes is_upper packed =
+    le_bytes_8 bytes (from_le_bytes w64 bytes) packed.width packed.small refl

@@ -1,0 +1,96 @@
+//! What a part's box holds: a map, and how many changes can be taken back. The type's invariant:
+//! the map has room for as many keys, so that taking back needs no memory. What is done to the two
+//! fields stands in `change.rt`.
+ghost use Rattle.std.specs.Prelude.{◌≡◌, ℕ, ◌<◌, IfOk, IfErr, OnErr};
+ghost use Rattle.txn_trace.specs.Map.{count_of};
+ghost use Rattle.stripe_part.specs.PartAt.{nothing};
+ghost use Rattle.stripe_part.specs.Calls.{Does, IsRefused, TakesBack};
+
+use crate::change::{apply, take_back};
+use probe_map::ProbeMap;
+use std::alloc::{AllocError, Global};
+use std::marker::Model;
+use txn_trace::{Op, Refusal, Reply};
+
+/// A map, and how many changes of the open transaction can be taken back.
+#[derive(Drop)]
+pub(crate) struct CountedMap {
+    map: ProbeMap,
+    owed: usize,
+}
+
+impl Model for CountedMap {
+    ghost use Rattle.std.specs.Prelude.{◌≤◌};
+    ghost use Rattle.stripe_part.specs.PartAt.{PartAt, part_code};
+    ghost use Rattle.stripe_part.specs.Stored.{part_of};
+
+    ghost Value = { PartAt };
+
+    ghost coded = { part_code };
+
+    ghost view = { λ c. part_of c.map.content c.owed };
+
+    ghost invariant = { λ c. c.owed ≤ c.map.spare };
+}
+
+impl CountedMap {
+    /// An empty map with no change to take back. Takes no memory.
+    pub(crate) fn new(alloc: Global) -> CountedMap
+        ensures { result ≡ nothing }
+    {
+        CountedMap {
+            map: ProbeMap::new(alloc),
+            owed: 0,
+        }
+    }
+
+    /// Does an operation, as `Part::apply` says.
+    #[inline(always)]
+    pub(crate) fn apply(&mut self, op: Op) -> Result<Reply, Refusal>
+        ensures ok { IfOk result (Does self.old self.new op) }
+        ensures err { IfErr result (IsRefused op) }
+        ensures unchanged { OnErr result (self.new ≡ self.old) }
+    {
+        apply(&mut self.map, &mut self.owed, op)
+    }
+
+    /// Takes a change back: its key, and the value before.
+    pub(crate) fn take_back(&mut self, key: u64, before: Option<u64>)
+        requires { 0 < self.old.owed }
+        ensures { TakesBack self.old self.new key before }
+    {
+        take_back(&mut self.map, &mut self.owed, key, before);
+    }
+
+    /// Keeps all changes.
+    #[inline(always)]
+    pub(crate) fn settle(&mut self)
+        ensures content { self.new.content ≡ self.old.content }
+        ensures owed { self.new.owed ≡ 0 }
+    {
+        self.owed = 0;
+    }
+
+    /// How many changes can be taken back.
+    pub(crate) fn changes(&self) -> usize
+        ensures { result ≡ self.now.owed }
+    {
+        self.owed
+    }
+
+    /// How many keys there are.
+    pub(crate) fn len(&self) -> u64
+        ensures { result ≡ count_of self.now.content }
+    {
+        self.map.len() as u64
+    }
+
+    /// The keys with their values, by rising keys.
+    pub(crate) fn pairs(&self, alloc: Global) -> Result<Vec<(u64, u64)>, AllocError>
+        ensures { IfOk result (λ pairs. pairs.items ≡ self.now.content.rows) }
+    {
+        let mut pairs = self.map.pairs(alloc)?;
+        pairs.sort()?;
+        Ok(pairs)
+    }
+}

@@ -1,0 +1,93 @@
+//! The growth of the table while scripts run: at times a worker helps by itself, for a key that it
+//! has put. A help adds no entry, so that the history tells nothing of it.
+ghost use Rattle.std.specs.Prelude.{◌≡◌, IfSome, None};
+ghost use Rattle.txn_trace.specs.declared.answer.Answer.{Answer};
+ghost use Rattle.txn_drive.specs.declared.«end».End.{End};
+ghost use Rattle.locked_map.specs.Holds.{is_out};
+ghost use Rattle.locked_map.specs.Tokens.{IsSameCaller};
+ghost use Rattle.thread_runs.specs.Runs.{Grows};
+
+use boost_core::{Call, End};
+use locked_map::{Caller, NoSide, OnRelease, SharedMap};
+use std::sync::Wait;
+use std::sync::ledger::Ledger;
+use txn_trace::{Answer, Op, Refusal};
+
+/// A worker helps the table to grow when it has put this many new keys. A help takes a hold to
+/// double and one for each ancestor of the key's bucket, some ten in a large table where an
+/// operation takes three; so one for each new key would keep the other workers waiting. An odd
+/// number, so that of keys in a row each bucket has its turn: their number is a power of two.
+const EVERY: u8 = 7;
+
+/// The number of new keys that a worker has put since it has helped.
+#[derive(Drop)]
+pub(crate) struct Growth {
+    new_keys: u8,
+}
+
+impl Growth {
+    /// No new keys.
+    pub(crate) fn new() -> Growth {
+        Growth { new_keys: 0 }
+    }
+
+    /// Notes a call and its end, and answers the key for which the worker is to help now.
+    fn key_due(&mut self, call: Call, end: End) -> Option<u64>
+        ensures { IfSome result (λ key. end ≡ End.Answered (Answer.Done None)) }
+    {
+        if let Call::Help(_) = call {
+            self.new_keys = 0;
+            return None;
+        }
+        let key = new_key(call, end)?;
+        self.new_keys = self.new_keys.saturating_add(1);
+        if self.new_keys < EVERY {
+            return None;
+        }
+        self.new_keys = 0;
+        Some(key)
+    }
+
+    /// Lets the table grow by a step, if a call has put a new key and it is time: doubles the
+    /// table, if it is full, and initialises the key's bucket. If memory is refused for that, or no
+    /// stamp is left, the table stays as it is. Answers whether the caller is still in step.
+    pub(crate) fn grow<L: Ledger, H: OnRelease, R: Wait>(
+        &mut self,
+        rt: &R,
+        map: &SharedMap<L>,
+        me: &mut Caller<L, NoSide>,
+        call: Call,
+        end: End,
+        hears: &H,
+    ) -> bool
+        ensures same { IsSameCaller me.old me.new }
+        ensures grown { Grows me.old end result me.new }
+    {
+        let Some(key) = self.key_due(call, end) else {
+            return true;
+        };
+        let helped = map.run(rt, me, Call::Help(key), hears);
+        !is_out(helped)
+    }
+}
+
+/// Whether a call fell out of step.
+fn is_out(end: End) -> bool
+    ensures { result ≡ is_out end }
+{
+    matches!(end, End::Refused(Refusal::OutOfStep))
+}
+
+/// The key that a call has put, if it had no value before.
+fn new_key(call: Call, end: End) -> Option<u64>
+    ensures { IfSome result (λ key. end ≡ End.Answered (Answer.Done None)) }
+{
+    let End::Answered(Answer::Done(None)) = end else {
+        return None;
+    };
+    match call {
+        Call::Op(Op::Put(key, _)) => Some(key),
+        Call::Op(Op::PutIf(key, _, _)) => Some(key),
+        _ => None,
+    }
+}
