@@ -98,15 +98,15 @@ pub run_true : {L W : Type 0} (items : W → List codes.Outcome) (limits sizes :
 run_true items limits sizes workers tries scripts reports callers rows outcomes trace h some as_many each callers_are rows_are one_each order same is all_workers legal below own =
     let trues : AreAllTrue workers tries scripts (map told_of outcomes) trace =
     subst (AreAllTrue workers tries scripts (map told_of outcomes)) (sym same)
-      (reports_true items limits.half workers tries scripts reports rows as_many each rows_are outcomes order h legal.shape legal.replies (λ c r at. all_at (λ k. IsOwn h k) (λ q. q.caller) reports callers callers_are own c r at)) in
+    (reports_true items limits.half workers tries scripts reports rows as_many each rows_are outcomes order h legal.shape legal.replies (λ c r at. all_at (λ k. IsOwn h k) (λ q. q.caller) reports callers callers_are own c r at)) in
     record {
-  legal = subst (IsLegal Begun limits.stripes) (sym same) (subst (λ (z : Sizes). IsLegal Begun z.stripes h) is legal);
-  callers = subst (All (λ e. caller_of e < workers)) (sym same) (subst (λ (n : ℕ). All (λ e. caller_of e < n) h) (ap (λ (z : Sizes). z.callers) is ∙ sym all_workers) below);
-  one_each = length-map outcomes told_of ∙ one_each;
-  true_of = trues;
-  plays = λ c low. true_plays workers c low scripts trace tries (every workers c (map told_of outcomes)) (trues c low);
-  allowed = reports_may items limits.half workers tries scripts reports rows as_many each rows_are outcomes order some;
-}
+      legal = subst (IsLegal Begun limits.stripes) (sym same) (subst (λ (z : Sizes). IsLegal Begun z.stripes h) is legal);
+      callers = subst (All (λ e. caller_of e < workers)) (sym same) (subst (λ (n : ℕ). All (λ e. caller_of e < n) h) (ap (λ (z : Sizes). z.callers) is ∙ sym all_workers) below);
+      one_each = length-map outcomes told_of ∙ one_each;
+      true_of = trues;
+      plays = λ c low. true_plays workers c low scripts trace tries (every workers c (map told_of outcomes)) (trues c low);
+      allowed = reports_may items limits.half workers tries scripts reports rows as_many each rows_are outcomes order some;
+    }
 
 -- The element at a position of a list that shows the numbers in order.
 pub shown_at : {X T : Type 0} (show : X → T) (f : ℕ → T) (n : ℕ) (xs : List X) (k : ℕ) (x : X) → map show xs ≡ map f (range_with_len 0 n) → (k < length xs) × (x ≡ get_or xs k x) → show x ≡ f k
