@@ -29,13 +29,13 @@
  *     the calls of several callers may be made in any order. Keys belong to stripes. An operation
  *     takes the stripe of its key, and its transaction keeps it to the end, so committed
  *     transactions have the replies of running one after another, in the order of their commits. A
- *     caller that finds a stripe held by another is told so (BOOSTMAP_BUSY), never waits, and can
- *     only abort.
+ *     caller that finds a stripe held by another never waits: the call returns BOOSTMAP_BUSY, and
+ *     the transaction can only abort.
  *
  *     A striped map is for threads: each of its 1 to 4096 callers has its own handle, a
  *     `boostmap_caller`, and callers run in parallel without a lock. It grows by itself and keeps no
- *     history, so it may run for ever. A caller that finds a stripe held is told so; its transaction
- *     has then been aborted already, with all its changes taken back.
+ *     history, so it may run forever. If a caller finds a stripe held, the call returns
+ *     BOOSTMAP_BUSY, and the transaction has been aborted, with all its changes taken back.
  *
  *     Every call returns a status. Most take a pointer `word`: BOOSTMAP_DONE and BOOSTMAP_BUSY write
  *     a number there, and no other status does unless its call says so. The comment of a call ends
@@ -44,39 +44,39 @@
  * OWNERSHIP
  *     A `boostmap` is a handle of 16 bytes in the program's memory, all zeros at first
  *     (BOOSTMAP_INIT). boostmap_new gives it a map; boostmap_free frees the map and makes the handle
- *     all zeros again. A handle may be moved by copying its bytes, if only the copy is used from
- *     then on. Never read or write its fields. The same holds of a `boostmap_caller` and a
+ *     all zeros again. A handle may be moved by copying its bytes, if only the copy is used
+ *     afterwards. Never read or write its fields. The same holds for a `boostmap_caller` and a
  *     `boostmap_judge`. A striped map is freed with the last of its callers; a caller that is freed
  *     in a transaction aborts it.
  *
  * THREADS
- *     One call at a time on one handle. Any thread may make the next call, if a mutex, a thread's
- *     start or join, or a seq_cst atomic puts it after the last one. Different handles may be in
- *     calls at the same time, also those of callers of one striped map. No call waits, takes a lock,
- *     starts a thread, or calls back.
+ *     Make one call at a time on one handle. Any thread may make the next call, if a mutex, a
+ *     thread's start or join, or a seq_cst atomic orders it after the last one. Different handles
+ *     may be in calls at the same time, also those of callers of one striped map. No call waits,
+ *     takes a lock, starts a thread, or calls back.
  *
  * WHAT IS PROVED, AND WHAT IS ONLY TESTED
  *     The archive is proved: each call, made as the next section says, is free of undefined
  *     behaviour, returns, and does what its contract in crates/boostmap_c states. The headers and
  *     the bindings are only tested.
  *
- * WHAT THE PROGRAM OWES (a break is undefined behaviour)
- *     1. A handle is all zeros or as these calls left it.            garbage is mostly answered 3
- *     2. Pointers are not null, and those of a call do not overlap.  null crashes; boostmap_checked.h
- *                                                                    answers it
- *     3. One call at a time on one handle, ordered as above.         two at once corrupt the map;
- *                                                                    boostmap_checked.h answers it
+ * WHAT THE PROGRAM MUST DO (otherwise its behaviour is undefined, for example as at the right)
+ *     1. A handle is all zeros or as these calls left it.            garbage mostly returns 3
+ *     2. Pointers are not null, and those of a call do not overlap.  null crashes; 5 with
+ *                                                                    boostmap_checked.h
+ *     3. One call at a time on one handle, ordered as above.         two corrupt the map; 6 with
+ *                                                                    boostmap_checked.h
  *     4. A copy of a handle is not used after the other was freed.   use after free
  *     5. An array has as many elements as its count says, and is     reads or writes beyond it
  *        not null, even if the count is 0.
  *     6. No call from a signal handler, or from the forked child of a process with threads.
- *     7. malloc, realloc and free come from one allocator and align to 16, as any C library's.
+ *     7. malloc, realloc and free come from one allocator and align to 16, as in any C library.
  *
- *     Everything else is answered by a status: an empty handle (also after boostmap_free), a caller,
- *     a level or a limit out of range, calls out of order, and memory that is refused.
+ *     Everything else returns a status: an empty handle (also after boostmap_free), a caller, a
+ *     level or a limit out of range, calls out of order, and memory that is refused.
  *
  * SEE ALSO
- *     boostmap_checked.h (null and two calls at once become statuses), boostmap.hpp (C++),
+ *     boostmap_checked.h (null and overlapping calls become statuses), boostmap.hpp (C++),
  *     docs/C.md
  */
 #ifndef BOOSTMAP_H
@@ -103,22 +103,22 @@ enum {
     BOOSTMAP_DONE = 0,   /* done; *word is the value, transaction, level or commit number */
     BOOSTMAP_ABSENT = 1, /* done, at a key without a value */
     BOOSTMAP_BUSY = 2,   /* caller *word holds the key's stripe: this transaction can only abort, or,
-                            of a striped map, is aborted */
+                            on a striped map, has been aborted */
     BOOSTMAP_EMPTY = 3,  /* the handle is empty; nothing was done */
     BOOSTMAP_FULL = 4,   /* the handle is in use already; nothing was done */
-    BOOSTMAP_NULL = 5,   /* only by boostmap_checked.h: a null pointer */
-    BOOSTMAP_IN_CALL = 6, /* only by boostmap_checked.h: the handle is in another call */
+    BOOSTMAP_NULL = 5,   /* only from boostmap_checked.h: a null pointer */
+    BOOSTMAP_IN_CALL = 6, /* only from boostmap_checked.h: the handle is in another call */
     BOOSTMAP_SHORT = 7,  /* of a read: the array is too short; *word is the number of places that it needs */
-    BOOSTMAP_NO_ENTRY = 8, /* boostmap_judge_feed: the numbers say no entry of a caller below 64 */
+    BOOSTMAP_NO_ENTRY = 8, /* of a judge: these numbers are no entry of a caller below 64 */
     /* 16 + the number of a refusal: map and transaction are unchanged */
-    BOOSTMAP_NO_SUCH_CALLER = 18,  /* the caller's number is not below the number of callers; of
+    BOOSTMAP_NO_SUCH_CALLER = 18,  /* the caller's number is not below the number of callers; from
                                       boostmap_striped_join: no caller waits */
     BOOSTMAP_NOT_OPEN = 19,        /* the caller has no transaction */
     BOOSTMAP_ALREADY_OPEN = 20,    /* the caller has a transaction already */
     BOOSTMAP_LEAVING = 22,         /* after BOOSTMAP_BUSY: the transaction can only abort */
     BOOSTMAP_NO_SUCH_LEVEL = 25,   /* the level is above the number of savepoints */
-    BOOSTMAP_NO_SUCH_HELPER = 28,  /* as 18, of boostmap_help */
-    BOOSTMAP_NO_MEMORY = 30,       /* memory was refused; never by commit and abort */
+    BOOSTMAP_NO_SUCH_HELPER = 28,  /* as 18, from boostmap_help */
+    BOOSTMAP_NO_MEMORY = 30,       /* memory was refused; never from commit and abort */
     BOOSTMAP_STAMPS_USED_UP = 32,  /* 2^64 - 2 nodes were made */
     BOOSTMAP_LIMIT = 38            /* a limit, the stripes or the rule are out of range */
 };
@@ -134,7 +134,7 @@ static inline const char *boostmap_text(boostmap_status status) {
     case BOOSTMAP_NULL: return "a pointer is null";
     case BOOSTMAP_IN_CALL: return "the handle is in another call";
     case BOOSTMAP_SHORT: return "the array is too short";
-    case BOOSTMAP_NO_ENTRY: return "the numbers say no entry";
+    case BOOSTMAP_NO_ENTRY: return "these numbers are no entry";
     case BOOSTMAP_NO_SUCH_CALLER: return "there is no such caller";
     case BOOSTMAP_NOT_OPEN: return "the caller has no transaction";
     case BOOSTMAP_ALREADY_OPEN: return "the caller has a transaction already";
@@ -144,7 +144,7 @@ static inline const char *boostmap_text(boostmap_status status) {
     case BOOSTMAP_NO_MEMORY: return "memory was refused";
     case BOOSTMAP_STAMPS_USED_UP: return "no stamp is left";
     case BOOSTMAP_LIMIT: return "a limit is out of range";
-    default: return "no call is answered so";
+    default: return "no call returns this status";
     }
 }
 
@@ -170,7 +170,7 @@ typedef struct boostmap_pair {
 boostmap_status boostmap_read(boostmap *map, boostmap_pair *pairs, size_t places, uint64_t *word);
 
 /* Doubles the table if it has more than two keys a bucket, and initialises the key's bucket. Nothing
- * else doubles the table: call this now and then when you put keys, or the table stays one long list.
+ * else doubles the table: call this from time to time when you put keys, or it becomes one long list.
  * 0; 3; 28; 32; 30 */
 boostmap_status boostmap_help(boostmap *map, uint64_t caller, uint64_t key);
 
@@ -183,7 +183,7 @@ boostmap_status boostmap_commit(boostmap *map, uint64_t caller, uint64_t *word);
 /* Aborts: takes every change back, and gives the stripes back. It writes no word.    0; 3; 18; 19 */
 boostmap_status boostmap_abort(boostmap *map, uint64_t caller, uint64_t *word);
 
-/* Operations; *word: the value that the key had. Each may answer 0; 1; 2; 3; 18; 19; 22; 30, and all
+/* Operations; *word: the value that the key had. Each may return 0; 1; 2; 3; 18; 19; 22; 30, and all
  * but get also 32. */
 boostmap_status boostmap_get(boostmap *map, uint64_t caller, uint64_t key, uint64_t *word);
 boostmap_status boostmap_take(boostmap *map, uint64_t caller, uint64_t key, uint64_t *word);
@@ -199,13 +199,13 @@ boostmap_status boostmap_put_if_equal(boostmap *map, uint64_t caller, uint64_t k
 /* Sets a savepoint; *word: its level, from 1.    0; 3; 18; 19; 22; 30 */
 boostmap_status boostmap_save(boostmap *map, uint64_t caller, uint64_t *word);
 
-/* Takes back every change since the level was set; 0 is the beginning. The level stays set, the
- * stripes stay held; *word: the level.    0; 3; 18; 19; 22; 25; 30 */
+/* Takes back every change since the level was set; 0 is the beginning. The level stays set, later
+ * ones are dropped, and the stripes stay held; *word: the level.    0; 3; 18; 19; 22; 25; 30 */
 boostmap_status boostmap_back(boostmap *map, uint64_t caller, uint64_t level, uint64_t *word);
 
 /* ---- the striped map ----------------------------------------------------------------------------
  *
- * One handle is one caller. Its calls need no lock: give each thread its own caller. A caller may go
+ * One handle is one caller. Its calls need no lock: give each thread its own caller. A caller may move
  * to another thread between any two calls, also within a transaction. */
 
 /* A handle of a caller: all zeros, or a caller of a striped map. The program does not touch the
@@ -237,7 +237,7 @@ boostmap_status boostmap_striped_commit(boostmap_caller *caller, uint64_t *word)
 /* Aborts: takes every change back, and gives the stripes back.    0; 3; 19 */
 boostmap_status boostmap_striped_abort(boostmap_caller *caller);
 
-/* Operations; *word: the value that the key had. Each may answer 0; 1; 2, after which the transaction
+/* Operations; *word: the value that the key had. Each may return 0; 1; 2, after which the transaction
  * has been aborted; 3; 19; 30. */
 boostmap_status boostmap_striped_get(boostmap_caller *caller, uint64_t key, uint64_t *word);
 boostmap_status boostmap_striped_take(boostmap_caller *caller, uint64_t key, uint64_t *word);
@@ -250,11 +250,11 @@ boostmap_status boostmap_striped_put_if_equal(boostmap_caller *caller, uint64_t 
 boostmap_status boostmap_striped_save(boostmap_caller *caller, uint64_t *word);
 
 /* Takes back every change since the level was set; 0 is the beginning. The level stays set, later
- * ones are dropped, the stripes stay held.    0; 3; 19; 25 */
+ * ones are dropped, and the stripes stay held.    0; 3; 19; 25 */
 boostmap_status boostmap_striped_back(boostmap_caller *caller, uint64_t level);
 
-/* Takes every stripe, so that nobody else has any; *word: the number of keys that the map has, with
- * the transaction's own changes. The stripes stay held to the transaction's end.
+/* Takes every stripe; *word: the number of keys that the map has, with the transaction's own changes.
+ * The stripes stay held to the transaction's end.
  * 0; 2, after which the transaction has been aborted; 3; 19; 30 */
 boostmap_status boostmap_striped_count(boostmap_caller *caller, uint64_t *word);
 
@@ -272,7 +272,7 @@ boostmap_status boostmap_striped_read(boostmap_caller *caller, boostmap_pair *pa
  *
  *     kind             its members, and what it says
  *     BEGAN            number: the transaction's, counted from 1 over all callers
- *     ASKED            operation, key, and value or expected: the key's stripe is the caller's now
+ *     ASKED            operation, key, and value or expected: the caller now holds the key's stripe
  *     DID              has, value: the reply to the operation that was asked for
  *     SAVED            a savepoint, the caller's next level
  *     LEAVE            has, number: the caller goes back to a level, or aborts (has is 0)
@@ -283,7 +283,8 @@ boostmap_status boostmap_striped_read(boostmap_caller *caller, boostmap_pair *pa
  *                      transaction aborts
  *     ABORTED          all changes are taken back
  *
- * docs/JUDGE.md has the rules in full. Proved: the verdict says legal exactly if the history is. */
+ * docs/JUDGE.md has the rules in full. It is proved that the verdict is legal exactly if the history
+ * is. */
 
 typedef struct boostmap_judge {
     uint64_t tag;
@@ -305,7 +306,7 @@ typedef struct boostmap_entry {
     uint64_t caller;   /* below 64 */
     uint64_t key;
     uint64_t value;
-    uint64_t expected; /* of a put_if that expects a value: then has is 1 */
+    uint64_t expected; /* of a put_if that expects a value; `has` is then 1 */
     uint64_t number;
     uint64_t has;      /* 0: no reply, no expected value, no level */
 } boostmap_entry;
@@ -329,12 +330,12 @@ typedef struct boostmap_verdict {
  * transaction had a wrong reply (rule 1), or an entry out of the order of a transaction (rule 3). */
 enum { BOOSTMAP_HOLDER_NOW = 0, BOOSTMAP_HOLDER_BEGUN = 1, BOOSTMAP_BY_COMMITS = 2 };
 
-/* Begins to judge the history of a map with `stripes` stripes; by the order of commits the number
- * means nothing.    0; 4; 38; 30 */
+/* Begins to judge the history of a map with `stripes` stripes; by the order of commits the number is
+ * ignored.    0; 4; 38; 30 */
 boostmap_status boostmap_judge_new(boostmap_judge *judge, uint64_t stripes, uint32_t rule);
 
-/* Feeds the next entry. It was fed only if the answer is 0; after 30 it may be fed again. After the
- * first entry that breaks a rule, no further one changes the verdict.    0; 3; 8; 30 */
+/* Feeds the next entry. It has been fed only after 0; after 30 it may be fed again. Entries after the
+ * first one that breaks a rule do not change the verdict.    0; 3; 8; 30 */
 boostmap_status boostmap_judge_feed(boostmap_judge *judge, const boostmap_entry *entry);
 
 /* Feeds the entries of an array, in their order, up to the first that cannot be fed; *word: the number

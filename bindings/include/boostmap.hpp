@@ -8,15 +8,16 @@
 //     });                                  commits; an exception aborts
 //
 //     auto callers = boostmap_cpp::open_striped(4, 64);      one for each of four threads
-//     callers[0].transact(100, [](auto &t) { t.put(1, 10); });   if busy, tries up to 100 times more
+//     callers[0].transact(100, [](auto &t) { t.put(1, 10); });   if busy, up to 100 further tries
 //
-// Threads: as boostmap.h says, one call at a time on one map, one caller or one judge. Every call
-// that is not done throws `error`, or `busy`.
+// Threads: as boostmap.h says, one call at a time on one map, one caller or one judge. A call that
+// fails throws `error`, or `busy`.
 #ifndef BOOSTMAP_HPP
 #define BOOSTMAP_HPP
 
 #include "boostmap.h"
 
+#include <cstdint>
 #include <optional>
 #include <stdexcept>
 #include <string>
@@ -27,7 +28,7 @@
 
 namespace boostmap_cpp {
 
-// Thrown by a call that is not done, with its status.
+// Thrown by a call that fails, with its status.
 struct error : std::runtime_error {
     boostmap_status status;
     explicit error(boostmap_status s) : std::runtime_error(boostmap_text(s)), status(s) {}
@@ -43,8 +44,9 @@ struct busy : error {
 // The value of a key, or none.
 using value = std::optional<std::uint64_t>;
 
+namespace detail {
 // The answer of a call: a value, none, or an exception.
-inline value told(boostmap_status status, std::uint64_t word) {
+inline value value_or_throw(boostmap_status status, std::uint64_t word) {
     switch (status) {
     case BOOSTMAP_DONE: return word;
     case BOOSTMAP_ABSENT: return std::nullopt;
@@ -53,12 +55,16 @@ inline value told(boostmap_status status, std::uint64_t word) {
     }
 }
 
+// For a call that answers no value.
+inline void check(boostmap_status status) { value_or_throw(status, 0); }
+} // namespace detail
+
 class transaction;
 
 class map {
 public:
     map(std::uint64_t callers, std::uint64_t stripes, std::uint64_t buckets) {
-        told(boostmap_new(&handle_, callers, stripes, buckets), 0);
+        detail::check(boostmap_new(&handle_, callers, stripes, buckets));
     }
     map(map &&other) noexcept { std::swap(handle_, other.handle_); }
     map &operator=(map &&other) noexcept {
@@ -72,21 +78,21 @@ public:
     std::uint64_t count() {
         std::uint64_t word = 0;
         boostmap_status status = boostmap_count(&handle_, &word);
-        return *told(status, word);
+        return *detail::value_or_throw(status, word);
     }
-    void help(std::uint64_t caller, std::uint64_t key) { told(boostmap_help(&handle_, caller, key), 0); }
+    void help(std::uint64_t caller, std::uint64_t key) { detail::check(boostmap_help(&handle_, caller, key)); }
 
     // The pairs of the map, with the changes of open transactions, in no particular order.
     std::vector<boostmap_pair> pairs() {
-        std::vector<boostmap_pair> all(count() + 1);
+        std::vector<boostmap_pair> all(count() + 1); // one more, so that data() is not null
         std::uint64_t word = 0;
         boostmap_status status = boostmap_read(&handle_, all.data(), all.size(), &word);
-        all.resize(*told(status, word));
+        all.resize(*detail::value_or_throw(status, word));
         return all;
     }
 
     // Begins a transaction, which aborts if it is destroyed before it is committed.
-    transaction begin(std::uint64_t caller);
+    [[nodiscard]] transaction begin(std::uint64_t caller);
 
     // Runs a job in a transaction: commits, or aborts if the job throws. Returns the job's result.
     template <class Job> auto transact(std::uint64_t caller, Job &&job);
@@ -121,11 +127,11 @@ public:
     std::uint64_t save() { return *call(boostmap_save); }
     void back(std::uint64_t level) { call(boostmap_back, level); }
 
-    // Commits, and returns the place in the order of commits. The transaction is over then.
+    // Commits, and returns the place in the order of commits. The transaction is then over.
     std::uint64_t commit() {
-        std::uint64_t number = *call(boostmap_commit);
+        std::uint64_t place = *call(boostmap_commit);
         map_ = nullptr;
-        return number;
+        return place;
     }
     void abort() {
         call(boostmap_abort);
@@ -137,13 +143,13 @@ private:
     transaction(map *owner, std::uint64_t caller) : map_(owner), caller_(caller) {
         std::uint64_t word = 0;
         boostmap_status status = boostmap_begin(&owner->handle_, caller, &word);
-        number_ = *told(status, word);
+        number_ = *detail::value_or_throw(status, word);
     }
     template <class Call, class... Words> value call(Call function, Words... words) {
         if (!map_) throw error(BOOSTMAP_NOT_OPEN);
         std::uint64_t word = 0;
         boostmap_status status = function(&map_->handle_, caller_, words..., &word);
-        return told(status, word);
+        return detail::value_or_throw(status, word);
     }
 
     map *map_;
@@ -183,10 +189,10 @@ public:
     std::uint64_t number() const { return number_; }
 
     // Begins a transaction, which aborts if it is destroyed before it is committed.
-    caller_transaction begin();
+    [[nodiscard]] caller_transaction begin();
 
-    // Runs a job in a transaction: commits, or aborts if the job throws. If a stripe is busy it
-    // begins again, at most `tries` times. Returns the job's result.
+    // Runs a job in a transaction: commits, or aborts if the job throws. If a stripe is busy, it
+    // yields and tries again, at most `tries` times. Returns the job's result.
     template <class Job> auto transact(std::uint64_t tries, Job &&job);
 
 private:
@@ -198,15 +204,15 @@ private:
 };
 
 // Opens a striped map with no keys, for 1 to 4096 callers and with 1 to 4096 stripes, and returns its
-// callers.
+// callers, of which each thread takes one.
 inline std::vector<caller> open_striped(std::uint64_t callers, std::uint64_t stripes) {
     std::vector<caller> all;
     caller first;
-    told(boostmap_striped_open(&first.handle_, callers, stripes, &first.number_), 0);
+    detail::check(boostmap_striped_open(&first.handle_, callers, stripes, &first.number_));
     all.reserve(callers);
     for (std::uint64_t i = 1; i < callers; i++) {
         caller next;
-        told(boostmap_striped_join(&first.handle_, &next.handle_, &next.number_), 0);
+        detail::check(boostmap_striped_join(&first.handle_, &next.handle_, &next.number_));
         all.push_back(std::move(next));
     }
     all.push_back(std::move(first));
@@ -233,31 +239,30 @@ public:
         return call(boostmap_striped_put_if_equal, key, expected, to);
     }
     std::uint64_t save() { return *call(boostmap_striped_save); }
-    void back(std::uint64_t level) { told(boostmap_striped_back(handle(), level), 0); }
+    void back(std::uint64_t level) { detail::check(boostmap_striped_back(handle(), level)); }
 
     // The number of keys of the map, and its pairs by rising keys. Both take every stripe.
     std::uint64_t count() { return *call(boostmap_striped_count); }
     std::vector<boostmap_pair> pairs() {
-        std::vector<boostmap_pair> all(count() + 1);
-        std::uint64_t many = *call(boostmap_striped_read, all.data(), all.size());
-        all.resize(many);
+        std::vector<boostmap_pair> all(count() + 1); // one more, so that data() is not null
+        all.resize(*call(boostmap_striped_read, all.data(), all.size()));
         return all;
     }
 
-    // Commits, and returns the place in the order of commits. The transaction is over then.
+    // Commits, and returns the place in the order of commits. The transaction is then over.
     std::uint64_t commit() {
         std::uint64_t place = *call(boostmap_striped_commit);
         caller_ = nullptr;
         return place;
     }
     void abort() {
-        told(boostmap_striped_abort(handle()), 0);
+        detail::check(boostmap_striped_abort(handle()));
         caller_ = nullptr;
     }
 
 private:
     friend class caller;
-    explicit caller_transaction(caller *owner) : caller_(owner) { told(boostmap_striped_begin(&owner->handle_), 0); }
+    explicit caller_transaction(caller *owner) : caller_(owner) { detail::check(boostmap_striped_begin(&owner->handle_)); }
     boostmap_caller *handle() {
         if (!caller_) throw error(BOOSTMAP_NOT_OPEN);
         return &caller_->handle_;
@@ -266,7 +271,7 @@ private:
         std::uint64_t word = 0;
         boostmap_status status = function(handle(), words..., &word);
         if (status == BOOSTMAP_BUSY) caller_ = nullptr;
-        return told(status, word);
+        return detail::value_or_throw(status, word);
     }
 
     caller *caller_;
@@ -294,12 +299,12 @@ template <class Job> auto caller::transact(std::uint64_t tries, Job &&job) {
     }
 }
 
-// The judge of histories, fed entry by entry. An entry is built by the functions below.
+// The judge of histories, fed entry by entry. The functions of `entry` below make entries.
 class judge {
 public:
     // The rule: BOOSTMAP_HOLDER_NOW, BOOSTMAP_HOLDER_BEGUN or BOOSTMAP_BY_COMMITS.
     explicit judge(std::uint64_t stripes, std::uint32_t rule = BOOSTMAP_HOLDER_NOW) {
-        told(boostmap_judge_new(&handle_, stripes, rule), 0);
+        detail::check(boostmap_judge_new(&handle_, stripes, rule));
     }
     judge(judge &&other) noexcept { std::swap(handle_, other.handle_); }
     judge &operator=(judge &&other) noexcept {
@@ -310,18 +315,18 @@ public:
     judge &operator=(const judge &) = delete;
     ~judge() { boostmap_judge_free(&handle_); }
 
-    void feed(const boostmap_entry &entry) { told(boostmap_judge_feed(&handle_, &entry), 0); }
+    void feed(const boostmap_entry &entry) { detail::check(boostmap_judge_feed(&handle_, &entry)); }
 
     // Feeds entries in their order. If one throws, those before it are fed.
     void feed(const std::vector<boostmap_entry> &entries) {
         std::uint64_t count = 0;
         if (entries.empty()) return;
-        told(boostmap_judge_feed_all(&handle_, entries.data(), entries.size(), &count), 0);
+        detail::check(boostmap_judge_feed_all(&handle_, entries.data(), entries.size(), &count));
     }
 
     boostmap_verdict verdict() {
         boostmap_verdict verdict = {};
-        told(boostmap_judge_verdict(&handle_, &verdict), 0);
+        detail::check(boostmap_judge_verdict(&handle_, &verdict));
         return verdict;
     }
 

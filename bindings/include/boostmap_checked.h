@@ -1,8 +1,8 @@
 /* The calls of boostmap.h behind a door: instead of undefined behaviour, a null handle, array, entry
- * or verdict is answered BOOSTMAP_NULL, and a handle that is in another call BOOSTMAP_IN_CALL. So any
+ * or verdict returns BOOSTMAP_NULL, and a handle that is in another call BOOSTMAP_IN_CALL. So any
  * thread may call at any time: the door is a seq_cst exchange, which also orders the calls. `word` may
- * be null if the number is not needed. Needs C11. This header is only tested. A door costs about 20 ns
- * a call.
+ * be null if the number is not needed. This header needs C11 and is only tested. A door costs about
+ * 20 ns a call.
  *
  *     boostmap_door map = BOOSTMAP_DOOR_INIT;
  *     boostmap_checked_new(&map, 2, 64, 1024);
@@ -22,7 +22,7 @@ typedef struct boostmap_door {
 
 #define BOOSTMAP_DOOR_INIT { BOOSTMAP_INIT, 0 }
 
-/* Defines boostmap_checked_NAME: its parameters after the door, then the call of the map. */
+/* Defines boostmap_checked_NAME, by its parameters, the door first, and the call behind the door. */
 #define BOOSTMAP_CHECKED(NAME, PARAMETERS, CALL)                                                    \
     static inline boostmap_status boostmap_checked_##NAME PARAMETERS {                             \
         boostmap_status status;                                                                    \
@@ -33,7 +33,7 @@ typedef struct boostmap_door {
         return status;                                                                             \
     }
 
-/* Defines boostmap_checked_NAME for a call with a word, which may be null here. */
+/* Defines boostmap_checked_NAME for a call with a word, which may be null. */
 #define BOOSTMAP_CHECKED_WORD(NAME, PARAMETERS, CALL)                                               \
     static inline boostmap_status boostmap_checked_##NAME PARAMETERS {                             \
         boostmap_status status;                                                                    \

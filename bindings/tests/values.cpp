@@ -5,8 +5,8 @@
 
 namespace entry = boostmap_cpp::entry;
 using boostmap_cpp::busy;
-using boostmap_cpp::judge;
 using boostmap_cpp::error;
+using boostmap_cpp::judge;
 using boostmap_cpp::map;
 
 template <class Job> static boostmap_status thrown(Job job) {
@@ -94,7 +94,7 @@ static void of_callers() {
     CHECK(thrown([&] { two.transact(0, [](auto &t) { t.put(3, 30); throw error(99); }); }) == 99);
     CHECK(two.transact(0, [](auto &t) { return t.get(2) || t.get(3); }) == false);
     auto moved = std::move(one);
-    CHECK(thrown([&] { one.begin(); }) == BOOSTMAP_EMPTY);
+    CHECK(thrown([&] { static_cast<void>(one.begin()); }) == BOOSTMAP_EMPTY);
     CHECK(moved.begin().commit() == 7);
     CHECK(thrown([] { boostmap_cpp::open_striped(0, 16); }) == BOOSTMAP_LIMIT);
 }
