@@ -10,10 +10,10 @@
 A striped map is for threads: each thread has its own caller, and callers run in parallel.
 
     callers = open_striped(callers=4, stripes=64)
-    with callers[0].transaction() as t:      # Busy if another caller has the key's stripe
+    with callers[0].transaction() as t:      # Busy if another caller holds the key's stripe
         t.put(1, 100)
 
-The library is libboostmap.so, beside this file or at the path in BOOSTMAP_SO; `bindings/install.sh` of
+The library is libboostmap.so, next to this file or at the path in BOOSTMAP_SO; `bindings/install.sh` of
 the repository builds it. It is proved; this module is only tested. Threads may share a map, a caller
 or a judge: each call holds that object's lock, and releases the interpreter's lock meanwhile.
 """
@@ -48,7 +48,11 @@ class _Verdict(ctypes.Structure):
     _fields_ = [(name, _U64) for name in ("is_legal", "commits", "running", "entry", "rule")]
 
 
-_HANDLE, _WORD = ctypes.POINTER(_Handle), ctypes.POINTER(_U64)
+_HANDLE = ctypes.POINTER(_Handle)
+_WORD = ctypes.POINTER(_U64)
+
+# Statuses of boostmap.h that this module treats in a special way.
+_DONE, _ABSENT, _BUSY, _SHORT, _NOT_OPEN = 0, 1, 2, 7, 19
 
 # The calls of boostmap.h: the number of arguments between the handle and the word, and whether there
 # is a word.
@@ -65,17 +69,23 @@ _CALLS = {
 }
 
 _REASONS = {
-    3: "the handle is closed", 8: "the numbers say no entry", 18: "there is no such caller",
-    19: "the caller has no transaction",
-    20: "the caller has a transaction already", 22: "the transaction can only abort",
-    25: "there is no such level", 28: "there is no such caller", 30: "memory was refused",
-    32: "no stamp is left", 38: "a limit is out of range",
+    3: "the handle is closed",
+    8: "these numbers are no entry",
+    18: "there is no such caller",
+    _NOT_OPEN: "the caller has no transaction",
+    20: "the caller has a transaction already",
+    22: "the transaction can only abort",
+    25: "there is no such level",
+    28: "there is no such caller",
+    30: "memory was refused",
+    32: "no stamp is left",
+    38: "a limit is out of range",
 }
 
 
 def _load():
-    beside = os.path.join(os.path.dirname(os.path.abspath(__file__)), "libboostmap.so")
-    library = ctypes.CDLL(os.environ.get("BOOSTMAP_SO", beside))
+    default = os.path.join(os.path.dirname(os.path.abspath(__file__)), "libboostmap.so")
+    library = ctypes.CDLL(os.environ.get("BOOSTMAP_SO", default))
     for name, (numbers, has_word) in _CALLS.items():
         call = getattr(library, "boostmap_" + name)
         call.argtypes = [_HANDLE] + [_U64] * numbers + ([_WORD] if has_word else [])
@@ -96,7 +106,7 @@ _library = _load()
 
 
 class Error(Exception):
-    """A call was not done."""
+    """A call failed."""
 
 
 class Busy(Error):
@@ -116,17 +126,25 @@ class Refused(Error):
         self.status = status
 
 
-def _told(status, word):
-    if status == 0:
+def _value(status, word):
+    """The value that a call answered, or None; raises if the call failed."""
+    if status == _DONE:
         return word.value
-    if status == 1:
+    if status == _ABSENT:
         return None
-    raise Busy(word.value) if status == 2 else Refused(status)
+    if status == _BUSY:
+        raise Busy(word.value)
+    raise Refused(status)
+
+
+def _check(status):
+    """Raises if a call that answers no value failed."""
+    _value(status, _U64(0))
 
 
 def _number(value):
     if not 0 <= value < 1 << 64:
-        raise OverflowError(f"{value} is no 64-bit number")
+        raise OverflowError(f"{value} is not an unsigned 64-bit number")
     return value
 
 
@@ -136,16 +154,20 @@ class _Owned:
     _free = None
 
     def __init__(self):
-        self._handle, self._lock = _Handle(0, None), threading.Lock()
+        self._handle = _Handle(0, None)
+        self._lock = threading.Lock()
 
     def _call(self, name, *numbers):
-        call, numbers, word = getattr(_library, "boostmap_" + name), [_number(n) for n in numbers], _U64(0)
+        word = _U64(0)
+        arguments = [_number(n) for n in numbers]
+        if _CALLS[name][1]:
+            arguments.append(word)
         with self._lock:
-            status = call(self._handle, *numbers, *([word] if _CALLS[name][1] else []))
-        return _told(status, word)
+            status = getattr(_library, "boostmap_" + name)(self._handle, *arguments)
+        return _value(status, word)
 
     def close(self):
-        """Frees the handle; an open transaction is lost with it."""
+        """Frees the handle. Nothing of an open transaction stays."""
         with self._lock:
             getattr(_library, "boostmap_" + self._free)(self._handle)
 
@@ -179,9 +201,9 @@ class Map(_Owned):
             pairs = (_Pair * places)()
             with self._lock:
                 status = _library.boostmap_read(self._handle, pairs, places, word)
-            if status == 0:
-                return {pairs[i].key: pairs[i].value for i in range(word.value)}
-            if status != 7:
+            if status == _DONE:
+                return {pair.key: pair.value for pair in pairs[:word.value]}
+            if status != _SHORT:
                 raise Refused(status)
             places = word.value
 
@@ -197,8 +219,9 @@ class Map(_Owned):
 class Transaction:
     """One caller's transaction. A key without a value has None."""
 
-    def __init__(self, of, caller):
-        self._map, self._caller, self.number, self.commit_number = of, caller, None, None
+    def __init__(self, owner, caller):
+        self._map, self._caller = owner, caller
+        self.number = self.commit_number = None
 
     def __enter__(self):
         self.number = self._map._call("begin", self._caller)
@@ -215,12 +238,15 @@ class Transaction:
             self._map._call("abort", self._caller)
 
     def get(self, key):
+        """The value at the key."""
         return self._map._call("get", self._caller, key)
 
     def take(self, key):
+        """Takes the key out, and returns the value that it had."""
         return self._map._call("take", self._caller, key)
 
     def put(self, key, value):
+        """Puts the value at the key, and returns the value before."""
         return self._map._call("put", self._caller, key, value)
 
     def put_if(self, key, expected, value):
@@ -230,24 +256,27 @@ class Transaction:
         return self._map._call("put_if_equal", self._caller, key, expected, value)
 
     def save(self):
+        """Sets a savepoint, and returns its level."""
         return self._map._call("save", self._caller)
 
     def back(self, level=0):
+        """Takes back every change since the level was set; 0 is the beginning of the transaction."""
         self._map._call("back", self._caller, level)
 
 
 def open_striped(callers=1, stripes=64):
-    """Opens a striped map with no keys, for 1 to 4096 callers and with 1 to 4096 stripes, and returns its callers, by
-    their numbers from 1. The map is freed with the last of them."""
+    """Opens a striped map with no keys, for 1 to 4096 callers and with 1 to 4096 stripes, and returns its callers, in
+    the order of their numbers from 1. The map is freed with the last of them."""
     first = Caller()
     first.number = first._call("striped_open", callers, stripes)
     others = []
     for _ in range(1, callers):
         other, word = Caller(), _U64(0)
         with first._lock:
-            other.number = _told(_library.boostmap_striped_join(first._handle, other._handle, word), word)
+            status = _library.boostmap_striped_join(first._handle, other._handle, word)
+        other.number = _value(status, word)
         others.append(other)
-    return others[::-1] + [first]
+    return others[::-1] + [first]  # numbers are counted down
 
 
 class Caller(_Owned):
@@ -261,7 +290,7 @@ class Caller(_Owned):
         return CallerTransaction(self)
 
     def transact(self, job, tries=100):
-        """Runs a job, which is given the transaction, and commits. If a stripe is busy it begins again, at most `tries`
+        """Runs a job, which is given the transaction, and commits. If a stripe is busy, it tries again, at most `tries`
         times. Returns the job's result."""
         while True:
             try:
@@ -271,14 +300,15 @@ class Caller(_Owned):
                 if tries == 0:
                     raise
                 tries -= 1
-                time.sleep(0)
+                time.sleep(0)  # lets another thread run
 
 
 class CallerTransaction:
     """A caller's transaction. A key without a value has None. After Busy it is over: each further call is refused."""
 
-    def __init__(self, of):
-        self._caller, self.commit_number, self._is_open = of, None, False
+    def __init__(self, caller):
+        self._caller, self._is_open = caller, False
+        self.commit_number = None
 
     def __enter__(self):
         self._caller._call("striped_begin")
@@ -294,7 +324,7 @@ class CallerTransaction:
 
     def _call(self, name, *numbers):
         if not self._is_open:
-            raise Refused(19)
+            raise Refused(_NOT_OPEN)
         try:
             return self._caller._call(name, *numbers)
         except Busy:
@@ -302,12 +332,15 @@ class CallerTransaction:
             raise
 
     def get(self, key):
+        """The value at the key."""
         return self._call("striped_get", key)
 
     def take(self, key):
+        """Takes the key out, and returns the value that it had."""
         return self._call("striped_take", key)
 
     def put(self, key, value):
+        """Puts the value at the key, and returns the value before."""
         return self._call("striped_put", key, value)
 
     def put_if(self, key, expected, value):
@@ -317,20 +350,23 @@ class CallerTransaction:
         return self._call("striped_put_if_equal", key, expected, value)
 
     def save(self):
+        """Sets a savepoint, and returns its level."""
         return self._call("striped_save")
 
     def back(self, level=0):
+        """Takes back every change since the level was set; 0 is the beginning of the transaction."""
         self._call("striped_back", level)
 
     def items(self):
-        """A dictionary of the whole map, with the transaction's own changes: every stripe is taken."""
-        places, word = self._call("striped_count"), _U64(0)
-        pairs = (_Pair * max(places, 1))()
+        """A dictionary of the whole map, with the transaction's own changes. Takes every stripe."""
+        places, word = len(self), _U64(0)
+        pairs = (_Pair * places)()
         with self._caller._lock:
             status = _library.boostmap_striped_read(self._caller._handle, pairs, places, word)
-        return {pair.key: pair.value for pair in pairs[:_told(status, word)]}
+        return {pair.key: pair.value for pair in pairs[:_value(status, word)]}
 
     def __len__(self):
+        """The number of keys of the map, with the transaction's own changes. Takes every stripe."""
         return self._call("striped_count")
 
 
@@ -350,49 +386,50 @@ class Entry(collections.namedtuple("Entry", "kind caller operation key value exp
         return super().__new__(cls, kind, caller, operation, key, value, expected, number)
 
     def _to_c(self):
-        there = {"did": self.value, "leave": self.number}.get(self.kind, self.expected)
+        # The member that may be absent: the reply, the level, or the expected value.
+        optional = {"did": self.value, "leave": self.number}.get(self.kind, self.expected)
         numbers = [_number(n or 0) for n in (self.caller, self.key, self.value, self.expected, self.number)]
-        return _Entry(_KINDS[self.kind], _OPERATIONS.get(self.operation, 0), *numbers, there is not None)
+        return _Entry(_KINDS[self.kind], _OPERATIONS.get(self.operation, 0), *numbers, optional is not None)
 
 
 Verdict = collections.namedtuple("Verdict", "is_legal commits running entry rule")
-Verdict.__doc__ = """What the judge says. If legal, the number of committed transactions, and of callers that are in
+Verdict.__doc__ = """The judge's verdict. If legal, the number of committed transactions, and of callers that are in
 one; if not, the index of the first bad entry, from 0, and its rule: "replies", "locks" or "shape"."""
 
 
 class Judge(_Owned):
     """The judge of the history of a map with `stripes` stripes. A busy entry may name a caller that holds the stripe
     at that moment, or, with `begun=True`, one that has begun a transaction before. With `by_commits=True` it judges
-    by the order of commits, for stores whose readers share locks or read snapshots, and judges no stripes."""
+    by the order of commits, for stores whose readers share locks or read snapshots, and ignores the stripes."""
 
     _free = "judge_free"
 
     def __init__(self, stripes=64, begun=False, by_commits=False):
         super().__init__()
         rule = 2 if by_commits else int(begun)
-        _told(_library.boostmap_judge_new(self._handle, _number(stripes), rule), _U64(0))
+        _check(_library.boostmap_judge_new(self._handle, _number(stripes), rule))
 
     def feed(self, entry):
         """Feeds the next entry. If it raises, nothing was fed."""
         entry = entry._to_c()
         with self._lock:
             status = _library.boostmap_judge_feed(self._handle, entry)
-        _told(status, _U64(0))
+        _check(status)
 
     def feed_all(self, entries):
         """Feeds entries in their order. If one raises, those before it are fed."""
-        entries, word = [entry._to_c() for entry in entries], _U64(0)
-        array = (_Entry * max(len(entries), 1))(*entries)
+        entries, fed = [entry._to_c() for entry in entries], _U64(0)
+        array = (_Entry * len(entries))(*entries)
         with self._lock:
-            status = _library.boostmap_judge_feed_all(self._handle, array, len(entries), word)
-        _told(status, word)
+            status = _library.boostmap_judge_feed_all(self._handle, array, len(entries), fed)
+        _check(status)
 
     def verdict(self):
         """The verdict on the entries so far."""
         verdict = _Verdict()
         with self._lock:
             status = _library.boostmap_judge_verdict(self._handle, verdict)
-        _told(status, _U64(0))
+        _check(status)
         if verdict.is_legal:
             return Verdict(True, verdict.commits, verdict.running, None, None)
         return Verdict(False, None, None, verdict.entry, ("replies", "locks", "shape")[verdict.rule - 1])

@@ -4,7 +4,7 @@ use crate::{answer, Error, Result};
 use std::thread;
 
 /// Opens a striped map with no keys, for 1 to 4096 callers and with 1 to 4096 stripes, and returns its
-/// callers, by their numbers from 1. The map is freed with the last of them.
+/// callers, in the order of their numbers from 1. The map is freed with the last of them.
 ///
 /// ```
 /// use std::thread;
@@ -28,7 +28,8 @@ use std::thread;
 pub fn open_striped(callers: u64, stripes: u64) -> Result<Vec<Caller>> {
     let mut first = Caller { handle: Handle::EMPTY, number: 0 };
     // SAFETY: the handle is all zeros and uniquely borrowed.
-    let number = answer(&mut first.handle, |at, word| unsafe { sys::boostmap_striped_open(at, callers, stripes, word) })?;
+    let number =
+        answer(&mut first.handle, |at, word| unsafe { sys::boostmap_striped_open(at, callers, stripes, word) })?;
     first.number = number.unwrap_or_default();
     let mut all = Vec::with_capacity(callers as usize);
     for _ in 1..callers {
@@ -71,8 +72,8 @@ impl Caller {
         Ok(CallerTransaction { caller: self, is_open: true })
     }
 
-    /// Runs a job in a transaction: commits, or aborts if the job fails or panics. If a stripe is busy
-    /// it begins again, at most `tries` times.
+    /// Runs a job in a transaction: commits, or aborts if the job fails or panics. If a stripe is busy,
+    /// it yields and tries again, at most `tries` times.
     ///
     /// # Errors
     ///
@@ -108,13 +109,13 @@ impl Caller {
 
 impl Drop for Caller {
     fn drop(&mut self) {
-        // SAFETY: dropped once; a handle of all zeros is answered and left.
+        // SAFETY: dropped once, and the call accepts an empty handle.
         unsafe { sys::boostmap_striped_free(&mut self.handle) };
     }
 }
 
-/// An open transaction of a caller, which aborts if it is dropped before it is committed. Once a call
-/// was `Busy` it is over, and every further call returns `NotOpen`.
+/// An open transaction of a caller, which aborts if it is dropped before it is committed. It is over
+/// once a call returns `Busy`: every further call returns `NotOpen`.
 pub struct CallerTransaction<'a> {
     caller: &'a mut Caller,
     is_open: bool,
@@ -139,7 +140,7 @@ impl CallerTransaction<'_> {
         self.call(|at, word| unsafe { sys::boostmap_striped_take(at, key, word) })
     }
 
-    /// Puts a value at a key, and returns the one before.
+    /// Puts a value at a key, and returns the value before.
     ///
     /// # Errors
     ///
@@ -198,8 +199,8 @@ impl CallerTransaction<'_> {
     pub fn pairs(&mut self) -> Result<Vec<(u64, u64)>> {
         let mut pairs = vec![sys::Pair { key: 0, value: 0 }; self.count()? as usize];
         let (start, places) = (pairs.as_mut_ptr(), pairs.len());
-        // SAFETY: the array has as many places as its length says, one for each key: nobody else has a
-        // stripe.
+        // SAFETY: the array has as many places as its length says. There is one for each key, since
+        // this caller holds every stripe.
         self.call(|at, word| unsafe { sys::boostmap_striped_read(at, start, places, word) })?;
         Ok(pairs.iter().map(|pair| (pair.key, pair.value)).collect())
     }

@@ -1,4 +1,4 @@
-//! The judge of histories, which is fed entry by entry.
+//! The judge of histories, to which entries are fed.
 use crate::sys::{self, Handle};
 use crate::{Error, Result};
 
@@ -15,12 +15,12 @@ pub enum Operation {
     Get { key: u64 },
 }
 
-/// An entry of a history, of this map or of your own store. Its first member is its caller, below 64.
+/// An entry of a history, of this map or of your own store. Its first field is its caller, below 64.
 #[derive(Clone, Copy, Debug, PartialEq, Eq)]
 pub enum Entry {
     /// A transaction began, with its number, counted from 1 over all callers.
     Began(u64, u64),
-    /// An operation was asked for: the key's stripe is the caller's now.
+    /// An operation was asked for: the caller now holds the key's stripe.
     Asked(u64, Operation),
     /// The reply to the operation that was asked for.
     Did(u64, Option<u64>),
@@ -28,7 +28,7 @@ pub enum Entry {
     Saved(u64),
     /// The caller goes back to a level, or, without one, aborts.
     Leave(u64, Option<u64>),
-    /// The newest change that stood is taken back.
+    /// The newest change that stands is taken back.
     Undone(u64),
     /// The caller is back at the level.
     Returned(u64, u64),
@@ -106,7 +106,7 @@ pub enum Rule {
 /// The judge's verdict on the entries so far.
 #[derive(Clone, Copy, Debug, PartialEq, Eq)]
 pub enum Verdict {
-    /// No entry breaks a rule. The number of committed transactions, and of callers that are in one.
+    /// No entry breaks a rule: the number of committed transactions, and of callers that are in one.
     Legal { commits: u64, running: u64 },
     /// The first entry that breaks a rule, counted from 0.
     Illegal { entry: u64, rule: Rule },
@@ -165,8 +165,8 @@ impl Judge {
     ///
     /// # Errors
     ///
-    /// `NoEntry` if the caller is not below 64, and `NoMemory`. Nothing was fed then, and after
-    /// `NoMemory` the entry may be fed again.
+    /// `NoEntry` if the caller is not below 64, and `NoMemory`. Then nothing was fed; after `NoMemory`
+    /// the entry may be fed again.
     pub fn feed(&mut self, entry: Entry) -> Result<()> {
         // SAFETY: the handle is live, and both pointers are borrows.
         match unsafe { sys::boostmap_judge_feed(&mut self.0, &entry.to_c()) } {
@@ -193,24 +193,24 @@ impl Judge {
 
     /// The verdict on the entries so far.
     pub fn verdict(&mut self) -> Verdict {
-        let mut told = sys::Verdict::default();
+        let mut found = sys::Verdict::default();
         // SAFETY: the handle is live, and both pointers are unique borrows.
-        unsafe { sys::boostmap_judge_verdict(&mut self.0, &mut told) };
-        if told.is_legal == 1 {
-            return Verdict::Legal { commits: told.commits, running: told.running };
+        unsafe { sys::boostmap_judge_verdict(&mut self.0, &mut found) };
+        if found.is_legal == 1 {
+            return Verdict::Legal { commits: found.commits, running: found.running };
         }
-        let rule = match told.rule {
+        let rule = match found.rule {
             1 => Rule::Replies,
             2 => Rule::Locks,
             _ => Rule::Shape,
         };
-        Verdict::Illegal { entry: told.entry, rule }
+        Verdict::Illegal { entry: found.entry, rule }
     }
 }
 
 impl Drop for Judge {
     fn drop(&mut self) {
-        // SAFETY: dropped once; a handle of all zeros is answered and left.
+        // SAFETY: dropped once, and the call accepts an empty handle.
         unsafe { sys::boostmap_judge_free(&mut self.0) };
     }
 }

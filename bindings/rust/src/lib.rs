@@ -25,7 +25,7 @@
 //! crate, with its declarations of the archive's calls, is only tested.
 //!
 //! A map, a caller and a judge may move to another thread, since what their handles own is `Send`
-//! (proved: `sends_core`, `sends_member`, `sends_referee`). A map may be shared behind a `Mutex`.
+//! (proved by `sends_core`, `sends_member` and `sends_referee`). A map may be shared behind a `Mutex`.
 
 use std::error;
 use std::fmt;
@@ -83,6 +83,16 @@ mod sys {
     pub const DONE: u32 = 0;
     pub const ABSENT: u32 = 1;
     pub const BUSY: u32 = 2;
+    pub const NO_ENTRY: u32 = 8;
+    pub const NO_SUCH_CALLER: u32 = 18;
+    pub const NOT_OPEN: u32 = 19;
+    pub const ALREADY_OPEN: u32 = 20;
+    pub const LEAVING: u32 = 22;
+    pub const NO_SUCH_LEVEL: u32 = 25;
+    pub const NO_SUCH_HELPER: u32 = 28;
+    pub const NO_MEMORY: u32 = 30;
+    pub const STAMPS_USED_UP: u32 = 32;
+    pub const LIMIT: u32 = 38;
 
     extern "C" {
         pub fn boostmap_new(map: *mut Handle, callers: u64, stripes: u64, buckets: u64) -> u32;
@@ -139,7 +149,7 @@ mod sys {
     }
 }
 
-/// Why a call was not done.
+/// Why a call failed.
 #[derive(Clone, Copy, Debug, PartialEq, Eq)]
 pub enum Error {
     /// The caller with this number holds the key's stripe. The transaction can then only abort; on a
@@ -171,15 +181,15 @@ impl Error {
     fn from_status(status: u32, word: u64) -> Error {
         match status {
             sys::BUSY => Error::Busy(word),
-            18 | 28 => Error::NoSuchCaller,
-            19 => Error::NotOpen,
-            20 => Error::AlreadyOpen,
-            22 => Error::Leaving,
-            25 => Error::NoSuchLevel,
-            30 => Error::NoMemory,
-            32 => Error::StampsUsedUp,
-            38 => Error::Limit,
-            8 => Error::NoEntry,
+            sys::NO_ENTRY => Error::NoEntry,
+            sys::NO_SUCH_CALLER | sys::NO_SUCH_HELPER => Error::NoSuchCaller,
+            sys::NOT_OPEN => Error::NotOpen,
+            sys::ALREADY_OPEN => Error::AlreadyOpen,
+            sys::LEAVING => Error::Leaving,
+            sys::NO_SUCH_LEVEL => Error::NoSuchLevel,
+            sys::NO_MEMORY => Error::NoMemory,
+            sys::STAMPS_USED_UP => Error::StampsUsedUp,
+            sys::LIMIT => Error::Limit,
             other => Error::Other(other),
         }
     }
@@ -232,7 +242,7 @@ impl Map {
         }
     }
 
-    /// The number of keys of the map, with the changes of open transactions. Never an error.
+    /// The number of keys of the map, with the changes of open transactions. It never fails.
     pub fn count(&mut self) -> Result<u64> {
         self.call(|map, word| unsafe { sys::boostmap_count(map, word) }).map(Option::unwrap_or_default)
     }
@@ -251,7 +261,7 @@ impl Map {
     }
 
     /// Doubles the table if it has more than two keys a bucket, and initialises the key's bucket.
-    /// Nothing else doubles the table, so call this now and then when you put keys.
+    /// Nothing else doubles the table, so call this from time to time when you put keys.
     ///
     /// # Errors
     ///
@@ -261,8 +271,8 @@ impl Map {
     }
 
     /// Begins a transaction of a caller, which aborts if it is dropped before it is committed. It
-    /// borrows the map; to have several open at once, use the calls that take the caller's number, such
-    /// as [`Map::begin_caller`].
+    /// borrows the map; to have several open at the same time, use the calls that take the caller's
+    /// number, such as [`Map::begin_caller`].
     ///
     /// # Errors
     ///
@@ -330,7 +340,7 @@ impl Map {
         self.call(|map, word| unsafe { sys::boostmap_take(map, caller, key, word) })
     }
 
-    /// Puts a value at a key, and returns the one before.
+    /// Puts a value at a key, and returns the value before.
     ///
     /// # Errors
     ///
@@ -391,7 +401,7 @@ fn answer(handle: &mut sys::Handle, job: impl FnOnce(*mut sys::Handle, *mut u64)
 
 impl Drop for Map {
     fn drop(&mut self) {
-        // SAFETY: dropped once; a handle of all zeros is answered and left.
+        // SAFETY: dropped once, and the call accepts an empty handle.
         unsafe { sys::boostmap_free(&mut self.0) };
     }
 }
@@ -428,7 +438,7 @@ impl Transaction<'_> {
         self.map.take(self.caller, key)
     }
 
-    /// Puts a value at a key, and returns the one before.
+    /// Puts a value at a key, and returns the value before.
     ///
     /// # Errors
     ///

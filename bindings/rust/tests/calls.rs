@@ -60,7 +60,10 @@ fn a_panic_aborts() {
     let inside = map.clone();
     let panicked = thread::spawn(move || {
         let mut map = inside.lock().unwrap();
-        let _ = map.transact(0, |t| t.put(1, 1).map(|_| panic!("in the job")).map(|()| ()));
+        let _ = map.transact::<()>(0, |t| {
+            t.put(1, 1)?;
+            panic!("in the job")
+        });
     })
     .join();
     assert!(panicked.is_err());
