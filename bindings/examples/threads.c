@@ -6,8 +6,9 @@
 
 enum { THREADS = 4, ROUNDS = 1000 };
 
-/* One move from account 1 to account 2. If a stripe is busy, the transaction is aborted already. */
-static boostmap_status moves(boostmap_caller *c) {
+/* Moves 1 from account 1 to account 2, in one transaction. If a stripe is busy, the transaction has
+ * been aborted already, and the abort at the end does nothing. */
+static boostmap_status move_one(boostmap_caller *c) {
     uint64_t one, two, had;
     boostmap_status status = boostmap_striped_begin(c);
     if (status != BOOSTMAP_DONE) return status;
@@ -20,10 +21,10 @@ static boostmap_status moves(boostmap_caller *c) {
     return status;
 }
 
-static void *runs(void *caller) {
+static void *run(void *caller) {
     for (int done = 0; done < ROUNDS;)
-        if (moves(caller) == BOOSTMAP_DONE) done++;
-    return 0;
+        if (move_one(caller) == BOOSTMAP_DONE) done++;
+    return NULL;
 }
 
 int main(void) {
@@ -38,8 +39,8 @@ int main(void) {
     boostmap_striped_put(&callers[0], 2, 0, &word);
     boostmap_striped_commit(&callers[0], &word);
     for (int i = 0; i < THREADS; i++)
-        if (pthread_create(&threads[i], 0, runs, &callers[i])) return 1;
-    for (int i = 0; i < THREADS; i++) pthread_join(threads[i], 0);
+        if (pthread_create(&threads[i], NULL, run, &callers[i])) return 1;
+    for (int i = 0; i < THREADS; i++) pthread_join(threads[i], NULL);
     boostmap_striped_begin(&callers[0]);
     boostmap_striped_get(&callers[0], 1, &one);
     boostmap_striped_get(&callers[0], 2, &two);

@@ -3,18 +3,23 @@
 #include <inttypes.h>
 #include <stdio.h>
 
-/* The balance of an account; 0 if it is not there. If this fails, the transaction can only abort. */
-static int has(boostmap *accounts, uint64_t account, uint64_t *sum) {
-    *sum = 0;
-    return boostmap_get(accounts, 0, account, sum) <= BOOSTMAP_ABSENT;
+/* Whether an operation was done, at a key with or without a value. */
+static int is_done(boostmap_status status) { return status == BOOSTMAP_DONE || status == BOOSTMAP_ABSENT; }
+
+/* Reads the balance of an account, 0 if it is absent. If this fails, it returns 0, and the transaction
+ * can only abort. */
+static int read_balance(boostmap *accounts, uint64_t account, uint64_t *balance) {
+    *balance = 0;
+    return is_done(boostmap_get(accounts, 0, account, balance));
 }
 
+/* Moves a sum in one transaction. Returns 1 if it was moved, else 0, and then nothing has changed. */
 static int transfer(boostmap *accounts, uint64_t from, uint64_t to, uint64_t sum) {
     uint64_t word, left, had;
     if (boostmap_begin(accounts, 0, &word) != BOOSTMAP_DONE) return 0;
-    if (has(accounts, from, &left) && left >= sum && has(accounts, to, &had) &&
-        boostmap_put(accounts, 0, from, left - sum, &word) <= BOOSTMAP_ABSENT &&
-        boostmap_put(accounts, 0, to, had + sum, &word) <= BOOSTMAP_ABSENT &&
+    if (read_balance(accounts, from, &left) && left >= sum && read_balance(accounts, to, &had) &&
+        is_done(boostmap_put(accounts, 0, from, left - sum, &word)) &&
+        is_done(boostmap_put(accounts, 0, to, had + sum, &word)) &&
         boostmap_commit(accounts, 0, &word) == BOOSTMAP_DONE)
         return 1;
     boostmap_abort(accounts, 0, &word);
@@ -32,7 +37,7 @@ int main(void) {
     printf("moved 30: %s\n", transfer(&accounts, 1, 2, 30) ? "yes" : "no");
     printf("moved 100: %s\n", transfer(&accounts, 2, 1, 100) ? "yes" : "no");
     boostmap_begin(&accounts, 0, &word);
-    if (has(&accounts, 1, &one) && has(&accounts, 2, &two))
+    if (read_balance(&accounts, 1, &one) && read_balance(&accounts, 2, &two))
         printf("1 has %" PRIu64 ", 2 has %" PRIu64 "\n", one, two);
     boostmap_free(&accounts);
     return 0;

@@ -3,20 +3,21 @@ from boostmap import Map
 
 
 class TooLittle(Exception):
-    pass
+    """The account has less than is to be moved."""
 
 
-def transfer(accounts, one, other, amount):
+def transfer(accounts, source, target, amount):
+    """Moves an amount in one transaction, and returns whether it was moved."""
     try:
         with accounts.transaction() as t:
-            has = t.get(one) or 0
-            if has < amount:
+            balance = t.get(source) or 0
+            if balance < amount:
                 raise TooLittle  # the transaction aborts
-            t.put(one, has - amount)
-            t.put(other, (t.get(other) or 0) + amount)
-        return True
+            t.put(source, balance - amount)
+            t.put(target, (t.get(target) or 0) + amount)
     except TooLittle:
         return False
+    return True
 
 
 with Map(callers=1) as accounts:

@@ -1,4 +1,4 @@
-/* A test stops at the first line that does not hold. */
+/* A test stops at the first check that fails. */
 #ifndef CHECK_H
 #define CHECK_H
 #include <stdio.h>
@@ -6,7 +6,7 @@
 #define CHECK(holds)                                                                    \
     do {                                                                                \
         if (!(holds)) {                                                                 \
-            fprintf(stderr, "%s:%d: not so: %s\n", __FILE__, __LINE__, #holds);         \
+            fprintf(stderr, "%s:%d: failed: %s\n", __FILE__, __LINE__, #holds);         \
             exit(1);                                                                    \
         }                                                                               \
     } while (0)

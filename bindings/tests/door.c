@@ -1,4 +1,4 @@
-/* The door: null, and a handle in another call, are answered by a status; all else goes through. */
+/* The door: null, and a handle in another call, return a status; every other call goes through. */
 #include "boostmap_checked.h"
 #include "check.h"
 #include <pthread.h>
@@ -8,7 +8,7 @@ enum { THREADS = 3, CALLS = 200000 };
 static boostmap_door map = BOOSTMAP_DOOR_INIT;
 static atomic_ulong in_call, other;
 
-static void *counts(void *arg) {
+static void *count_often(void *arg) {
     uint64_t w;
     for (int i = 0; i < CALLS; i++) {
         boostmap_status status = boostmap_checked_count(&map, &w);
@@ -18,10 +18,10 @@ static void *counts(void *arg) {
     return arg;
 }
 
-/* Three threads at the door of one caller: each call is done, or answered that the caller is in one. */
+/* Three threads at the door of one caller: each call is done, or returns BOOSTMAP_IN_CALL. */
 static boostmap_caller_door caller = BOOSTMAP_DOOR_INIT;
 
-static void *adds(void *arg) {
+static void *get_often(void *arg) {
     uint64_t w;
     for (int i = 0; i < CALLS; i++) {
         boostmap_status status = boostmap_checked_striped_get(&caller, 1, &w);
@@ -45,7 +45,7 @@ static void at_a_caller(void) {
     CHECK(boostmap_checked_striped_put(&caller, 1, 10, 0) == BOOSTMAP_ABSENT);
     CHECK(boostmap_checked_striped_begin(&next) == BOOSTMAP_DONE);
     CHECK(boostmap_checked_striped_take(&next, 1, &w) == BOOSTMAP_BUSY && w == 2);
-    for (int i = 0; i < THREADS; i++) CHECK(!pthread_create(&threads[i], 0, adds, 0));
+    for (int i = 0; i < THREADS; i++) CHECK(!pthread_create(&threads[i], 0, get_often, 0));
     for (int i = 0; i < THREADS; i++) CHECK(!pthread_join(threads[i], 0));
     CHECK(boostmap_checked_striped_read(&caller, 0, 0, &w) == BOOSTMAP_NULL);
     boostmap_pair pair;
@@ -84,7 +84,7 @@ int main(void) {
     CHECK(boostmap_checked_commit(&map, 0, &w) == BOOSTMAP_DONE && w == 1);
     CHECK(boostmap_checked_read(&map, 0, 1, &w) == BOOSTMAP_NULL);
     CHECK(boostmap_checked_read(&map, &pair, 1, 0) == BOOSTMAP_DONE && pair.key == 1 && pair.value == 2);
-    for (int i = 0; i < THREADS; i++) CHECK(!pthread_create(&threads[i], 0, counts, 0));
+    for (int i = 0; i < THREADS; i++) CHECK(!pthread_create(&threads[i], 0, count_often, 0));
     for (int i = 0; i < THREADS; i++) CHECK(!pthread_join(threads[i], 0));
     CHECK(boostmap_checked_free(&map) == BOOSTMAP_DONE);
     at_a_caller();

@@ -1,4 +1,4 @@
-/* The judge: each status, histories made by hand with their verdicts, and a million entries. */
+/* The judge: each status, histories written by hand with their verdicts, and a million entries. */
 #include "boostmap.h"
 #include "check.h"
 #include <string.h>

@@ -1,4 +1,4 @@
-/* Each allocation refused in turn: the call that asked for it answers BOOSTMAP_NO_MEMORY and changes
+/* Each allocation refused in turn: the call that asked for it returns BOOSTMAP_NO_MEMORY and changes
  * nothing, so the same call succeeds when it is made again; no other call fails, and nothing leaks.
  * Linked with -Wl,--wrap=malloc -Wl,--wrap=realloc -Wl,--wrap=free. */
 #include "boostmap.h"
@@ -34,7 +34,7 @@ void __wrap_free(void *block) {
     __real_free(block);
 }
 
-/* How often memory was refused in the round, and the status of the call made again. */
+/* How often memory was refused in this round. AGAIN makes a call until memory is not refused. */
 static long refusals;
 #define AGAIN(call) do status = (call); while (status == BOOSTMAP_NO_MEMORY && ++refusals)
 
@@ -85,7 +85,7 @@ static void round_trip(void) {
     CHECK(boostmap_free(&m) == BOOSTMAP_DONE);
 }
 
-/* The same of a caller of a striped map, which then looks at the whole map. */
+/* The same operations on a caller of a striped map, which then reads the whole map. */
 static void striped_operations(boostmap_caller *c, uint64_t t) {
     static boostmap_pair pairs[KEYS * TRANSACTIONS];
     boostmap_status status;
@@ -131,7 +131,7 @@ static void striped_round_trip(void) {
     CHECK(boostmap_striped_free(&next) == BOOSTMAP_DONE);
 }
 
-/* A judge is fed a transaction of each of 64 callers, entry by entry or as an array. What is refused is
+/* Feeds a judge a transaction of each of 64 callers, entry by entry or as an array. What is refused is
  * fed again. */
 static void judged(uint32_t rule) {
     enum { CALLERS = 64, ENTRIES = 6 };
@@ -167,7 +167,7 @@ static void judged(uint32_t rule) {
 static void judged_by_locks(void) { judged(BOOSTMAP_HOLDER_NOW); }
 static void judged_by_commits(void) { judged(BOOSTMAP_BY_COMMITS); }
 
-/* Each allocation of a round is refused in turn. Each refusal is told by a status, and nothing is lost. */
+/* Runs a round with each allocation refused in turn. A status tells each refusal, and nothing leaks. */
 static void each_refused(const char *name, void (*round)(void)) {
     long nth = 0;
     do {

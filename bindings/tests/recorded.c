@@ -138,7 +138,7 @@ int main(void) {
     boostmap_verdict verdict = runs();
     CHECK(verdict.is_legal && verdict.commits == commits && verdict.running == 0);
     CHECK(commits > 1000);
-    /* A forged reply that is there: the operation of a later call with a reply. */
+    /* Forges the reply of one call, the first from the middle on that replies with a value. */
     for (forged_call = CALLS / 2; (verdict = runs()).is_legal; forged_call++) CHECK(forged_call < CALLS / 2 + 100);
     CHECK(verdict.rule == 1);
     return 0;

@@ -1,4 +1,4 @@
-/* Each status of each call, once: what it answers, what it writes, and what it leaves. */
+/* Each status of each call, once: what the call returns, what it writes, and what it leaves unchanged. */
 #include "boostmap.h"
 #include "check.h"
 #include <string.h>
@@ -13,7 +13,7 @@ enum { UNTOUCHED = 77 };
         CHECK(w == (after));         \
     } while (0)
 
-/* No call but boostmap_new does anything on a handle without a map. */
+/* On a handle without a map only boostmap_new does anything. */
 static void an_empty_handle(boostmap *m) {
     uint64_t w;
     ANSWERS(boostmap_free(m), BOOSTMAP_EMPTY, UNTOUCHED);
@@ -32,7 +32,7 @@ static void an_empty_handle(boostmap *m) {
     CHECK(m->tag == 0 && m->held == 0);
 }
 
-/* Limits: each number just out of range, and the largest and least that are in it. */
+/* Limits: each number just out of range, and the least and greatest in range. */
 static void limits(void) {
     static const struct { uint64_t callers, stripes, buckets; boostmap_status status; } rows[] = {
         {0, 16, 16, BOOSTMAP_LIMIT},     {65, 16, 16, BOOSTMAP_LIMIT},   {1, 0, 16, BOOSTMAP_LIMIT},
@@ -47,7 +47,7 @@ static void limits(void) {
     }
 }
 
-/* Each call that works in a transaction, and does not end it by an abort, has this answer. */
+/* Each call that works in a transaction, except an abort, returns this status. */
 static void all_answer(boostmap *m, uint64_t caller, boostmap_status status) {
     uint64_t w;
     ANSWERS(boostmap_get(m, caller, 5, &w), status, UNTOUCHED);
@@ -89,7 +89,7 @@ static void operations(boostmap *m) {
     ANSWERS(boostmap_get(m, 0, 5, &w), BOOSTMAP_DONE, 52);
 }
 
-/* Caller 0 has key 5 in a transaction: each operation of caller 1 finds it, by its number. */
+/* An operation of caller 1 on key 5 or another key of its stripe, by its number. */
 static boostmap_status operation(boostmap *m, int number, uint64_t *w) {
     switch (number) {
     case 0: return boostmap_get(m, 1, 5, w);
@@ -100,6 +100,7 @@ static boostmap_status operation(boostmap *m, int number, uint64_t *w) {
     }
 }
 
+/* Caller 0 holds the stripe of key 5 in a transaction: each operation of caller 1 is busy. */
 static void two_callers(boostmap *m) {
     uint64_t w;
     for (int i = 0; i < 5; i++) {
@@ -121,7 +122,7 @@ static void two_callers(boostmap *m) {
     ANSWERS(boostmap_help(m, 2, 5), BOOSTMAP_NO_SUCH_HELPER, UNTOUCHED);
 }
 
-/* Each status that is named has words, and no two the same; no other has any. */
+/* Each status that has a name has a text, no two have the same, and no other number has one. */
 static void words(void) {
     const char *none = boostmap_text(63);
     int named = 0;

@@ -1,4 +1,5 @@
-/* Each status of each call of a striped map, once: what it answers, what it writes, what it leaves. */
+/* Each status of each call of a striped map, once: what the call returns, what it writes, and what it
+ * leaves unchanged. */
 #include "boostmap.h"
 #include "check.h"
 
@@ -13,7 +14,7 @@ enum { UNTOUCHED = 77 };
     } while (0)
 #define IS(call, status) CHECK((call) == (status))
 
-/* No call but open and join does anything on an empty handle. */
+/* On an empty handle only open does anything, and on an empty second handle join. */
 static void an_empty_handle(boostmap_caller *c) {
     boostmap_caller next = BOOSTMAP_INIT;
     boostmap_pair pair = {UNTOUCHED, UNTOUCHED};
@@ -36,7 +37,7 @@ static void an_empty_handle(boostmap_caller *c) {
     CHECK(c->tag == 0 && c->held == 0 && next.tag == 0 && next.held == 0);
 }
 
-/* Each number just out of range, and the largest and least that are in it. */
+/* Limits: each number just out of range, and the least and greatest in range. */
 static void limits(void) {
     static const struct { uint64_t callers, stripes; boostmap_status status; } rows[] = {
         {0, 16, BOOSTMAP_LIMIT}, {4097, 16, BOOSTMAP_LIMIT},       {1, 0, BOOSTMAP_LIMIT}, {1, 4097, BOOSTMAP_LIMIT},
@@ -64,7 +65,7 @@ static void joining(boostmap_caller c[3]) {
     CHECK(fourth.tag == 0 && fourth.held == 0);
 }
 
-/* Each call that works in a transaction, of a caller that has none. */
+/* Each call that works in a transaction, on a caller without one. */
 static void not_open(boostmap_caller *c) {
     boostmap_pair pair = {UNTOUCHED, UNTOUCHED};
     uint64_t w;
@@ -106,7 +107,7 @@ static void operations(boostmap_caller *c) {
     ANSWERS(boostmap_striped_get(c, 5, &w), BOOSTMAP_DONE, 52);
 }
 
-/* An operation on key 5 or another of its stripe, by its number. */
+/* An operation on key 5 or another key of its stripe, by its number. */
 static boostmap_status operation(boostmap_caller *c, int number, uint64_t *w) {
     switch (number) {
     case 0: return boostmap_striped_get(c, 5, w);
@@ -117,7 +118,8 @@ static boostmap_status operation(boostmap_caller *c, int number, uint64_t *w) {
     }
 }
 
-/* Caller 3 has key 5 in a transaction; caller 2 finds it, by each operation, and so does caller 1. */
+/* Caller 3 holds the stripe of key 5 in a transaction: each operation of caller 2 is busy, and so is one
+ * of caller 1. */
 static void two_callers(boostmap_caller *three, boostmap_caller *two, boostmap_caller *one) {
     uint64_t w;
     for (int i = 0; i < 5; i++) {
@@ -138,7 +140,7 @@ static void two_callers(boostmap_caller *three, boostmap_caller *two, boostmap_c
     ANSWERS(boostmap_striped_commit(one, &w), BOOSTMAP_DONE, 2);
 }
 
-/* The whole map: the caller's own changes, an array that is too short, and a stripe of another caller. */
+/* The whole map: the caller's own changes, an array that is too short, and a stripe that another holds. */
 static void contents(boostmap_caller *three, boostmap_caller *two) {
     uint64_t w;
     boostmap_pair pairs[3] = {{UNTOUCHED, 0}, {UNTOUCHED, 0}, {UNTOUCHED, 0}};
@@ -161,7 +163,7 @@ static void contents(boostmap_caller *three, boostmap_caller *two) {
     IS(boostmap_striped_abort(two), BOOSTMAP_DONE);
 }
 
-/* A caller that is freed in a transaction aborts it; the map stays for the others. */
+/* A caller that is freed in a transaction aborts it; the map remains for the others. */
 static void freeing(boostmap_caller c[3]) {
     uint64_t w;
     IS(boostmap_striped_begin(&c[0]), BOOSTMAP_DONE);

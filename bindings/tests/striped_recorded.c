@@ -224,7 +224,7 @@ int main(int argc, char **argv) {
     printf("%d threads, %zu entries, %llu committed, %llu busy\n", threads, count, (unsigned long long)committed,
            (unsigned long long)busy);
     CHECK(verdict.is_legal && verdict.commits == committed && verdict.running == 0);
-    /* A forged reply is found. */
+    /* A forged reply is found at once. */
     while (all[forged].entry.kind != BOOSTMAP_DID || !all[forged].entry.has) forged++;
     all[forged].entry.value++;
     verdict = judged(all, count);

@@ -1,5 +1,5 @@
 /* Threads move units between accounts of one striped map, each with its own caller and without a lock.
- * Some transactions are busy, some are aborted, and each thread's last one is dropped with its caller.
+ * Some transactions are busy, some abort, and each thread's last one is dropped with its caller.
  * The sum stays the same. Usage: striped_threads [THREADS [ROUNDS]] */
 #include "boostmap.h"
 #include "check.h"

@@ -1,5 +1,5 @@
 /* Four threads move units between accounts. The program's mutex is held for each single call, so
- * transactions of all four are open at once; some abort. The sum stays the same. */
+ * transactions of all four are open at the same time; some abort. The sum stays the same. */
 #include "boostmap.h"
 #include "check.h"
 #include <pthread.h>

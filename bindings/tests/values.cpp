@@ -1,4 +1,4 @@
-// The C++ values: moved maps, transactions that abort in their destructor, `transact`, exceptions.
+// The C++ header: moved maps, transactions that abort in their destructor, `transact`, exceptions.
 #include "boostmap.hpp"
 #include "check.h"
 #include <thread>
