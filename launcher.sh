@@ -1,28 +1,28 @@
-# Runs a proved program of this repository with the words and in the folder of the caller. The
-# programs' own scripts at the top source it, after they have set:
+# Runs a proved program of this repository with the caller's arguments, in the caller's folder. The
+# programs' scripts at the top of the repository source it, after they have set:
 #
 #   root     the top of the repository
 #   program  the program's crate
-#   trial    words of a call of the program that ends with status 0
-#   look     a command that runs the program with no proof
+#   trial    arguments of a call of the program that ends with status 0
+#   look     a command that runs the program without a proof
 #
-# and have defined `is_call`, which says whether words are a call of the program, and `usage`, which prints
-# its usage.
+# and have defined `is_call`, which says whether arguments are a call of the program, and `usage`, which
+# prints its usage.
 #
-# If the program is not built yet, or a source that it is made of is newer, `rt` proves and builds it
-# first, with the crates that it stands on and no others. A library is begun as soon as those that it
-# stands on are proved, as many at once as there are processors. `rt` has the crates of one folder
-# wait for each other if they share a library, so each is proved in a folder of its own, beside links
-# to the crates below it. Standard error shows how far that is. A build that fails ends with status
-# 125, and no other call does. RT is the command to run in the place of rt.
+# If the program is not built yet, or one of its sources is newer, `rt` proves and builds it first, with
+# only the crates that it stands on. The proof of a library begins as soon as the libraries below it are
+# proved; as many proofs run at the same time as there are processors. In one folder, `rt` lets crates
+# that share a library wait for each other, so each library is proved in a separate folder, with links
+# to the crates below it. Standard error shows the progress. If the build fails, the status is 125,
+# which no other call returns. RT names a command to run instead of rt.
 # shellcheck shell=bash disable=SC2154
 
 out=$root/crates/$program/out
 built=$out/$program
 
-# The libraries that the program stands on, a line for each: its name, and the names of those among them
-# that it stands on. The line of a library with more crates on its way to the program comes first. In
-# crates.txt a crate stands below those that it stands on.
+# Prints the libraries that the program stands on, a line for each: its name, and the names of the
+# libraries below it. Those with more crates on the way up to the program come first. In crates.txt a
+# crate stands after those below it.
 libraries() {
     awk -v program="$program" '
         !/^#/ && NF {
@@ -48,9 +48,9 @@ libraries() {
         }' "$root/crates.txt" | sort -s -k1,1nr | cut -d ' ' -f 2-
 }
 
-# Whether there is no program that is as new as its sources: those of its own crate and of the
-# libraries that it stands on, which are the same ones as when it was built. What only its tests or
-# other crates are made of does not count.
+# Whether the program has to be built: it is not there, the list of its libraries has changed, or a
+# source of its crate or of one of these libraries is newer. Sources of tests and of other crates do not
+# count.
 needs_build() {
     [ -x "$built" ] || return 0
     local name rest
@@ -61,15 +61,15 @@ needs_build() {
         \( -name '*.rt' -o -name '*.antt' \) -newer "$built" -print -quit)" ]
 }
 
-# Says that the next crate is begun: which of how many, and the time since the start.
+# Says that the proof of the next crate begins: its number, how many there are, and the time so far.
 say() {
     number=$((number + 1))
     printf '%s: proving %s, %d of %d, %d:%02d\n' "$program" "$1" "$number" "$count" \
         $((SECONDS / 60)) $((SECONDS % 60)) >&2
 }
 
-# Makes a folder with the crates named, the last of which is to be proved: the text of all, and of the
-# others what was made of them.
+# Makes a folder with the crates named, of which the last is to be proved: the sources of all, and what
+# was built of the others.
 lay_out() {
     local folder=$1 name part
     shift
@@ -86,7 +86,7 @@ lay_out() {
         "$root/crates.txt" >"$folder/crates.txt"
 }
 
-# Begins to prove a library, which stands on those named after it.
+# Begins to prove a library, which stands on the libraries named after it.
 begin() {
     local name=$1 on lower
     local -A under=()
@@ -105,7 +105,7 @@ begin() {
     fi
 }
 
-# Begins libraries that still wait and whose own libraries are proved, as many as may run at once.
+# Begins waiting libraries whose own libraries are proved, as many as may run at the same time.
 begin_ready() {
     local name on is_ready
     for name in $order; do
@@ -116,7 +116,7 @@ begin_ready() {
             [ -n "${proved[$on]+set}" ] || is_ready=false
         done
         if $is_ready; then
-            # The names are several.
+            # Several names.
             # shellcheck disable=SC2086
             begin "$name" ${waiting[$name]}
             unset "waiting[$name]"
@@ -124,8 +124,8 @@ begin_ready() {
     done
 }
 
-# Waits for one that runs. What was made of it comes to its place; if it is not proved, what was said
-# of it is shown.
+# Waits until one of the running proofs ends. If the library is proved, moves what was built to its
+# place; if not, shows the messages.
 await_one() {
     local process status=0 name
     wait -n -p process "${!running[@]}" || status=$?
@@ -142,7 +142,7 @@ await_one() {
     rm -rf -- "${work:?}/$name"
 }
 
-# Says how long a first build takes. It was 14 to 22 minutes with four processors.
+# Says how long a build takes. The first one took 14 to 22 minutes on four processors.
 say_how_long() {
     local minutes='a quarter of an hour or more'
     [ "$most" -ge 4 ] || minutes='half an hour or more'
@@ -185,10 +185,10 @@ if needs_build; then
         exit 2
     fi
     mkdir -p -- "$out" || exit 125
-    # Another call may be building it.
+    # Another call may be building the program.
     exec 9>"$out/lock" && flock 9 || exit 125
     if needs_build; then
-        # Links need the disk that the crates are on.
+        # Hard links need the disk of the crates.
         work=$(mktemp -d "$out/building.XXXXXX") || exit 125
         trap 'rm -rf -- "$work"' EXIT
         build || exit 125
