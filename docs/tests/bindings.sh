@@ -1,8 +1,8 @@
 #!/usr/bin/env bash
-# Installs the library for C, C++, Rust and Python below a temporary folder, and runs each language's tests and its
-# example, whose output must be bindings/examples/stdout. It needs rt and cc, and uses c++, cargo, python3, valgrind and a
-# compiler with ThreadSanitizer if they are there. Nothing is fetched. If the archive is not built yet, `rt lib` proves and
-# builds it first; the rest takes two minutes.
+# Installs the library for C, C++, Rust and Python in a temporary folder, and runs each language's tests and its example,
+# whose output must be bindings/examples/stdout. It needs rt and cc, and uses c++, cargo, python3, valgrind and a compiler
+# with ThreadSanitizer if they are there. Nothing is downloaded. If the archive is not built yet, `rt lib` proves and builds
+# it first; the rest takes two minutes.
 # The last line is 'bindings: N passed, M failed', and '; not run: ..' names the tests whose tools are missing. The status
 # is 1 if M is not 0.
 set -uo pipefail
@@ -34,7 +34,7 @@ has() {
   false
 }
 
-# The most seconds that a test may take.
+# Runs a command for 600 seconds at most.
 within() { timeout 600 "$@"; }
 
 prints_the_example() { within "$@" | cmp - bindings/examples/stdout; }
@@ -43,7 +43,7 @@ prints_the_threads() { within "$@" | cmp - bindings/examples/threads.stdout; }
 use=(-Ibindings/tests "-I$work/usr/include" "-L$work/usr/lib")
 strict=(-O2 -Wall -Wextra -Wpedantic -Werror)
 
-# A test in C: its name, its standard, and further words for the compiler.
+# Compiles and runs a test in C: its name, its standard, and further arguments of the compiler.
 c_test() {
   local name=$1 standard=$2
   shift 2

@@ -1,19 +1,20 @@
-# Shared by the scripts that run a built program from outside: they source it at the top of the
-# repository, with their own name in `name` and the program's path in `program`. `work` is a folder
-# that is removed at the end.
+# Shared by the scripts that run a built program from outside. They source it at the top of the
+# repository, with their own name in `name` and the program's path in `program`. `work` is a temporary
+# folder, which is removed at the end.
 # shellcheck shell=bash disable=SC2154
 if [ ! -x "$program" ]; then
   echo "$name: there is no $program: ./${program##*/} or rt ci builds it" >&2
   exit 1
 fi
-# What stands last in a pipeline is judged in this shell, so that it counts.
+# The last command of a pipeline runs in this shell, so that its results are counted.
 shopt -s lastpipe
 work=$(mktemp -d)
 trap 'rm -rf "$work"' EXIT
 passed=0 failed=0
 
-# Compares status, standard output and standard error of the last run, which are in $work, with the
-# expected ones. An expected text is without its last line feed.
+# judge WHAT STATUS OUT ERR: compares status, standard output and standard error of the last run, which
+# are in $work, with the expected ones, and counts the test. Expected texts are without their last line
+# feed.
 judge() {
   local what=$1 status=$2 out=$3 err=$4
   printf '%s' "${out:+$out$'\n'}" >"$work/out.wanted"
@@ -29,13 +30,13 @@ judge() {
   fi
 }
 
-# Runs the program with words on an empty standard input.
+# Runs the program with these arguments and an empty standard input.
 run() {
   "$program" "$@" >"$work/out" 2>"$work/err" </dev/null
   echo $? >"$work/status"
 }
 
-# wants STATUS OUT ERR WORD..: runs the program with these words, and judges it.
+# wants STATUS OUT ERR WORD..: runs the program with these arguments, and judges the run.
 wants() {
   local status=$1 out=$2 err=$3
   shift 3

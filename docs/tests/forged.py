@@ -4,11 +4,11 @@
     docs/tests/forged.py PROGRAM COUNT SEED
 
 Scripts are drawn from the seed, and `mix` records short histories of them. In each history each
-entry is, one at a time, left out, doubled, swapped with the next, and changed in one part in
-CHANGES drawn ways, until COUNT files were judged. Each has the shape of a history file, and some
-are still legal. Verdict, entry, rule, exit status and an empty standard error are compared. It
-prints how many files had each verdict; the last line is 'forged: N passed, M failed', and the
-status is 1 if M is not 0.
+entry in turn is left out, doubled, swapped with the next one, and changed in one part in CHANGES
+drawn ways, until COUNT files have been judged. Each has the shape of a history file, and some are
+still legal. Verdict, entry, rule and exit status must be the same, and standard error empty. It
+prints how many files had each verdict; the last line is 'forged: N passed, M failed', and the status
+is 1 if M is not 0.
 """
 import collections
 import itertools
@@ -28,7 +28,7 @@ VALUES = [0, 1, 2, TOP]
 
 
 def drawn_script(draws, version, keys, most):
-    """A script of at most so many actions, which goes back to savepoints that it has."""
+    """A script with this many actions at most, which goes back only to savepoints that it has set."""
     script, level = [], 0
     words = ["put", "take", "get", "save", "back"] * 3 + ["put_if"] * 3 * (version - 1)
     for _ in range(draws.randint(0, most)):
@@ -56,7 +56,7 @@ def returning(keys):
 
 
 def drawn_scripts(draws):
-    """A script file whose workers meet at few keys; the last scripts get each of them."""
+    """A script file whose workers share a few keys; the last scripts get each of these."""
     version, most = draws.choice([1, 2]), draws.choice([3, 9])
     keys = draws.sample(KEYS if version == 2 else KEYS[:6], draws.randint(2, 3))
     scripts = draws.choice([crossing(keys), returning(keys), []])
@@ -96,7 +96,7 @@ ENTRIES = {version: list(entries(version)) for version in (1, 2, 3)}
 
 
 def changes(entry, version):
-    """The entries that differ from this one in one part; and for asked, busy in its place."""
+    """The entries that differ from this one in one part; and for an asked, a busy instead."""
     found = [
         other
         for other in ENTRIES[version]
@@ -108,7 +108,7 @@ def changes(entry, version):
 
 
 def forgeries(history, version, draws):
-    """Histories that differ from this one at one entry, or at two neighbours."""
+    """Histories that differ from this one in one entry, or in two neighbours."""
     for i, entry in enumerate(history):
         before, behind = history[:i], history[i + 1 :]
         yield before + behind
@@ -129,7 +129,7 @@ def run(program, words, file):
 
 
 def recorded(program, draws):
-    """Recorded histories without end."""
+    """Recorded histories, without end."""
     while True:
         seed = draws.randrange(2**32)
         mixed = run(program, ["mix", "--seed", str(seed)], drawn_scripts(draws))

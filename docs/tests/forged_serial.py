@@ -3,12 +3,12 @@
 
     docs/tests/forged_serial.py PROGRAM COUNT SEED
 
-The histories are those of a store without locks that is drawn from the seed: its transactions read
-the committed map or what others have not committed, go back to savepoints, abort, and mostly commit
-only if what they read first is still what is committed. Some entries are then forged: left out,
-doubled, swapped with the next, or given another reply. Verdict, exit status and an empty standard
-error are compared, and what is legal by locks must be legal here. The last line is 'forged: N
-passed, M failed', and the status is 1 if M is not 0.
+The histories are those of a store without locks, drawn from the seed: its transactions read the
+committed map or changes that others have not committed, go back to savepoints, abort, and mostly
+commit only if what they read first is still committed. Some entries are then forged: left out,
+doubled, swapped with the next one, or given another reply. Verdict and exit status must be the same,
+and standard error empty; a history that is legal by locks must be legal here. The last line is
+'forged: N passed, M failed', and the status is 1 if M is not 0.
 """
 import collections
 import json
@@ -25,7 +25,7 @@ VALUES = [0, 1, 2, 2**64 - 1]
 
 
 class Store:
-    """A store that records what its transactions ask and are told. Some are told lies."""
+    """A store that records what its transactions ask and what it tells them. To some it lies."""
 
     def __init__(self, draws):
         self.draws = draws
@@ -35,7 +35,7 @@ class Store:
         self.began = self.commits = 0
 
     def seen(self, txn, key):
-        """What a transaction is told of a key: mostly its own value, or the committed one."""
+        """The reply to a transaction at a key: mostly its own value, or the committed one."""
         if key in txn["own"]:
             return txn["own"][key]
         if self.draws.random() < 0.1:
@@ -115,7 +115,7 @@ class Store:
 
 
 def forged(entries, draws):
-    """The entries with another reply, or with one left out, doubled or swapped; or as they are."""
+    """The entries with one reply changed, or one entry left out, doubled or swapped; or unchanged."""
     replies = [i for i, entry in enumerate(entries[:-1]) if entry[0] == "did"]
     every = range(len(entries) - 1)
     i = draws.choice(replies if replies and draws.random() < 0.6 else every)

@@ -1,11 +1,11 @@
 #!/usr/bin/env bash
-# Runs a command, and prints after its output how long it took and, for each crate, the processor
-# seconds of its proofs, of its tests' proofs, and of its wrong bodies. Its status is the command's.
-# Nothing else on the machine may run `rt` meanwhile. Processes are looked at once a second, so the last
-# second of each is not seen; the last line has the system's count of all.
-# Usage: docs/tests/gate_times.sh [COMMAND..]; without one rt ci
+# Runs a command and prints, after its output, for each crate the processor seconds of its proofs, of
+# its tests' proofs and of its wrong bodies, and how long all took. The status is the command's. Nothing
+# else on the machine may run `rt` meanwhile. The script looks at the processes once a second, so it
+# misses the last second of each; the last line has the system's count of all.
+# Usage: docs/tests/gate_times.sh [COMMAND..]; without a command it runs rt ci
 set -uo pipefail
-cd "$(dirname "${BASH_SOURCE[0]}")/../.."
+cd "$(dirname "${BASH_SOURCE[0]}")/../.." || exit
 [ $# -gt 0 ] || set -- rt ci
 work=$(mktemp -d)
 trap 'rm -rf "$work"' EXIT
@@ -35,7 +35,7 @@ wait $command
 status=$?
 printf 'processor seconds\n%-16s %8s %8s %8s %8s\n' crate proofs tests bodies all
 awk '
-  # A process that has another crate or kind than before, or fewer seconds, is another one.
+  # If a process has another crate or kind than before, or fewer seconds, its number was used again.
   { key = $1 " " $3 " " $4
     if (key in last && $2 < last[key]) sum[$3, $4] += last[key]
     last[key] = $2

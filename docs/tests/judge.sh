@@ -1,8 +1,9 @@
 #!/usr/bin/env bash
 # Tests the examples of docs/JUDGE.md: the lines of `judge why` on the stored history word for word,
 # that the store without a bug is judged legal, and that each bug is found within some runs. It needs
-# python3 and the built programs, boostmap and judge, whose paths may be its two words. It takes a
-# minute or two. Its last line is 'judge: N passed, M failed', and its status is 1 if M is not 0.
+# python3 and the built programs boostmap and judge. It takes a minute or two. The last line is 'judge: N
+# passed, M failed', and the status is 1 if M is not 0.
+# Usage: docs/tests/judge.sh [BOOSTMAP [JUDGE]]
 set -uo pipefail
 cd "$(dirname "${BASH_SOURCE[0]}")/../.." || exit 1
 program=${1:-crates/boostmap/out/boostmap}
@@ -19,7 +20,7 @@ result() {
   fi
 }
 
-# Prints what docs/JUDGE.md shows below a call: the indented lines up to an empty one.
+# Prints what docs/JUDGE.md shows below a call: the indented lines up to an empty line.
 shown() {
   awk -v call="    \$ $1" '
     $0 == call { inside = 1; next }

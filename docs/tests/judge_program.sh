@@ -1,8 +1,9 @@
 #!/usr/bin/env bash
 # Runs the built program `judge` from outside: each command, every exit status and message, standard
-# input in parts and cut off, lines at each limit, and a real store. The program is the one that `rt ci`
-# and ./judge build, or the one whose path is the only word. The last line is 'judge: N passed, M
-# failed', and the status is 1 if M is not 0.
+# input in parts and cut off, lines at each limit, and a real store. By default the program is the one
+# that `rt ci` and ./judge build. The last line is 'judge: N passed, M failed', and the status is 1 if M
+# is not 0.
+# Usage: docs/tests/judge_program.sh [PROGRAM]
 set -uo pipefail
 cd "$(dirname "${BASH_SOURCE[0]}")/../.." || exit 1
 name=judge
@@ -19,7 +20,7 @@ lines_of() {
 for entry in json.load(open(sys.argv[1]))["entries"]: print(json.dumps(entry))' "$1"
 }
 
-# watches STATUS OUT ERR WHAT WORD..: judges standard input with these words.
+# watches STATUS OUT ERR WHAT WORD..: runs `judge watch` on standard input with these arguments.
 watches() {
   local status=$1 out=$2 err=$3 what=$4
   shift 4
@@ -142,8 +143,8 @@ input() {
   done
 }
 
-# explains STATUS OUT ERR WHAT VERSION WORD..: why, of a history of this version, whose entries are
-# lines of standard input, with 8 locks.
+# explains STATUS OUT ERR WHAT VERSION WORD..: runs `judge why` on a history of this version with 8
+# locks, whose entries are the lines of standard input.
 explains() {
   local status=$1 out=$2 err=$3 what=$4 version=$5
   shift 5
@@ -155,7 +156,7 @@ json.dump({"version": int(sys.argv[1]), "stripes": 8, "entries": entries}, open(
   judge "why $*: $what" "$status" "$out" "$err"
 }
 
-# The line of each reason, by hand.
+# The line of each reason, written by hand.
 reasons() {
   local put='["began",0,1]
 ["asked",0,"put",1,10]
@@ -248,7 +249,7 @@ busy must name another caller' '' 'a caller that is busy over itself' 3 <<<'["be
 ["busy",0,"get",9,0]'
 }
 
-# What may stand in place of an entry, in each phase.
+# The line on what may stand instead of an entry, in each phase.
 shapes() {
   explains 1 'illegal entry 0 rule 3
 the entry:
@@ -304,7 +305,7 @@ entries of transaction 1 of caller 0:
 ["undone",0]'
 }
 
-# What leads to a transaction that may not commit.
+# The lines on a transaction that may not commit.
 commits() {
   explains 1 'illegal entry 7 rule 1
 the entry:
@@ -367,14 +368,15 @@ entries of transaction 2 of caller 0:
 ["committed",0,2]'
 }
 
-# flawed PLACE FAULT LINE VERSION: why, of a history of this version, whose entries are lines of standard
-# input and which is refused so. The line is what stands at the place, and what is expected there.
+# flawed PLACE FAULT LINE VERSION: runs `judge why` on a history of this version, whose entries are the
+# lines of standard input, and which is refused with this fault. The line says what stands at the place,
+# and what is expected there.
 flawed() {
   local place=$1 fault=$2 line=$3 version=$4
   explains 3 "\$$place: $line" "refused $fault" "$place is wrong" "$version"
 }
 
-# refuses FAULT LINE FILE: why, of a file that is this text.
+# refuses FAULT LINE FILE: runs `judge why` on a file with this text.
 refuses() {
   printf '%s' "$3" >"$work/refused.json"
   run why "$work/refused.json"
@@ -385,7 +387,7 @@ number='a whole number from 0 to 18446744073709551615'
 caller='a whole number from 0 to 63'
 other='a number with a sign, a fraction or an exponent, or too large'
 
-# The element at fault of an entry, by hand.
+# The element at fault in an entry, written by hand.
 flawed_entries() {
   local names ops
   names='"asked", "busy", "did", "undone", "began", "saved", "leave", "returned", "committed" or "aborted"'
@@ -469,7 +471,8 @@ print(*["[\"saved\",0]"] * 1000001, sep=",", end="]}")' >"$work/refused.json"
   done
 }
 
-# What became of each script of examples/scripts.json, by hand: the history of docs/FORMATS.md, and none.
+# What became of each script of examples/scripts.json, written by hand: for the history in
+# docs/FORMATS.md, and for an empty one.
 script_outcomes() {
   local lost='script 0 worker 0 given up
 script 1 worker 0 given up
@@ -503,7 +506,7 @@ script 2 worker 0 committed 2 entry 23
   wants 2 '' "$usage" outcomes --serializable examples/scripts.json "$work/empty.json"
 }
 
-# A line of this many bytes, which is an entry.
+# An entry as a line of this many bytes.
 long() {
   printf '["began",0,1%*s]' $(($1 - 13)) ''
 }
@@ -524,7 +527,7 @@ limits() {
   watches 0 'legal 0 commits 2 open' '' '4,096 locks' <"$work/lines"
 }
 
-# More entries than a file may have, and little memory.
+# More entries than a file may have, in little memory.
 many() {
   (
     ulimit -v 100000
@@ -567,7 +570,7 @@ little_memory() {
   done
 }
 
-# It answers at the first bad entry, while the input goes on.
+# The answer comes at the first bad entry, while the input goes on.
 early() {
   { printf '["began",0,2]\n'; sleep 30; } 2>/dev/null |
     timeout 10 "$program" watch >"$work/out" 2>"$work/err"
@@ -575,7 +578,7 @@ early() {
   judge 'the first bad entry of an input that goes on' 1 'illegal entry 0 rule 3' ''
 }
 
-# The parts in which the input comes do not matter.
+# It does not matter in which parts the input arrives.
 parts() {
   lines_of docs/judge/example.json >"$work/lines"
   local size
@@ -589,7 +592,7 @@ for at in range(0, len(text), size):
   done
 }
 
-# The store of docs/JUDGE.md, with and without a bug: watch says of its lines what check says.
+# The store of docs/JUDGE.md, with and without a bug: watch says of its lines what check says of its file.
 stores() {
   local seed bug
   for seed in 1 2; do
@@ -605,7 +608,7 @@ stores() {
   done
 }
 
-# A real store: legal as it is, and found illegal with either bug by one seed of four.
+# A real store: legal without a bug, and illegal with either bug for at least one of four seeds.
 real_stores() {
   local words seed found
   for words in '' --shared-cache; do
@@ -624,7 +627,7 @@ real_stores() {
       docs/judge/sqlite.py $words --seed $seed >"$work/sqlite.json" 2>/dev/null
       lines_of "$work/sqlite.json" 2>/dev/null |
         "$program" watch --serializable >"$work/verdict" 2>"$work/err"
-      # What leads to the bug stands after the same verdict.
+      # `why` prints the same verdict, and then the lines that lead to the bug.
       run why --serializable "$work/sqlite.json"
       if ! head -n 1 "$work/out" | cmp -s - "$work/verdict"; then
         found='two verdicts'

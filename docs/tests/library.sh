@@ -1,14 +1,13 @@
 #!/usr/bin/env bash
 # Tests the examples of docs/LIBRARY.md:
-# - For each row of the table "To have", it copies exactly the folders that the row names, with their lines of crates.txt
-#   and the caller's, and runs there, without a proof, what `examples` does with the caller. The output must be the same.
+# - For each row of the table "To have", it copies exactly the folders that the row names and the caller's, with their lines
+#   of crates.txt, and runs there, without a proof, what `examples` does with the caller. The output must be the same.
 # - Each clause that the page shows must stand in a caller.
-# - docs/library/new.sh lays out a repository, whose program is run, and proved over the work that this repository keeps in
-#   out/.
-# Takes two minutes, and for the proof three more if all crates below are proved here, else some fifteen.
+# - docs/library/new.sh lays out a repository; its program is run, and proved with what this repository keeps in out/.
+# It takes two minutes, and for the proof three more if all crates below are proved here, else some fifteen.
 # The last line is 'library: N passed, M failed', and the status is 1 if M is not 0.
 set -u
-cd "$(dirname "${BASH_SOURCE[0]}")/../.."
+cd "$(dirname "${BASH_SOURCE[0]}")/../.." || exit
 work=$(mktemp -d)
 trap 'rm -rf "$work"' EXIT
 page=docs/LIBRARY.md
@@ -24,7 +23,7 @@ judge() {
   fi
 }
 
-# Prints what `examples` writes of a caller: the lines between the caller's name and the next heading.
+# Prints what `examples` writes for a caller: the lines between the caller's name and the next heading.
 wanted() {
   awk -v name="$1" '
     /^(bank|audit|visits|transfers|job queue|replay .*)$/ { inside = $0 == name; next }

@@ -2,8 +2,9 @@
 # Runs the built program on files at every limit of the formats, with ample memory: the most callers,
 # workers, stripes, buckets, steps, scripts, actions and entries, long logs and many levels, and the
 # least and greatest keys and values; and on files that are one past a limit. The expected output
-# follows from the rules of docs/FORMATS.md. The program is the one that `rt ci` and ./boostmap build,
-# or the one whose path is the only word. The last line is 'limits: N passed, M failed'.
+# follows from the rules of docs/FORMATS.md. By default the program is the one that `rt ci` and
+# ./boostmap build. The last line is 'limits: N passed, M failed', and the status is 1 if M is not 0.
+# Usage: docs/tests/limits.sh [PROGRAM]
 set -uo pipefail
 cd "$(dirname "${BASH_SOURCE[0]}")/../.." || exit 1
 name=limits
@@ -22,7 +23,7 @@ same_lines() {
   judge "$what" 0 '' ''
 }
 
-# A step file of these limits, whose steps are the lines of standard input.
+# A step file with these limits, whose steps are the lines of standard input.
 steps() {
   echo "{\"version\":2,\"callers\":$1,\"stripes\":$2,\"buckets\":$3,\"steps\":["
   sed '$!s/$/,/'
@@ -73,7 +74,7 @@ long_logs() {
   done
 }
 
-# 1,000 savepoints, each after a change, and the way back to number 1,000, to 500 and to 0.
+# 1,000 savepoints, each after a change; then back to number 1,000, to 500 and to 0.
 many_levels() {
   awk 'BEGIN {
     print "[\"begin\",0]"
@@ -137,7 +138,7 @@ greatest_numbers() {
 }
 
 # 65,537 keys, with which the table doubles up to 65,536 buckets. They are put from the last of the
-# list's order to the first, so that each is put right behind the dummy of bucket 0.
+# list's order to the first, so that each is put right after the dummy of bucket 0.
 most_buckets() {
   awk 'BEGIN {
     for (key = 0; key < 65537; key++) {

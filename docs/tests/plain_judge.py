@@ -1,10 +1,10 @@
 #!/usr/bin/env python3
-"""Judges a history as `boostmap check` does, by whole maps and from nothing at each entry.
+"""Judges a history as `boostmap check` does, with whole maps, and from the beginning at each entry.
 
     docs/tests/plain_judge.py FILE
 
 It follows the checker's rules in docs/FORMATS.md line by line, and is slow: its time grows with the
-square of the entries. It takes the file's shape for right.
+square of the number of entries. It does not test the file's shape.
 """
 import json
 import sys
@@ -13,7 +13,7 @@ CALLERS = range(64)
 
 
 def after(pairs, op):
-    """The map that an operation leaves."""
+    """The map after an operation."""
     word, key = op[:2]
     pairs = dict(pairs)
     if word == "put" or (word == "put_if" and pairs.get(key) == op[2]):
@@ -63,7 +63,7 @@ def is_open(entries):
 
 
 def replies_hold(history):
-    """Rule 1, at the last entry of a history."""
+    """Whether rule 1 holds at the last entry of a history."""
     all_of_them = transactions(history)
     pairs = {}
     commits = [it for it in all_of_them if it[-1][0] == "committed"]
@@ -73,7 +73,7 @@ def replies_hold(history):
 
 
 def locks_hold(before, entry, stripes, version):
-    """Rule 2, of the entry that comes next."""
+    """Whether the next entry keeps rule 2."""
 
     def holds(caller):
         return any(
@@ -96,7 +96,7 @@ CLOSED = ("closed", [0], 0, None)
 
 
 def row(seat, entry):
-    """The table of rule 3: the seat after an entry, or None where the table does not have it.
+    """The table of rule 3: the seat after an entry, or None if the table does not have it.
 
     A seat is the state, how many changes stood at each level, how many stand, and the operation
     that waits for its reply or the level that the caller goes back to, None for the end.
@@ -129,7 +129,7 @@ def row(seat, entry):
 
 
 def is_shaped(before, entry):
-    """Rule 3, of the entry that comes next."""
+    """Whether the next entry keeps rule 3."""
     seat = CLOSED
     for it in before:
         if it[1] == entry[1]:

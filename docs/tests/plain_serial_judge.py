@@ -1,11 +1,11 @@
 #!/usr/bin/env -S python3 -B
-"""Judges a history as `judge check --serializable` does, from nothing at each entry.
+"""Judges a history as `judge check --serializable` does, from the beginning at each entry.
 
     docs/tests/plain_serial_judge.py FILE
 
-It follows the rules in docs/FORMATS.md: shape, of each entry; and at each committed entry, that its
-transaction, run alone on the map of those that committed before it, gets the replies that it got.
-It is slow: its time grows with the square of the entries. It takes the file's shape for right.
+It follows the rules in docs/FORMATS.md: each entry has the right shape; and at each committed entry,
+its transaction, run alone on the map of those that committed before it, gets the replies that it got.
+It is slow: its time grows with the square of the number of entries. It does not test the file's shape.
 """
 import json
 import sys

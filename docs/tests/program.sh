@@ -1,20 +1,21 @@
 #!/usr/bin/env bash
 # Runs the built program from outside: each command on each file of examples/, every exit status,
-# standard error to the letter, /dev/stdin, outputs that fail, and little memory. The program is the
-# one that `rt ci` and ./boostmap build, or the one whose path is the only word. The last line is
-# 'program: N passed, M failed', and the status is 1 if M is not 0.
+# standard error to the letter, /dev/stdin, outputs that fail, and little memory. By default the program
+# is the one that `rt ci` and ./boostmap build. The last line is 'program: N passed, M failed', and the
+# status is 1 if M is not 0.
+# Usage: docs/tests/program.sh [PROGRAM]
 set -uo pipefail
 cd "$(dirname "${BASH_SOURCE[0]}")/../.." || exit 1
 name=program
 program=${1:-crates/boostmap/out/boostmap}
 . docs/tests/common.sh
 
-# The usage, as the tests of the command line have it, without its last line feed.
+# The usage, from the tests of the command line, without its last line feed.
 usage=$(sed -n '/^const USAGE: &str = "/,/^";$/{s/^const USAGE: &str = "//;/^";$/d;p;}' \
   crates/program_tests/src/commands.rt)
 
-# Prints the output of an example: the lines of crates/examples/stdout below those words. For one
-# worker `run` prints what `mix` prints, except that its history is of version 3.
+# Prints the output of an example: the lines of crates/examples/stdout below these words. With one worker
+# `run` prints what `mix` prints, except that its history is of version 3.
 shown() {
   awk -v call="${1/#run /mix --seed 7 }" '
     /^(replay|mix|check) / { inside = $0 == call; next }
@@ -80,7 +81,7 @@ usage_errors() {
 }
 
 seeds() {
-  # Two workers that meet at no lock: the order of their turns shows in the history.
+  # Two workers that share no lock: the history shows the order of their turns.
   local gets='["get",1],["get",2],["get",3],["get",1],["get",2],["get",3],["get",1],["get",2]'
   local head='{"version":1,"workers":2,"stripes":8,"buckets":8,"tries":0,"scripts":'
   echo "${head}[[$gets],[${gets//\"get\",/\"get\",2}]]}" >"$work/two.json"
@@ -103,11 +104,11 @@ seeds() {
   judge 'how many histories four seeds give' 0 3 ''
 }
 
-# The order of threads is open, so each history is judged by check: legal, with nothing open.
+# The order of threads is not fixed, so check judges each history: legal, with nothing open.
 threads() {
   wants 0 "$(shown 'run scripts.json')" '' run examples/scripts.json
   local file workers turn status
-  # Six scripts that meet on two stripes.
+  # Six scripts that share two stripes.
   local put='["put",1,10],["put",2,20]],[["put",2,21],["take",1]],[["put",4,40],["abort"]'
   local get='["get",1],["save"],["put",3,30],["back",1]],[["take",2],["help",5]],[["get",2]'
   for workers in 1 2 3 4 5 6; do
@@ -157,7 +158,7 @@ refused_files() {
   wants 0 "$(shown 'replay first_commit.json')" '' replay "$work/longest.json"
 }
 
-# The files of files.tsv: one that is taken runs, and for one that is refused the line is compared.
+# The files of files.tsv: one that is accepted must run, and for one that is refused the line is compared.
 shapes_of_files() {
   local command wanted text
   while IFS=$'\t' read -r command wanted text; do
@@ -181,7 +182,7 @@ commands() {
   printf '%s\n' 'replay many_callers' 'run scripts' 'mix --seed 7 scripts' 'check checked'
 }
 
-# output WHAT STATUS ERR WORD..: runs the program with the standard output that the call is given.
+# output WHAT STATUS ERR WORD..: runs the program with the standard output of this call.
 output() {
   "$program" "${@:4}" 2>"$work/err" </dev/null
   echo $? >"$work/status"
@@ -189,7 +190,7 @@ output() {
   judge "${*:4}: standard output $1" "$2" '' "$3"
 }
 
-# errors WHAT STATUS WORD..: runs it with the standard error that the call is given.
+# errors WHAT STATUS WORD..: runs the program with the standard error of this call.
 errors() {
   "$program" "${@:3}" >"$work/out" </dev/null
   echo $? >"$work/status"
@@ -224,7 +225,7 @@ failing_devices() {
   errors 'is closed' 2 help 2>&-
 }
 
-# The output is longer than a pipe holds, and its reader ends after the first bytes.
+# The output is longer than a pipe holds, and the pipe's reader ends after the first bytes.
 early_pipes() {
   local words head='{"version":1,"stripes":1,"buckets":2,'
   {

@@ -1,8 +1,8 @@
 /* Refuses memory to the program that it is loaded into (LD_PRELOAD): the allocations with the
- * numbers REFUSE_FIRST to REFUSE_LAST, counted from 1 since the start of main, and, where
- * REFUSE_LARGER is not 0, each of more bytes than that. At the first of these numbers and at each
- * that is too large it writes a byte to the file descriptor REFUSE_TOLD. A program that is not done
- * after ten seconds ends by SIGALRM.
+ * numbers REFUSE_FIRST to REFUSE_LAST, counted from 1 since the start of main, and, if
+ * REFUSE_LARGER is not 0, each of more bytes than that. At the first of these numbers, and at each
+ * allocation that is too large, it writes a byte to the file descriptor REFUSE_TOLD. SIGALRM ends a
+ * program that is not done after ten seconds.
  */
 #include <errno.h>
 #include <stdlib.h>

@@ -3,7 +3,7 @@
 
     docs/tests/refused.py FOLDER [WORD..]
 
-FOLDER is one to work in. It has refuse.so, which counts the allocations and refuses them.
+FOLDER is a folder to work in. It has refuse.so, which counts the allocations and refuses them.
 """
 import collections
 import itertools
@@ -17,11 +17,11 @@ import subprocess
 import sys
 
 PROGRAM = "crates/boostmap/out/boostmap"
-# How many allocations are refused, from the one whose turn it is on: one, a few, all.
+# How many allocations are refused, from the one whose turn it is: one, a few, or all.
 LENGTHS = [1, 8, 2**62]
 
-# Tests that pass whichever one allocation is refused: crate and name. Where more are, they may also
-# give up by an error, or stop at an assertion that says so.
+# Tests that pass whichever single allocation is refused: crate and name. If more are refused, they may
+# also give up by an error, or stop at an assertion that says so.
 PASSING = """
 table_tests node_list_tests::refused_allocations
 table_tests bucket_table_tests::refused_allocations
@@ -33,7 +33,7 @@ table_tests stripe_part_tests::refused_memory
 striped_tests refused::refused_memory
 thread_tests lock_tests::a_stripe_is_held_until_its_holder_releases
 """
-# Tests that pass whichever one allocation is refused, eight in a row, or all from one on.
+# Tests that pass whichever single allocation is refused, or eight in a row, or all from one on.
 WHOLE = """
 table_tests bucket_table_tests::bucket_initialisation
 table_tests undo_log_tests::nine_undone_newest_first
@@ -55,7 +55,7 @@ thread_tests run_tests::refused_memory_for_crossing_scripts
 program_tests engines::refused::five_callers_undone_is_legal
 program_tests engines::refused::a_cursor_stands_beside_a_refusal
 """
-# Tests that pass whichever one allocation is refused, and that are refused no more.
+# Tests that pass whichever single allocation is refused; more are not refused to them.
 ALONE = """
 program_tests files::memory_refused
 program_tests engines::failing::refused_allocations
@@ -64,14 +64,13 @@ program_tests engines::failing::mix_without_memory
 program_tests engines::failing::run_without_memory
 program_tests commands::refused_allocations
 """
-# Tests that ask for no more bytes at once than this, and for so many once: the list's counts of
-# marked nodes, 4,096 of 8 bytes, are the largest that a small core wants; 32 slots of 24 bytes are
-# the largest array of a map of eleven keys.
+# The largest allocation of a test, in bytes: the list's counts of marked nodes, 4,096 of 8 bytes, are
+# the largest of a small core; 32 slots of 24 bytes are the largest array of a map of eleven keys.
 LARGEST = """
 core_tests cores::nine_undone_newest_first 32768
 table_tests probe_map_tests::removed_keys 768
 """
-# What an assertion says of a call that was refused memory.
+# The text of an assertion that a call was refused memory.
 OF_MEMORY = re.compile("AllocError|AllocFailed|NoMemory")
 
 LIMITS = {"version": 1, "stripes": 8, "buckets": 8}
@@ -83,7 +82,7 @@ def do(caller, *op):
 
 
 def five_callers_undone():
-    """Five callers change a key each three times, and take it all back in turn."""
+    """Five callers change one key each, three times, and take all of it back, taking turns."""
     steps = []
     for c in range(5):
         steps += [["begin", c], *do(c, "put", c + 1, 10)]
@@ -97,7 +96,7 @@ def five_callers_undone():
 
 
 def busy_between_callers():
-    """Caller 1 finds a lock of caller 0, begins anew and commits first."""
+    """Caller 1 finds a lock of caller 0, begins again and commits first."""
     steps = [["begin", 0], *do(0, "put", 1, 10), ["begin", 1], ["ask", 1, "get", 9]]
     return steps + [["act", 1], ["begin", 1], ["commit", 1], ["commit", 0]]
 
@@ -123,19 +122,19 @@ def nine_changes():
 
 
 def two_workers():
-    """Scripts that meet at keys 1 and 9, with savepoints, help and an abort."""
+    """Scripts that share the lock of keys 1 and 9, with savepoints, help and an abort."""
     first = [["put", 1, 10], ["save"], ["put", 2, 20], ["help", 3], ["back", 1]]
     second = [["get", 9], ["put", 3, 30], ["take", 3], ["put", 4, 40]]
     return [first, second, [["get", 1], ["abort"]]] * 2
 
 
 def crossing_gate():
-    """Two scripts of two puts, of which each has keys of its own."""
+    """Two scripts of two puts, each with other keys."""
     return [[["put", 1, 10], ["put", 2, 20]], [["put", 3, 30], ["put", 4, 40]]]
 
 
 def small_files():
-    """Further files than those of examples/, with their names."""
+    """More files than those of examples/, with their names."""
     for steps in [five_callers_undone, busy_between_callers, bucket_initialisation, nine_changes]:
         yield steps.__name__, {**LIMITS, "callers": 5, "steps": steps()}
     yield "two_workers", {**LIMITS, "workers": 2, "tries": 2, "scripts": two_workers()}
@@ -150,7 +149,7 @@ class Runner:
         self.told = os.open(f"{folder}/told", os.O_RDWR | os.O_CREAT | os.O_APPEND)
 
     def run(self, words, first=0, last=0, larger=0):
-        """How the words end where these allocations are refused, and whether one was met.
+        """How a call with these words ends if these allocations are refused, and whether one was met.
 
         `larger` refuses each allocation of more bytes than that, where it is not 0.
         """
@@ -172,7 +171,7 @@ class Runner:
         return ended, os.fstat(self.told).st_size > 0
 
     def asks_for(self, name, words, largest):
-        """Whether the largest allocation is of so many bytes; prints a line."""
+        """Whether the largest allocation has this many bytes; prints a line."""
         is_enough = not self.run(words, larger=largest)[1]
         is_wanted = self.run(words, larger=largest - 1)[1]
         told = "is" if is_enough and is_wanted else "is not"
@@ -255,7 +254,7 @@ class Commands:
         return self.runner.refuse_in_turn(name, [PROGRAM, *words], LENGTHS, kind_of)
 
     def all(self):
-        """For each file and each fault whether all is right."""
+        """For each file and each fault, whether all is right."""
         paths = {path.stem: str(path) for path in sorted(pathlib.Path("examples").iterdir())}
         for name, file in small_files():
             paths[name] = self.written(name, json.dumps(file))
@@ -276,7 +275,7 @@ class Commands:
 
 
 def kind_of_test(kinds):
-    """What the end of a test is: it passed, or it is of one of these kinds.
+    """How a test ended: it passed, or in one of these ways.
 
     It gave up by an error that it gives back, or stopped at an assertion that says that memory was
     refused.
@@ -296,7 +295,7 @@ def kind_of_test(kinds):
 
 
 def largest_are(runner, crates):
-    """For each test of these crates whose largest allocation is known, whether it is that."""
+    """For each test of these crates whose largest allocation is known, whether that is right."""
     for crate, name, largest in map(str.split, LARGEST.strip().split("\n")):
         program = f"crates/{crate}/out/{crate}_tests"
         if not crates or crate in crates:
@@ -305,7 +304,7 @@ def largest_are(runner, crates):
 
 
 def all_tests(runner, crates):
-    """For each test of these crates, or of all, whether all is right."""
+    """For each test of these crates, or of all crates, whether all is right."""
     yield from largest_are(runner, crates)
     ends = [(ALONE, LENGTHS[:1], []), (PASSING, LENGTHS[:1], [])]
     ends += [(PASSING, LENGTHS[1:], ["gave up", "stopped"])]

@@ -1,11 +1,11 @@
 #!/usr/bin/env python3
-"""Holds the schemas of docs/schemas/ to the files that the program takes and refuses.
+"""Tests that the schemas of docs/schemas/ accept and refuse the same files as the program.
 
-Every example, and every line of files.tsv: its command, what the program says of it (`taken`, or the
-line on standard error), and the file. A schema must take what the program takes and refuse what it
-refuses; a file that is not JSON no schema reads. A command that is followed by `1.0` has a number that
-a schema cannot tell from a whole one. It needs python3 with jsonschema, of version 4 or later. The
-last line is 'schemas: N passed, M failed', and the status is 1 if M is not 0.
+The files are every example, and those of files.tsv, which has on each line a command, what the program
+says of the file (`taken`, or the line on standard error), and the file. No schema reads a file that is
+not JSON. After some commands stands `1.0`: the file has a number that a schema cannot tell from a whole
+one. It needs python3 with jsonschema, of version 4 or later. The last line is 'schemas: N passed, M
+failed', and the status is 1 if M is not 0.
 """
 import json
 import pathlib
@@ -27,7 +27,7 @@ def schema_of(command):
 
 
 def says(schema, text):
-    """What a schema says of a file: taken, refused, or refused 20 where it is not JSON."""
+    """What a schema says of a file: taken, refused, or refused 20 if it is not JSON."""
 
     def no_float(word):
         if word == "1e999":
