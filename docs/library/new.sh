@@ -2,12 +2,13 @@
 # Lays out a new repository in the folder NAME, with one caller of the map of threads: the folders that it needs, their
 # lines of crates.txt, HANDLES, and a crate that counts in a map from two threads. docs/LIBRARY.md describes it. `rt check`
 # in NAME/crates/counter proves it, in some 14 processor minutes the first time, three of them for the crate itself. Proofs
-# that another copy on the machine has made are taken over.
+# that another copy on the machine has made are reused.
+# Usage: docs/library/new.sh NAME
 set -eu
 [ $# = 1 ] || { echo "usage: docs/library/new.sh NAME" >&2; exit 2; }
 here=$(cd "$(dirname "${BASH_SOURCE[0]}")/../.." && pwd)
 there=$1
-[ ! -e "$there" ] || { echo "new.sh: $there is there already" >&2; exit 1; }
+[ ! -e "$there" ] || { echo "new.sh: $there exists already" >&2; exit 1; }
 
 # The crates that the map of threads needs, lowest first.
 below="split_key txn_trace map_answers txn_drive undo_log key_locks key_words node_list list_steps bucket_table map_ops boost_core
@@ -21,7 +22,8 @@ for crate in $below; do
   done
   grep "^$crate\b" "$here/crates.txt" >>"$there/crates.txt"
 done
-# The number of the crate's functions that may wait. The last line of its check says it, and `rt verdict` compares it.
+# may_wait is the number of the crate's functions that may wait: the last line of its check prints it, and `rt verdict`
+# compares it.
 echo "counter may_wait=6: txn_trace boost_core locked_map shared_transactions anyhow" >>"$there/crates.txt"
 echo "Handles allowed: Threads, Wait." >"$there/HANDLES"
 printf 'out/\n' >"$there/.gitignore"

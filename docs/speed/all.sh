@@ -1,7 +1,7 @@
 #!/usr/bin/env bash
 # Measures each figure of ../SPEED.md again: runs the other scripts of this folder one after the other, each with the rounds that
-# the page names, and prints a line and then the output of each. That takes some two hours once all is proved; nothing else should
-# run meanwhile. Words may name the scripts to be run: docs/speed/all.sh whole run
+# the page names, and prints a heading and the output of each. That takes some two hours once all is proved; nothing else should
+# run meanwhile. To run only some of them: docs/speed/all.sh whole run
 # Usage: docs/speed/all.sh [SCRIPT..]
 set -euo pipefail
 cd "$(dirname "${BASH_SOURCE[0]}")/../.."

@@ -1,10 +1,10 @@
 #!/usr/bin/env bash
 # Gives each command the files that cost it most (../FORMATS.md, "What a file may cost"), and prints for each the bytes of the file
-# and of the output, the processor seconds, and the most memory in MB. `walks` puts KEYS keys into a table of two buckets, each
-# sought from the beginning of the list, and `seeks` seeks the last of KEYS keys again and again; `saves` and `puts` have as many
-# steps as a file may have; `meets` has two workers that take 2,048 stripes each and then one of the other's, and are tried again
-# TRIES times. With few KEYS and TRIES it takes a minute or two; with 200000 and 1000, the most that there may be, hours and more
-# memory than most machines have. LIMIT is the most memory that a run gets, in MB. PROGRAM may name the program.
+# and of the output, the processor seconds, and the most memory in MB. `walks` puts KEYS keys into a table of two buckets, so each
+# is sought from the beginning of the list; `seeks` seeks the last of KEYS keys again and again; `saves` and `puts` have as many
+# steps as a file may have; `meets` has two workers that take 2,048 stripes each and then one of the other's, and try again TRIES
+# times. With few KEYS and TRIES it takes a minute or two; with 200000 and 1000, the most that a file may have, it takes hours, and
+# more memory than most machines have. LIMIT is the most memory that a run gets, in MB. PROGRAM may name the program.
 # Usage: docs/speed/bounds.sh [KEYS [TRIES]]
 source "$(dirname "${BASH_SOURCE[0]}")/common.sh"
 keys=${1:-5000}

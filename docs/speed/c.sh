@@ -1,14 +1,14 @@
 #!/usr/bin/env bash
-# Times transactions from C, in turn over the library and over std::unordered_map with an undo log, and prints the median
-# nanoseconds of processor time of a transaction in both, and their ratio: for one caller on the map with one owner, whose
-# twin has no stripes; then for 1, 2 and 4 threads on the striped map, whose twin has a mutex for each stripe. No twin has a
-# history or savepoints. Both must give the same replies.
+# Times transactions from C, on the library and on a twin, std::unordered_map with an undo log, and prints the median nanoseconds
+# of processor time of a transaction on each, and their ratio: for one caller on the map with one owner, whose twin has no stripes;
+# then for 1, 2 and 4 threads on the striped map, whose twin has a mutex for each stripe. Neither twin has a history or savepoints.
+# Library and twin must give the same replies.
 #
-# Then the crossing from C, on the striped map with 1,000 keys: the transactions that `bench striped` makes inside Rattle, and the
-# same from C. It prints the median nanoseconds and, with valgrind, the instructions of a transaction in both, and what each of its
-# six calls takes more from C. At last the nanoseconds of a call that is refused at once.
+# Then it measures the crossing from C, on the striped map with 1,000 keys: the transactions that `bench striped` makes inside
+# Rattle, and the same from C. It prints the median nanoseconds and, with valgrind, the instructions of a transaction in both, and
+# how much more each of its six calls takes from C; last, the nanoseconds of a call that is refused at once.
 #
-# BENCH may name the program `bench`; else it is proved and built. Usage: docs/speed/c.sh [ROUNDS]
+# BENCH may name the program `bench`; otherwise it is proved and built. Usage: docs/speed/c.sh [ROUNDS]
 source "$(dirname "${BASH_SOURCE[0]}")/common.sh"
 rounds=${1:-9}
 quietly bindings/install.sh "$work/usr"
@@ -23,7 +23,7 @@ median() {
     END { print " " sum }'
 }
 
-# A row of the table: the words of c_map after the names of library and twin.
+# A row of the table: the arguments of c_map after the name of library or twin.
 row() {
   local library twin replies others
   rm -f "$work/$1" "$work/$2"
@@ -37,8 +37,8 @@ row() {
     printf "%-9s %7d %9d %9.0f %9.0f %6.2f\n", map, threads, keys, a, b, a / b }'
 }
 
-# A number of transactions with the same draws, inside Rattle and from C: a line with the nanoseconds of one, and the sum of the
-# replies. Further words stand before the program's name.
+# Runs a number of transactions with the same draws, inside Rattle and from C. Each prints a line with the nanoseconds of one, and
+# the sum of the replies. Further arguments are put before the program's name.
 inside() {
   "${@:2}" "$work/proved" striped 1 1000 "$1" 1024 2>&1 |
     sed 's/.* a second, \([0-9]*\) ns .* sum \([0-9]*\)$/\1 \2/'

@@ -1,6 +1,6 @@
 #!/usr/bin/env bash
-# Builds the program, which proves it, and judges long legal histories with it. Prints of each kind (history.sh names them)
-# and length the entries, the bytes, the processor time of one run and of one entry, and the memory at its highest.
+# Builds the program, which proves it, and judges long legal histories with it. Prints for each kind (history.sh names them) and
+# length the entries, the bytes, the processor time of one run and of one entry, and the most memory in use.
 # Usage: docs/speed/check.sh [ROUNDS]
 source "$(dirname "${BASH_SOURCE[0]}")/common.sh"
 rounds=${1:-5}

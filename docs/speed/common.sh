@@ -1,5 +1,6 @@
-# Shared by the scripts of this folder, which source it. They work at the top of the repository, with a folder that is removed
-# at the end.
+# Shared by the scripts of this folder, which source it. They run at the top of the repository; `work` is a temporary folder, which
+# is removed at the end.
+# shellcheck shell=bash
 set -euo pipefail
 cd "$(dirname "${BASH_SOURCE[0]}")/../.."
 work=$(mktemp -d)
@@ -18,14 +19,14 @@ run_crate() (
   ${RT:-rt} run -- "${@:2}"
 )
 
-# Builds a program of crates/, which proves it, and runs it once with the words after its name. It is then `proved` in $work.
+# Builds a program of crates/, which proves it, and runs it once with the arguments after its name. It is then `proved` in $work.
 build_proved() {
   quietly run_crate "$@"
   cp "crates/$1/out/$1" "$work/proved"
 }
 
 # Takes the program, which is then `proved` in $work: the file that PROGRAM names, or else that of this repository, which is
-# proved and built if it is not yet.
+# proved and built if necessary.
 take_program() {
   if [ -z "${PROGRAM:-}" ]; then
     quietly ./boostmap check examples/checked.json
@@ -38,8 +39,8 @@ build_twin() {
   rustc -C opt-level=3 -C codegen-units=1 -C lto -C panic=abort -o "$work/plain" "docs/speed/$1.rs"
 }
 
-# Takes an older twin of the whole commands, if BEFORE names one; it is then `before` in $work. $programs are those that are
-# compared.
+# Takes an older twin of the whole commands, if BEFORE names one; it is then `before` in $work. $programs are the programs to
+# compare.
 take_before() {
   programs=(proved plain)
   if [ -n "${BEFORE:-}" ]; then
@@ -56,13 +57,13 @@ build_whole() {
   cp "$work/target/release/whole" "$work/plain"
 }
 
-# Writes step files: a line of the input is a file's name and the words of core_steps for it. Their names are $names then.
+# Writes step files: each line of the input has a file's name and the arguments of core_steps for it. $names are then their names.
 write_step_files() {
   local name words
   rustc -O -o "$work/core_steps" docs/speed/core_steps.rs
   names=()
   while read -r name words; do
-    # The words are several.
+    # Several arguments.
     # shellcheck disable=SC2086
     "$work/core_steps" $words >"$work/$name.json" 2>/dev/null
     names+=("$name")
@@ -103,7 +104,7 @@ write_run_file() {
     }' >"$work/run.json"
 }
 
-# Lays out the crates of the maps as a repository of their own, in $work/maps, over the proofs that this one keeps in out/.
+# Lays out the crates of the maps as a separate repository, in $work/maps, with the proofs that this one keeps in out/.
 lay_out_maps() {
   local crate
   quietly docs/library/new.sh "$work/maps"
@@ -118,7 +119,7 @@ lay_out_maps() {
 }
 
 # Proves and builds the program of docs/speed/NAME.rt.txt on those crates, and runs it once: NAME, its line of crates.txt after the
-# name, and words for that run. docs/speed/NAME/F.antt.txt has the invariants of its function F. It is then `NAME` in $work.
+# name, and the arguments of that run. docs/speed/NAME/F.antt.txt has the invariants of its function F. It is then `NAME` in $work.
 build_on_maps() {
   local there=$work/maps/crates/$1 file function
   [ -e "$work/maps" ] || lay_out_maps

@@ -1,6 +1,6 @@
 #!/usr/bin/env bash
-# Runs the nodes and cursors of the benchmark and of its twin in plain Rust in turn, and prints the median time of each phase
-# in milliseconds, the proved program's in nanoseconds an operation, and its ratio to the twin.
+# Runs the nodes and cursors of the benchmark and of its twin in plain Rust, alternately, and prints the median time of each phase in
+# milliseconds, that of the proved program in nanoseconds an operation, and its ratio to the twin.
 # Usage: docs/speed/compare.sh [KEYS [ROUNDS]]
 source "$(dirname "${BASH_SOURCE[0]}")/common.sh"
 keys=${1:-1000000}

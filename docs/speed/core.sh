@@ -1,7 +1,7 @@
 #!/usr/bin/env bash
-# Runs the core of the benchmark and its twin in plain Rust in turn, on the same step files, and prints the median time of
-# the steps in milliseconds, the proved program's in nanoseconds a step, and its ratio to the twin: of the first run of the
-# steps, for which memory has to be taken from the system, and then of a second one, for which the C library has kept it.
+# Runs the core of the benchmark and its twin in plain Rust, alternately, on the same step files, and prints the median time of the
+# steps in milliseconds, that of the proved program in nanoseconds a step, and its ratio to the twin: for the first run of the steps,
+# which takes memory from the system, and for a second one, for which the C library has kept it.
 # ../SPEED.md says what the files of core_files.txt are.
 # Usage: docs/speed/core.sh [ROUNDS]
 source "$(dirname "${BASH_SOURCE[0]}")/common.sh"

@@ -1,8 +1,8 @@
 #!/usr/bin/env bash
 # Counts the instructions of the program's commands and of their twins in plain Rust (whole/), on the files of whole.sh of 1,000,
-# 10,000 and 100,000 pieces, or of the sizes that SIZES names. Prints the millions of both and their ratio; if BEFORE names an
-# older twin, its millions and the ratio to it are last. Other work on the machine does not change them. The outputs are compared.
-# PROGRAM may name the program, and with VERSION=2 the files are of that version. It needs valgrind.
+# 10,000 and 100,000 pieces, or of the sizes in SIZES. Prints the millions of both and their ratio; if BEFORE names an older twin, also
+# its millions and the ratio to it. Other work on the machine does not change them. The outputs are compared. PROGRAM may name the
+# program, and with VERSION=2 the files are of that version. It needs valgrind.
 # Usage: docs/speed/counts.sh
 source "$(dirname "${BASH_SOURCE[0]}")/common.sh"
 take_program

@@ -1,6 +1,6 @@
 #!/usr/bin/env bash
-# Runs the maps of the benchmark and their twin in plain Rust in turn, with rising numbers of keys. Prints of both the median
-# nanoseconds of one operation of each map and phase, and how the tables' compare with the other maps'.
+# Runs the maps of the benchmark and their twin in plain Rust, alternately, with rising numbers of keys. Prints for both the median
+# nanoseconds of one operation of each map and phase, and the ratios of the tables to the other maps.
 # Usage: docs/speed/growth.sh [ROUNDS]
 source "$(dirname "${BASH_SOURCE[0]}")/common.sh"
 rounds=${1:-5}

@@ -2,11 +2,11 @@
 # Writes a legal history file of a kind, with this number of entries, or with fewer if the file would be too long.
 # Usage: docs/speed/history.sh KIND ENTRIES
 #   saved       one transaction of savepoints only
-#   undone      one transaction that puts values to 10,000 keys again and again, and takes all back
-#   deep        one transaction that puts values to as many keys, each once, and takes all back
-#   savepoints  one transaction with a savepoint before each change, that goes back level by level
+#   undone      one transaction that puts values at 10,000 keys again and again, and takes all back
+#   deep        one transaction that puts a value at a different key with each change, and takes all back
+#   savepoints  one transaction with a savepoint before each change, which goes back level by level
 #   short       64 callers whose transactions do one operation each and commit
-#   callers     64 callers whose long transactions are open at once; each second one takes all its changes back
+#   callers     64 callers whose long transactions are open at the same time; every second one takes all its changes back
 set -euo pipefail
 exec awk -v kind="$1" -v entries="$2" '
   function entry(text) {

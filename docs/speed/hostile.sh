@@ -1,9 +1,9 @@
 #!/usr/bin/env bash
 # Gives each command files of the full size, 16,777,216 bytes, that nobody would write by hand, and
 # prints for each the answer, the processor seconds, and the most memory as a multiple of the file.
-# A star marks another answer than docs/FORMATS.md has, a second or more, and 12 times the file or
-# more; the status is then 1. It takes half a minute, and needs python3 and the built program, whose
-# path may be its one word.
+# A star marks an answer that docs/FORMATS.md does not give, a second or more, and 12 times the file
+# or more; the status is then 1. It takes half a minute, and needs python3 and the built program.
+# Usage: docs/speed/hostile.sh [PROGRAM]
 set -euo pipefail
 cd "$(dirname "${BASH_SOURCE[0]}")/../.."
 work=$(mktemp -d)
@@ -22,8 +22,8 @@ COMMANDS = {
     "mix --seed 7": (LIMITS + ',"workers":2,"tries":0', "scripts", "script"),
     "check": (LIMITS, "entries", "entry"),
 }
-# What once stands before, what is repeated to the full size, what once stands behind, and what is
-# refused.
+# Of each file: its beginning, the part that is repeated up to the full size, its end, and the number with
+# which it is refused, if it is.
 RIGHT = '{MEMBERS,"PIECES":[]'
 SHAPES = {
     "blanks": (RIGHT, " ", "}", ""),

@@ -1,6 +1,6 @@
 #!/usr/bin/env bash
 # Counts the instructions of the core's steps in the benchmark and in its twin in plain Rust, on the step files of core.sh, and
-# prints how many one step takes in each, and the ratio. Other work on the machine does not change them.
+# prints how many a step takes in each, and the ratio. Other work on the machine does not change these numbers.
 # Usage: docs/speed/instructions.sh
 source "$(dirname "${BASH_SOURCE[0]}")/common.sh"
 build_proved bench core 1000

@@ -1,7 +1,7 @@
 #!/usr/bin/env bash
-# Builds the program, which proves it, and mixes the scripts of growing script files with it (scripts.sh writes them). Prints of
-# each its kind, calls, workers and bytes, the entries of the history, the median milliseconds from start to end, the
-# nanoseconds a call and an entry, the most memory in use in MB, and what `check` says of the history.
+# Builds the program, which proves it, and runs `mix` on growing script files (scripts.sh writes them). Prints for each its kind,
+# calls, workers and bytes, the entries of the history, the median milliseconds from start to end, the nanoseconds a call and an
+# entry, the most memory in use in MB, and the verdict of `check` on the history.
 # Usage: docs/speed/mix.sh [ROUNDS]
 source "$(dirname "${BASH_SOURCE[0]}")/common.sh"
 rounds=${1:-5}

@@ -1,6 +1,6 @@
 #!/usr/bin/env bash
-# Runs `boostmap replay` on step files, the last of the full size, to its end, and prints for each its steps and bytes, the
-# median milliseconds, the steps in a second and the most memory in use in MB. What it prints is compared with the twin's.
+# Runs `boostmap replay` on step files, the last of them of the full size, and prints for each its steps and bytes, the median
+# milliseconds from start to end, the steps a second and the most memory in use in MB. The output is compared with the twin's.
 # Usage: docs/speed/replay.sh [ROUNDS]
 source "$(dirname "${BASH_SOURCE[0]}")/common.sh"
 rounds=${1:-9}

@@ -1,6 +1,6 @@
 #!/usr/bin/env bash
-# Transfers by four threads on a map of eight accounts, in many runs (retries.rt.txt). Prints how many were made and how many have
-# committed, and fails if these are not the same.
+# Four threads make transfers on a map with eight accounts, in many runs (retries.rt.txt). Prints how many were made and how many
+# committed, and fails if the numbers differ.
 # Usage: docs/speed/retries.sh [RUNS [TRANSFERS]]
 source "$(dirname "${BASH_SOURCE[0]}")/common.sh"
 runs=${1:-1000}

@@ -1,7 +1,7 @@
 #!/usr/bin/env bash
-# Puts of rising keys, each in a transaction of its own, on one thread, on each map: in a table that grows on the way and in one that
-# is large already (rising.rt.txt). Prints of each the middle of the rounds in microseconds, by the clock and of the processor, and
-# the ratio of small to large by the latter: 1 is as fast. All run in turn.
+# Puts rising keys, each in a separate transaction, on one thread, on each map: in a table that grows on the way and in one that is
+# large already (rising.rt.txt). Prints for each the median of the rounds in microseconds, by the clock and of the processor, and the
+# ratio of small to large in processor time: 1 is as fast. All run alternately.
 # Usage: docs/speed/rising.sh [PUTS [ROUNDS]]
 source "$(dirname "${BASH_SOURCE[0]}")/common.sh"
 puts=${1:-100000}
@@ -17,7 +17,7 @@ for _ in $(seq "$rounds"); do
   done
 done >"$work/runs"
 
-# The middle of a column of the runs of a map and a table.
+# The median of a column of the runs of a map and a table.
 middle() {
   awk -v map="$1" -v table="$2" -v column="$3" '$1 == map && $2 == table { print $column }' "$work/runs" | sort -n |
     sed -n "$(((rounds + 1) / 2))p"

@@ -1,13 +1,13 @@
 #!/usr/bin/env bash
 # Runs `boostmap run` and its twins in plain Rust (whole/: one mutex, one hold a call, with history) on the same script files, and
-# prints how many transactions a second each ends, reading and writing the files included, and how long the program takes to each
-# twin. The second twin, `kept`, also does what `run` promises beside the history: each worker takes a stripe by its atomic word,
-# keeps the entries that it saw, and how its scripts ended, and its entries are compared with the history. Then only the library,
-# without reading and writing: `run_scripts` (the part `shared` of crates/bench) and both twins.
+# prints how many transactions a second each completes, including reading and writing the files, and the ratio of the program's time
+# to each twin's. The second twin, `kept`, also does what `run` promises besides the history: each worker takes a stripe by its
+# atomic word, keeps the entries that it saw and how its scripts ended, and its entries are compared with the history. Then it runs
+# only the library, without reading and writing: `run_scripts` (the part `shared` of crates/bench) and both twins.
 #
-# There are 1, 2 and 4 threads, at 1,000 and 100,000 keys; 10,000 scripts, each of four operations and a help; a tenth aborts. With
-# one thread all print the same history, which is compared; with more, each history is judged. All run in turn, so that a machine
-# whose speed changes is as fast for one as for the other; the middle one of the rounds counts.
+# There are 1, 2 and 4 threads, at 1,000 and 100,000 keys; 10,000 scripts, each of four operations and a help; a tenth abort. With
+# one thread all print the same history, which is compared; with more, each history is judged. All run alternately, so that a
+# machine whose speed changes treats them alike; the median of the rounds counts.
 # Usage: docs/speed/run.sh [ROUNDS]
 source "$(dirname "${BASH_SOURCE[0]}")/common.sh"
 rounds=${1:-9}
@@ -19,14 +19,14 @@ build_whole
 
 TIMEFORMAT=%R
 
-# One run of a command, whose seconds by the clock are added to a file of its name. A history that is longer than a file may be is
-# not judged.
+# Runs a command once, and adds its seconds by the clock to a file with its name. A history that is longer than a file may be is not
+# judged.
 run_once() {
   { time "$work/$1" "$2" "$work/run.json" >"$work/$1.$2"; } 2>>"$work/seconds.$1.$2"
   [ "$(stat -c %s "$work/$1.$2")" -gt 16777216 ] || "$work/proved" check "$work/$1.$2" | grep -q '^legal .* open$'
 }
 
-# One run of only the library, whose own time, in seconds, is added to a file of its name.
+# Runs only the library once, and adds the time that it prints, in seconds, to a file with its name.
 time_once() {
   "$work/$1" "${@:2}" "$work/run.json" 2>&1 >"$work/none" |
     awk '{ for (i = 1; i < NF; i++) if ($i == "in") print $(i + 1) / ($(i + 2) ~ /^ms/ ? 1e3 : 1e9) }' >>"$work/seconds.$1.$2"

@@ -1,11 +1,11 @@
 #!/usr/bin/env bash
 # Tests that the twin of the whole commands (whole/) does what the program does: gives both the same small files, and compares
-# their output and status. The files are those of examples/; step files of both versions that core_steps.rs writes,
-# and one by hand with each refusal; script files of both versions, which `mix` takes by three seeds and `run` on one thread;
-# and histories of all versions, as these commands print them and with one entry changed. They must have every operation,
-# `put_if` with null and with a value, keys from 2^63 on, and files that are refused.
-# PROGRAM names the program; without it that of this repository is built. It takes half a minute.
-# Usage: PROGRAM=FILE docs/speed/same.sh
+# their output and status. The files are those of examples/; step files of both versions that core_steps.rs writes, and one
+# written by hand with each refusal; script files of both versions, which `mix` runs with three seeds and `run` on one thread; and
+# histories of all versions, as these commands print them and with one entry changed. Every operation must occur in them, `put_if`
+# with null and with a value, keys from 2^63 on, and files that are refused.
+# PROGRAM may name the program; otherwise that of this repository is built. It takes half a minute.
+# Usage: docs/speed/same.sh
 source "$(dirname "${BASH_SOURCE[0]}")/common.sh"
 take_program
 build_whole
@@ -35,7 +35,7 @@ say() {
   count=0
 }
 
-# Judges a history, and the same with each ninth entry left out, doubled, or given another caller or another end.
+# Judges a history, and the same with every ninth entry left out, doubled, or given another caller or another end.
 judge() {
   same check "$1"
   for change in out twice caller end; do
@@ -74,8 +74,8 @@ for name in "${names[@]}"; do
   same replay "$work/$name.json"
 done
 
-# Each refusal but those of memory and stamps, and each way that a put_if goes, which an abort takes back. VERSION is the
-# file's version, HIGH is 2^63.
+# Each refusal except for memory and stamps, and each outcome of a put_if, which an abort takes back. VERSION is the file's
+# version, HIGH is 2^63.
 sed 's/HIGH/9223372036854775808/g' >"$work/steps" <<'STEPS'
 ["act",0],["begin",2],["begin",0],["begin",0],["act",0],["seek",0],["back",0,1],["back",0,0],["begin",0],["commit",0],
 ["seek",0],["act",0],["ask",0,"put",HIGH,1],["seek",0],["act",0],["ask",0,"put",0,2],["act",0],["save",0],["seek",0],["act",0],
@@ -99,7 +99,7 @@ for version in 1 2 3; do
 done
 say 'step files'
 
-# Scripts for this number of workers, with every action; of version 1 without put_if.
+# Scripts for this number of workers, with every action; in version 1 without put_if.
 write_scripts() {
   awk -v workers="$1" -v version="$2" '
     function word() { seed = (seed * 16807) % 2147483647; return seed }
@@ -153,7 +153,7 @@ judge "$work/history4.json"
 same check "$work/history5.json"
 say 'histories'
 
-# What must be among the files, and among the answers.
+# What must occur in the files, and in the answers.
 wants() {
   if ! grep -q -- "$1" "${@:2}"; then
     echo "nothing has $1" >&2

@@ -1,13 +1,13 @@
 #!/usr/bin/env bash
 # Writes a script file of CALLS calls, a multiple of a thousand, for WORKERS workers, a power of two. Scripts have nine operations
 # and then a help, or more of both if there would be more than 10,000 scripts. Half of the operations put, a quarter take, a quarter
-# get. There is a key for each five calls, except for the kind every. A worker uses, by KIND:
+# get. There is one key for every five calls, except for the kind `every`. Depending on KIND, a worker uses:
 #   apart   keys that no other worker uses, nor their stripes
 #   shared  all keys
 #   every   all keys, one for each call and 4,096 more; a third of the scripts set savepoints, half of these go back to them, and
 #           one script in eight aborts at its end
-# VERSION is the version of the file, 1 or 2, by default 1. In version 2, which the kind apart does not have, the upper half of the
-# keys are 2^63 more than the lower, and a quarter of the puts are put_ifs, of which a quarter expect a number, and not null.
+# VERSION is the version of the file, 1 or 2, by default 1. In version 2, which the kind `apart` does not have, the upper half of the
+# keys are 2^63 more than the lower half, and a quarter of the puts are put_ifs; a quarter of these expect a number, the others null.
 # Usage: docs/speed/scripts.sh KIND CALLS WORKERS [VERSION]
 set -euo pipefail
 exec awk -v kind="$1" -v calls="$2" -v workers="$3" -v version="${4:-1}" '

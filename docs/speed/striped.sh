@@ -2,8 +2,8 @@
 # Runs transactions of four operations on the striped map, and the same drawn transactions in plain Rust: with a mutex a stripe over
 # a HashMap and an undo log, tried and not waited for (`mutexes`), and with one mutex over one HashMap (`one`). Prints millions of
 # transactions a second by the clock, the processor time of one in nanoseconds, and the ratio of plain Rust's processor time to the
-# map's: 1 is as fast, less is slower. Medians of the rounds; all three run in turn, so that a machine whose speed changes is as fast
-# for one as for the other. With one thread all three must answer the same.
+# map's: 1 is as fast, less is slower. All are medians of the rounds; the three run alternately, so that a machine whose speed
+# changes treats them alike. With one thread all three must answer the same.
 # Usage: docs/speed/striped.sh [TRANSACTIONS [ROUNDS [STRIPES]]]
 source "$(dirname "${BASH_SOURCE[0]}")/common.sh"
 transactions=${1:-300000}
@@ -31,7 +31,7 @@ for keys in 1000 100000; do
   done
 done >"$work/runs"
 
-# The middle of a column of the runs of a program.
+# The median of a column of the runs of a program.
 middle() {
   awk -v name="$1" -v threads="$2" -v keys="$3" -v column="$4" '
     $1 == name && $2 == threads && $3 == keys { print $column }' "$work/runs" | sort -n | sed -n "$(((rounds + 1) / 2))p"

@@ -1,8 +1,9 @@
 #!/usr/bin/env bash
-# Whether the memory of the striped map stays. For each number of threads a process does transactions of four operations, by default
-# 100,000,000 operations in all; what it has is read 20 times a second, from its page tables, since the kernel's own peak is some
-# hundred kB out with threads, and only while all threads run, since the end of one takes some pages for good. Prints the most in
-# kB in the first tenth of its time, and in all of it, and fails if the latter is more than a hundredth above.
+# Tests that the memory of the striped map does not grow. For each number of threads a process runs transactions of four operations,
+# by default 100,000,000 operations in all. Its memory is read 20 times a second, from its page tables, since with threads the
+# kernel's own peak is some hundred kB off; and only while all threads run, since a thread that ends takes some pages for good.
+# Prints the most memory in kB in the first tenth of the time and in all of it, and fails if the latter is more than a hundredth
+# higher.
 # Usage: docs/speed/striped_memory.sh [OPERATIONS [KEYS [THREADS..]]]
 source "$(dirname "${BASH_SOURCE[0]}")/common.sh"
 operations=${1:-100000000}

@@ -1,6 +1,6 @@
 #!/usr/bin/env bash
-# Transactions over 1,000 keys on the map with one owner, with a trim each 100,000 (trims.rt.txt). Prints the seconds of processor
-# time and the most memory.
+# Runs transactions over 1,000 keys on the map with one owner, with a trim after every 100,000 (trims.rt.txt). Prints the seconds of
+# processor time and the most memory.
 # Usage: docs/speed/trims.sh [TRANSACTIONS]
 source "$(dirname "${BASH_SOURCE[0]}")/common.sh"
 transactions=${1:-10000000}

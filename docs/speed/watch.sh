@@ -1,11 +1,11 @@
 #!/usr/bin/env bash
 # Gives `judge watch` and its twin in plain Rust (watch/) the same entries, one a line, of 64 callers on 100,000 keys (entries.rs),
 # and prints for each rule and each length the seconds of processor time of one run of both, the median of the rounds, and their
-# ratio; the most memory of both in MB; and the millions of instructions of both on the first 200,000 of the entries, and their
-# ratio. The outputs are compared, also if an entry is left out, which is illegal. Other work on the machine changes only the
-# times. It needs valgrind, 300 MB for the entries, and Debian's package librust-serde-json-dev, or other sources of
-# serde_json in the folder that CRATES names. PROGRAM may name the program `judge`.
-# Usage: docs/speed/watch.sh [ENTRIES] [ROUNDS]
+# ratio; the most memory of both in MB; and the millions of instructions of both on the first 200,000 entries, and their ratio. The
+# outputs are compared, also if an entry is left out, which is illegal. Other work on the machine changes only the times. It needs
+# valgrind, 300 MB for the entries, and Debian's package librust-serde-json-dev, or other sources of serde_json in the folder that
+# CRATES names. PROGRAM may name the program `judge`.
+# Usage: docs/speed/watch.sh [ENTRIES [ROUNDS]]
 source "$(dirname "${BASH_SOURCE[0]}")/common.sh"
 entries=${1:-10000000}
 rounds=${2:-5}
@@ -38,7 +38,7 @@ compare() {
   cmp "$work/proved.text" "$work/plain.text"
 }
 
-# That both find the same entry bad if one is left out, or a reply is another.
+# Tests that both find the same entry bad if one is left out, or a reply is changed.
 same_illegal() {
   local line change program
   for line in 3 50 1000 20001 150000; do
@@ -61,7 +61,7 @@ same_illegal() {
   grep -q '^illegal .* rule 3' "$work/verdicts"
 }
 
-# Prints the row of a way to judge.
+# Prints the row for one rule.
 row() {
   local program middle=$(((rounds + 1) / 2))
   rm -f "$work"/*.costs

@@ -1,10 +1,10 @@
 #!/usr/bin/env bash
-# Runs the program's commands and their twins in plain Rust (whole/) on the same files, and prints of each command and size the
+# Runs the program's commands and their twins in plain Rust (whole/) on the same files, and prints for each command and size the
 # pieces and the bytes of the file, the milliseconds of processor time of one run of both, their ratio, the most memory of both
-# in MB, and its ratio. The outputs are compared. If BEFORE names an older twin, it runs in turn with them, and its time, the ratio
-# to it, its memory and the ratio to that are last.
+# in MB, and its ratio. The outputs are compared. If BEFORE names an older twin, it runs alternately with them, and its time, the
+# ratio to it, its memory and the ratio to that come last.
 #
-# The files have every kind of step, at a rate that users would have: one step in 50 sweeps; savepoints, returns and aborts; eight
+# The files have every kind of step, as often as users would have it: one step in 50 sweeps; savepoints, returns and aborts; eight
 # callers that find each other's stripes held; doublings, and the steps of each new bucket. `run` takes the scripts of `mix` with
 # one worker. With VERSION=2 they have put_if and keys from 2^63 on as well. The twin needs Debian's package
 # librust-serde-json-dev, or other sources of serde_json in the folder that CRATES names. PROGRAM may name the program, and SIZES

@@ -1,6 +1,6 @@
 #!/usr/bin/env bash
-# Takes and gives back free stripes on 1, 2 and 4 threads, by the atomic words of `key_words` and by a mutex a stripe in plain
-# Rust, and prints the median time of one take and give in nanoseconds, and the ratio. Each take must be granted.
+# Takes free stripes and gives them back on 1, 2 and 4 threads, by the atomic words of `key_words` and by a mutex a stripe in plain
+# Rust, and prints the median time of a take and a give in nanoseconds, and the ratio. Each take must be granted.
 # Usage: docs/speed/words.sh [TAKES [ROUNDS]]
 source "$(dirname "${BASH_SOURCE[0]}")/common.sh"
 takes=${1:-1000000}
@@ -26,8 +26,8 @@ nanoseconds() {
 
 printf '%8s %8s %8s %7s\n' threads words mutex ratio
 for threads in 1 2 4; do
-  words=$(nanoseconds proved "$threads")
+  word=$(nanoseconds proved "$threads")
   mutex=$(nanoseconds plain "$threads")
-  awk -v threads="$threads" -v words="$words" -v mutex="$mutex" 'BEGIN {
-    printf "%8d %8d %8d %7.2f\n", threads, words, mutex, words / mutex }'
+  awk -v threads="$threads" -v word="$word" -v mutex="$mutex" 'BEGIN {
+    printf "%8d %8d %8d %7.2f\n", threads, word, mutex, word / mutex }'
 done
