@@ -1,10 +1,11 @@
 #!/usr/bin/env bash
-# Installs the library below a folder: bindings/install.sh PREFIX
-#   PREFIX/lib/libboostmap.a             the proved archive, with the allocator glue of its kit
+# Installs the library in a folder: bindings/install.sh PREFIX
+#   PREFIX/lib/libboostmap.a             the proved archive, with the toolchain's allocator
 #   PREFIX/lib/pkgconfig/boostmap.pc
 #   PREFIX/include/boostmap.h, boostmap_checked.h, boostmap.hpp
 #   PREFIX/share/boostmap/python/        boostmap.py and the shared object that it loads
-# It proves and builds the archive first, if that was not done: a quarter of an hour. Needs rt, cc and ar.
+# If the archive is not built yet, it is proved and built first, in a quarter of an hour. It needs rt, cc
+# and ar.
 set -euo pipefail
 if [ $# != 1 ]; then
   echo "usage: bindings/install.sh PREFIX" >&2
