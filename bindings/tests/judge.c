@@ -24,7 +24,7 @@ static boostmap_entry of_kind(uint32_t kind, uint64_t c) { return (boostmap_entr
 
 static uint32_t rule = BOOSTMAP_HOLDER_NOW;
 
-static boostmap_verdict judged(const boostmap_entry *entries, size_t count) {
+static boostmap_verdict judge_all(const boostmap_entry *entries, size_t count) {
     boostmap_judge judge = BOOSTMAP_INIT;
     boostmap_verdict verdict;
     uint64_t fed;
@@ -34,12 +34,12 @@ static boostmap_verdict judged(const boostmap_entry *entries, size_t count) {
     CHECK(boostmap_judge_free(&judge) == BOOSTMAP_DONE);
     return verdict;
 }
-#define JUDGED(...) judged((boostmap_entry[]){__VA_ARGS__}, sizeof((boostmap_entry[]){__VA_ARGS__}) / sizeof(boostmap_entry))
+#define JUDGED(...) judge_all((boostmap_entry[]){__VA_ARGS__}, sizeof((boostmap_entry[]){__VA_ARGS__}) / sizeof(boostmap_entry))
 
-static void is_legal(boostmap_verdict v, uint64_t commits, uint64_t running) {
+static void check_legal(boostmap_verdict v, uint64_t commits, uint64_t running) {
     CHECK(v.is_legal == 1 && v.commits == commits && v.running == running && v.entry == 0 && v.rule == 0);
 }
-static void breaks(boostmap_verdict v, uint64_t entry, uint64_t rule) {
+static void check_illegal(boostmap_verdict v, uint64_t entry, uint64_t rule) {
     CHECK(v.is_legal == 0 && v.entry == entry && v.rule == rule && v.commits == 0 && v.running == 0);
 }
 
@@ -66,13 +66,13 @@ static void statuses(void) {
     CHECK(boostmap_judge_feed(&judge, &far) == BOOSTMAP_NO_ENTRY);
     CHECK(boostmap_judge_feed(&judge, &first) == BOOSTMAP_DONE);
     CHECK(boostmap_judge_verdict(&judge, &verdict) == BOOSTMAP_DONE);
-    is_legal(verdict, 0, 1);
+    check_legal(verdict, 0, 1);
     boostmap_entry array[] = {asked(0, BOOSTMAP_GET, 1, 0), did(0, 0, 0), none, committed(0, 1)};
     CHECK(boostmap_judge_feed_all(&judge, array, 4, &word) == BOOSTMAP_NO_ENTRY && word == 2);
     CHECK(boostmap_judge_feed_all(&judge, array + 3, 1, &word) == BOOSTMAP_DONE && word == 1);
     CHECK(boostmap_judge_feed_all(&judge, array, 0, &word) == BOOSTMAP_DONE && word == 0);
     CHECK(boostmap_judge_verdict(&judge, &verdict) == BOOSTMAP_DONE);
-    is_legal(verdict, 1, 0);
+    check_legal(verdict, 1, 0);
     CHECK(boostmap_judge_free(&judge) == BOOSTMAP_DONE);
     CHECK(boostmap_judge_free(&judge) == BOOSTMAP_EMPTY);
 }
@@ -80,31 +80,32 @@ static void statuses(void) {
 /* By hand: the rules of docs/JUDGE.md, each kept and broken. */
 static void by_hand(void) {
     boostmap_entry none = began(0, 1);
-    is_legal(judged(&none, 0), 0, 0);
-    is_legal(JUDGED(began(0, 1), asked(0, BOOSTMAP_PUT, 3, 30), did(0, 0, 0), committed(0, 1), began(1, 2),
-                    asked(1, BOOSTMAP_TAKE, 3, 0), did(1, 1, 30), committed(1, 2)), 2, 0);
-    is_legal(JUDGED(began(0, 1), asked(0, BOOSTMAP_GET, 3, 0), did(0, 0, 0), began(1, 2), busy(1, 3 + STRIPES, 0),
-                    of_kind(BOOSTMAP_ABORTED, 1)), 0, 1);
-    is_legal(JUDGED(began(0, 1), of_kind(BOOSTMAP_SAVED, 0), asked(0, BOOSTMAP_PUT, 3, 30), did(0, 0, 0),
-                    of_kind(BOOSTMAP_LEAVE, 0), of_kind(BOOSTMAP_UNDONE, 0), of_kind(BOOSTMAP_ABORTED, 0)), 0, 0);
-    breaks(JUDGED(began(0, 1), asked(0, BOOSTMAP_GET, 3, 0), did(0, 1, 30)), 2, 1);
-    breaks(JUDGED(began(0, 1), asked(0, BOOSTMAP_GET, 3, 0), did(0, 0, 0), began(1, 2), asked(1, BOOSTMAP_GET, 3, 0)), 4, 2);
-    breaks(JUDGED(began(0, 1), began(1, 2), busy(1, 3, 0)), 2, 2);
-    breaks(JUDGED(began(0, 2)), 0, 3);
-    breaks(JUDGED(began(0, 1), committed(0, 2), began(0, 2)), 1, 3);
+    check_legal(judge_all(&none, 0), 0, 0);
+    check_legal(JUDGED(began(0, 1), asked(0, BOOSTMAP_PUT, 3, 30), did(0, 0, 0), committed(0, 1), began(1, 2),
+                       asked(1, BOOSTMAP_TAKE, 3, 0), did(1, 1, 30), committed(1, 2)), 2, 0);
+    check_legal(JUDGED(began(0, 1), asked(0, BOOSTMAP_GET, 3, 0), did(0, 0, 0), began(1, 2), busy(1, 3 + STRIPES, 0),
+                       of_kind(BOOSTMAP_ABORTED, 1)), 0, 1);
+    check_legal(JUDGED(began(0, 1), of_kind(BOOSTMAP_SAVED, 0), asked(0, BOOSTMAP_PUT, 3, 30), did(0, 0, 0),
+                       of_kind(BOOSTMAP_LEAVE, 0), of_kind(BOOSTMAP_UNDONE, 0), of_kind(BOOSTMAP_ABORTED, 0)), 0, 0);
+    check_illegal(JUDGED(began(0, 1), asked(0, BOOSTMAP_GET, 3, 0), did(0, 1, 30)), 2, 1);
+    check_illegal(JUDGED(began(0, 1), asked(0, BOOSTMAP_GET, 3, 0), did(0, 0, 0), began(1, 2),
+                         asked(1, BOOSTMAP_GET, 3, 0)), 4, 2);
+    check_illegal(JUDGED(began(0, 1), began(1, 2), busy(1, 3, 0)), 2, 2);
+    check_illegal(JUDGED(began(0, 2)), 0, 3);
+    check_illegal(JUDGED(began(0, 1), committed(0, 2), began(0, 2)), 1, 3);
 }
 
 /* By the order of commits: two callers may read a key at the same time, and a stale reply is found at
  * its commit. */
 static void by_commits(void) {
     rule = BOOSTMAP_BY_COMMITS;
-    is_legal(JUDGED(began(0, 1), began(1, 2), asked(0, BOOSTMAP_GET, 3, 0), asked(1, BOOSTMAP_GET, 3, 0), did(0, 0, 0),
-                    did(1, 0, 0), committed(1, 1), committed(0, 2)), 2, 0);
-    breaks(JUDGED(began(0, 1), began(1, 2), asked(0, BOOSTMAP_GET, 3, 0), did(0, 0, 0), asked(1, BOOSTMAP_PUT, 3, 30),
-                  did(1, 0, 0), committed(1, 1), asked(0, BOOSTMAP_PUT, 4, 40), did(0, 0, 0), committed(0, 2)), 9, 1);
-    is_legal(JUDGED(began(0, 1), asked(0, BOOSTMAP_GET, 3, 0), did(0, 1, 99), of_kind(BOOSTMAP_LEAVE, 0),
-                    of_kind(BOOSTMAP_ABORTED, 0)), 0, 0);
-    breaks(JUDGED(began(0, 1), committed(0, 2)), 1, 3);
+    check_legal(JUDGED(began(0, 1), began(1, 2), asked(0, BOOSTMAP_GET, 3, 0), asked(1, BOOSTMAP_GET, 3, 0), did(0, 0, 0),
+                       did(1, 0, 0), committed(1, 1), committed(0, 2)), 2, 0);
+    check_illegal(JUDGED(began(0, 1), began(1, 2), asked(0, BOOSTMAP_GET, 3, 0), did(0, 0, 0), asked(1, BOOSTMAP_PUT, 3, 30),
+                         did(1, 0, 0), committed(1, 1), asked(0, BOOSTMAP_PUT, 4, 40), did(0, 0, 0), committed(0, 2)), 9, 1);
+    check_legal(JUDGED(began(0, 1), asked(0, BOOSTMAP_GET, 3, 0), did(0, 1, 99), of_kind(BOOSTMAP_LEAVE, 0),
+                       of_kind(BOOSTMAP_ABORTED, 0)), 0, 0);
+    check_illegal(JUDGED(began(0, 1), committed(0, 2)), 1, 3);
     rule = BOOSTMAP_HOLDER_NOW;
 }
 
@@ -120,7 +121,7 @@ static void a_million(uint32_t by_rule) {
         for (int i = 0; i < 4; i++) CHECK(boostmap_judge_feed(&judge, &entries[i]) == BOOSTMAP_DONE);
     }
     CHECK(boostmap_judge_verdict(&judge, &verdict) == BOOSTMAP_DONE);
-    is_legal(verdict, TRANSACTIONS, 0);
+    check_legal(verdict, TRANSACTIONS, 0);
     CHECK(boostmap_judge_free(&judge) == BOOSTMAP_DONE);
 }
 

@@ -133,7 +133,7 @@ static void striped_round_trip(void) {
 
 /* Feeds a judge a transaction of each of 64 callers, entry by entry or as an array. What is refused is
  * fed again. */
-static void judged(uint32_t rule) {
+static void judge_all(uint32_t rule) {
     enum { CALLERS = 64, ENTRIES = 6 };
     boostmap_judge judge = BOOSTMAP_INIT;
     boostmap_verdict verdict;
@@ -164,11 +164,11 @@ static void judged(uint32_t rule) {
     CHECK(boostmap_judge_free(&judge) == BOOSTMAP_DONE);
 }
 
-static void judged_by_locks(void) { judged(BOOSTMAP_HOLDER_NOW); }
-static void judged_by_commits(void) { judged(BOOSTMAP_BY_COMMITS); }
+static void judge_by_locks(void) { judge_all(BOOSTMAP_HOLDER_NOW); }
+static void judge_by_commits(void) { judge_all(BOOSTMAP_BY_COMMITS); }
 
 /* Runs a round with each allocation refused in turn. A status tells each refusal, and nothing leaks. */
-static void each_refused(const char *name, void (*round)(void)) {
+static void refuse_each(const char *name, void (*round)(void)) {
     long nth = 0;
     do {
         long live_before = live;
@@ -183,9 +183,9 @@ static void each_refused(const char *name, void (*round)(void)) {
 }
 
 int main(void) {
-    each_refused("a map", round_trip);
-    each_refused("a striped map", striped_round_trip);
-    each_refused("a judge by locks", judged_by_locks);
-    each_refused("a judge by commits", judged_by_commits);
+    refuse_each("a map", round_trip);
+    refuse_each("a striped map", striped_round_trip);
+    refuse_each("a judge by locks", judge_by_locks);
+    refuse_each("a judge by commits", judge_by_commits);
     return 0;
 }

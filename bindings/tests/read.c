@@ -8,7 +8,7 @@ static const boostmap_pair UNTOUCHED = {77, 77};
 
 static int is(boostmap_pair pair, uint64_t key, uint64_t value) { return pair.key == key && pair.value == value; }
 
-static void reads(void) {
+static void read_all(void) {
     /* The order of reversed bits of 0 to 4: 000, 001, 010, 011, 100 read backwards. */
     static const uint64_t order[KEYS] = {0, 4, 2, 1, 3};
     boostmap m = BOOSTMAP_INIT;
@@ -31,6 +31,6 @@ static void reads(void) {
 }
 
 int main(void) {
-    reads();
+    read_all();
     return 0;
 }

@@ -17,7 +17,7 @@ static struct caller {
 } callers[CALLERS];
 static uint64_t commits, forged_call = UINT64_MAX;
 
-static uint64_t drawn(uint64_t below) {
+static uint64_t draw(uint64_t below) {
     static uint64_t seed = 7;
     seed = seed * 6364136223846793005u + 1442695040888963407u;
     return (seed >> 33) % below;
@@ -34,7 +34,7 @@ static void note_undone(uint64_t caller, uint64_t level) {
     for (; c->changes > c->below[level]; c->changes--) note_kind(BOOSTMAP_UNDONE, caller, 0);
 }
 
-static void begins(uint64_t caller) {
+static void begin_txn(uint64_t caller) {
     uint64_t number;
     CHECK(boostmap_begin(&map, caller, &number) == BOOSTMAP_DONE);
     note_kind(BOOSTMAP_BEGAN, caller, number);
@@ -42,7 +42,7 @@ static void begins(uint64_t caller) {
     callers[caller].is_open = 1;
 }
 
-static void aborts(uint64_t caller) {
+static void abort_txn(uint64_t caller) {
     uint64_t w;
     CHECK(boostmap_abort(&map, caller, &w) == BOOSTMAP_DONE);
     if (!callers[caller].is_leaving) note_kind(BOOSTMAP_LEAVE, caller, 0);
@@ -51,10 +51,10 @@ static void aborts(uint64_t caller) {
     callers[caller].is_open = 0;
 }
 
-static void ends(uint64_t caller) {
+static void end_txn(uint64_t caller) {
     uint64_t number;
-    if (callers[caller].is_leaving || drawn(8) == 0) {
-        aborts(caller);
+    if (callers[caller].is_leaving || draw(8) == 0) {
+        abort_txn(caller);
         return;
     }
     CHECK(boostmap_commit(&map, caller, &number) == BOOSTMAP_DONE && number == ++commits);
@@ -62,7 +62,7 @@ static void ends(uint64_t caller) {
     callers[caller].is_open = 0;
 }
 
-static void saves(uint64_t caller) {
+static void save(uint64_t caller) {
     struct caller *c = &callers[caller];
     uint64_t level;
     if (c->levels == LEVELS) return;
@@ -71,9 +71,9 @@ static void saves(uint64_t caller) {
     note_kind(BOOSTMAP_SAVED, caller, 0);
 }
 
-static void goes_back(uint64_t caller) {
+static void go_back(uint64_t caller) {
     struct caller *c = &callers[caller];
-    uint64_t level = drawn(c->levels + 1), w;
+    uint64_t level = draw(c->levels + 1), w;
     CHECK(boostmap_back(&map, caller, level, &w) == BOOSTMAP_DONE && w == level);
     note((boostmap_entry){.kind = BOOSTMAP_LEAVE, .caller = caller, .number = level, .has = 1});
     note_undone(caller, level);
@@ -82,10 +82,10 @@ static void goes_back(uint64_t caller) {
 }
 
 /* One operation: the entry that asks for it, its answer, and whether it is a change. */
-static void operates(uint64_t caller, uint64_t call) {
+static void operate(uint64_t caller, uint64_t call) {
     struct caller *c = &callers[caller];
-    boostmap_entry e = {.kind = BOOSTMAP_ASKED, .operation = BOOSTMAP_PUT + (uint32_t)drawn(4), .caller = caller,
-                        .key = drawn(KEYS), .value = drawn(4), .expected = drawn(4), .has = drawn(2)};
+    boostmap_entry e = {.kind = BOOSTMAP_ASKED, .operation = BOOSTMAP_PUT + (uint32_t)draw(4), .caller = caller,
+                        .key = draw(KEYS), .value = draw(4), .expected = draw(4), .has = draw(2)};
     boostmap_status status;
     uint64_t w = 0;
     switch (e.operation) {
@@ -112,22 +112,22 @@ static void operates(uint64_t caller, uint64_t call) {
         c->changes++;
 }
 
-static boostmap_verdict runs(void) {
+static boostmap_verdict run(void) {
     boostmap_verdict verdict;
     memset(callers, 0, sizeof callers);
     commits = 0;
     CHECK(boostmap_new(&map, CALLERS, STRIPES, 64) == BOOSTMAP_DONE);
     CHECK(boostmap_judge_new(&judge, STRIPES, BOOSTMAP_HOLDER_NOW) == BOOSTMAP_DONE);
     for (uint64_t call = 0; call < CALLS; call++) {
-        uint64_t caller = drawn(CALLERS), kind = drawn(16);
-        if (!callers[caller].is_open) begins(caller);
-        else if (callers[caller].is_leaving || kind == 0) ends(caller);
-        else if (kind == 1) saves(caller);
-        else if (kind == 2) goes_back(caller);
-        else operates(caller, call);
+        uint64_t caller = draw(CALLERS), kind = draw(16);
+        if (!callers[caller].is_open) begin_txn(caller);
+        else if (callers[caller].is_leaving || kind == 0) end_txn(caller);
+        else if (kind == 1) save(caller);
+        else if (kind == 2) go_back(caller);
+        else operate(caller, call);
     }
     for (uint64_t caller = 0; caller < CALLERS; caller++)
-        if (callers[caller].is_open) aborts(caller);
+        if (callers[caller].is_open) abort_txn(caller);
     CHECK(boostmap_judge_verdict(&judge, &verdict) == BOOSTMAP_DONE);
     CHECK(boostmap_judge_free(&judge) == BOOSTMAP_DONE);
     CHECK(boostmap_free(&map) == BOOSTMAP_DONE);
@@ -135,11 +135,11 @@ static boostmap_verdict runs(void) {
 }
 
 int main(void) {
-    boostmap_verdict verdict = runs();
+    boostmap_verdict verdict = run();
     CHECK(verdict.is_legal && verdict.commits == commits && verdict.running == 0);
     CHECK(commits > 1000);
     /* Forges the reply of one call, the first from the middle on that replies with a value. */
-    for (forged_call = CALLS / 2; (verdict = runs()).is_legal; forged_call++) CHECK(forged_call < CALLS / 2 + 100);
+    for (forged_call = CALLS / 2; (verdict = run()).is_legal; forged_call++) CHECK(forged_call < CALLS / 2 + 100);
     CHECK(verdict.rule == 1);
     return 0;
 }

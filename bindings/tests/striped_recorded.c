@@ -41,7 +41,7 @@ static atomic_ullong clock_of_all;
 
 static uint64_t stamp(void) { return atomic_fetch_add(&clock_of_all, 1) + 1; }
 
-static uint64_t drawn(caller *c, uint64_t below) {
+static uint64_t draw(caller *c, uint64_t below) {
     c->seed = c->seed * 6364136223846793005u + 1442695040888963407u;
     return (c->seed >> 33) % below;
 }
@@ -60,21 +60,21 @@ static void note_undone(caller *c, uint64_t at, uint64_t level) {
     for (; c->changes > c->below[level]; c->changes--) note_kind(c, at, BOOSTMAP_UNDONE, 0, 0);
 }
 
-static void begins(caller *c) {
+static void begin_txn(caller *c) {
     note_kind(c, stamp(), BOOSTMAP_BEGAN, 0, 0);
     CHECK(boostmap_striped_begin(&c->map) == BOOSTMAP_DONE);
     c->changes = c->levels = 0;
     c->is_open = 1;
 }
 
-static void commits(caller *c) {
+static void commit_txn(caller *c) {
     uint64_t at = stamp(), place;
     CHECK(boostmap_striped_commit(&c->map, &place) == BOOSTMAP_DONE);
     note_kind(c, at, BOOSTMAP_COMMITTED, 0, place);
     c->is_open = 0;
 }
 
-static void aborts(caller *c) {
+static void abort_txn(caller *c) {
     uint64_t at = stamp();
     CHECK(boostmap_striped_abort(&c->map) == BOOSTMAP_DONE);
     note_kind(c, at, BOOSTMAP_LEAVE, 0, 0);
@@ -83,7 +83,7 @@ static void aborts(caller *c) {
     c->is_open = 0;
 }
 
-static void saves(caller *c) {
+static void save(caller *c) {
     uint64_t level;
     if (c->levels == LEVELS) return;
     CHECK(boostmap_striped_save(&c->map, &level) == BOOSTMAP_DONE && level == ++c->levels);
@@ -91,8 +91,8 @@ static void saves(caller *c) {
     note_kind(c, stamp(), BOOSTMAP_SAVED, 0, 0);
 }
 
-static void goes_back(caller *c) {
-    uint64_t level = drawn(c, c->levels + 1), at = stamp();
+static void go_back(caller *c) {
+    uint64_t level = draw(c, c->levels + 1), at = stamp();
     CHECK(boostmap_striped_back(&c->map, level) == BOOSTMAP_DONE);
     note_kind(c, at, BOOSTMAP_LEAVE, 1, level);
     note_undone(c, at, level);
@@ -100,7 +100,7 @@ static void goes_back(caller *c) {
     c->levels = level;
 }
 
-static boostmap_status asks(caller *c, const boostmap_entry *e, uint64_t *w) {
+static boostmap_status ask(caller *c, const boostmap_entry *e, uint64_t *w) {
     switch (e->operation) {
     case BOOSTMAP_PUT: return boostmap_striped_put(&c->map, e->key, e->value, w);
     case BOOSTMAP_TAKE: return boostmap_striped_take(&c->map, e->key, w);
@@ -111,11 +111,11 @@ static boostmap_status asks(caller *c, const boostmap_entry *e, uint64_t *w) {
     }
 }
 
-static void operates(caller *c) {
-    boostmap_entry e = {.kind = BOOSTMAP_ASKED, .operation = BOOSTMAP_PUT + (uint32_t)drawn(c, 4), .key = drawn(c, KEYS),
-                        .value = drawn(c, 4), .expected = drawn(c, 4), .has = drawn(c, 2)};
+static void operate(caller *c) {
+    boostmap_entry e = {.kind = BOOSTMAP_ASKED, .operation = BOOSTMAP_PUT + (uint32_t)draw(c, 4), .key = draw(c, KEYS),
+                        .value = draw(c, 4), .expected = draw(c, 4), .has = draw(c, 2)};
     uint64_t w = 0, before = stamp();
-    boostmap_status status = asks(c, &e, &w);
+    boostmap_status status = ask(c, &e, &w);
     if (status == BOOSTMAP_BUSY) {
         e.kind = BOOSTMAP_FOUND_BUSY;
         e.number = w;
@@ -135,18 +135,18 @@ static void operates(caller *c) {
         c->changes++;
 }
 
-static void *runs(void *arg) {
+static void *make_calls(void *arg) {
     caller *c = arg;
     for (int call = 0; call < CALLS; call++) {
-        uint64_t kind = drawn(c, 16);
-        if (!c->is_open) begins(c);
-        else if (kind == 0) aborts(c);
-        else if (kind < 3) commits(c);
-        else if (kind == 3) saves(c);
-        else if (kind == 4) goes_back(c);
-        else operates(c);
+        uint64_t kind = draw(c, 16);
+        if (!c->is_open) begin_txn(c);
+        else if (kind == 0) abort_txn(c);
+        else if (kind < 3) commit_txn(c);
+        else if (kind == 3) save(c);
+        else if (kind == 4) go_back(c);
+        else operate(c);
     }
-    if (c->is_open) aborts(c);
+    if (c->is_open) abort_txn(c);
     return 0;
 }
 
@@ -162,7 +162,7 @@ static int by_stamp(const void *a, const void *b) {
 }
 
 /* Merges all entries into one order, and returns their number. */
-static size_t merged(stamped *all, int threads) {
+static size_t merge(stamped *all, int threads) {
     size_t count = 0, placed = 0, begun = 0;
     for (int i = 0; i < threads; i++) {
         memcpy(all + count, callers[i].entries, callers[i].count * sizeof *all);
@@ -187,7 +187,7 @@ static size_t merged(stamped *all, int threads) {
     return count;
 }
 
-static boostmap_verdict judged(const stamped *all, size_t count) {
+static boostmap_verdict judge_all(const stamped *all, size_t count) {
     boostmap_judge judge = BOOSTMAP_INIT;
     boostmap_verdict verdict;
     CHECK(boostmap_judge_new(&judge, STRIPES, BOOSTMAP_HOLDER_BEGUN) == BOOSTMAP_DONE);
@@ -208,26 +208,26 @@ int main(int argc, char **argv) {
         c->seed = (uint64_t)i + 1;
         CHECK((i ? boostmap_striped_join(&callers[0].map, &c->map, &c->number)
                  : boostmap_striped_open(&c->map, (uint64_t)threads, STRIPES, &c->number)) == BOOSTMAP_DONE);
-        begins(c);
-        commits(c);
+        begin_txn(c);
+        commit_txn(c);
     }
-    for (int i = 0; i < threads; i++) CHECK(!pthread_create(&callers[i].thread, 0, runs, &callers[i]));
+    for (int i = 0; i < threads; i++) CHECK(!pthread_create(&callers[i].thread, 0, make_calls, &callers[i]));
     for (int i = 0; i < threads; i++) CHECK(!pthread_join(callers[i].thread, 0));
     stamped *all = malloc((size_t)threads * ROOM * sizeof *all);
     CHECK(all);
-    size_t count = merged(all, threads), forged = count / 2;
+    size_t count = merge(all, threads), forged = count / 2;
     for (size_t i = 0; i < count; i++) {
         busy += all[i].entry.kind == BOOSTMAP_FOUND_BUSY;
         committed += all[i].entry.kind == BOOSTMAP_COMMITTED;
     }
-    boostmap_verdict verdict = judged(all, count);
+    boostmap_verdict verdict = judge_all(all, count);
     printf("%d threads, %zu entries, %llu committed, %llu busy\n", threads, count, (unsigned long long)committed,
            (unsigned long long)busy);
     CHECK(verdict.is_legal && verdict.commits == committed && verdict.running == 0);
     /* A forged reply is found at once. */
     while (all[forged].entry.kind != BOOSTMAP_DID || !all[forged].entry.has) forged++;
     all[forged].entry.value++;
-    verdict = judged(all, count);
+    verdict = judge_all(all, count);
     CHECK(!verdict.is_legal && verdict.entry == forged && verdict.rule == 1);
     for (int i = 0; i < threads; i++) {
         CHECK(boostmap_striped_free(&callers[i].map) == BOOSTMAP_DONE);

@@ -16,7 +16,7 @@ static uint64_t owner_number;
 static pthread_barrier_t owner_holds;
 
 /* Moves one unit, in an open transaction. Returns 2 if a stripe was busy, 1 if there is no unit. */
-static int moves(boostmap_caller *c, uint64_t from, uint64_t to) {
+static int move_unit(boostmap_caller *c, uint64_t from, uint64_t to) {
     uint64_t a, b, w;
     if (boostmap_striped_get(c, from, &a) == BOOSTMAP_BUSY) return 2;
     if (a == 0) return 1;
@@ -26,12 +26,12 @@ static int moves(boostmap_caller *c, uint64_t from, uint64_t to) {
     return 0;
 }
 
-static void transfers(struct mover *m, uint64_t round) {
+static void transfer(struct mover *m, uint64_t round) {
     m->seed = m->seed * 6364136223846793005u + 1442695040888963407u;
     uint64_t from = (m->seed >> 33) % KEYS, to = (m->seed >> 50) % KEYS, place;
     if (from == to) return;
     CHECK(boostmap_striped_begin(&m->caller) == BOOSTMAP_DONE);
-    int moved = moves(&m->caller, from, to);
+    int moved = move_unit(&m->caller, from, to);
     if (moved == 2) {
         m->busy++;
         CHECK(boostmap_striped_abort(&m->caller) == BOOSTMAP_NOT_OPEN);
@@ -44,7 +44,7 @@ static void transfers(struct mover *m, uint64_t round) {
     }
 }
 
-static void *runs(void *arg) {
+static void *make_transfers(void *arg) {
     struct mover *m = arg;
     uint64_t w;
     /* The owner holds key 0 until every thread has found it. */
@@ -52,7 +52,7 @@ static void *runs(void *arg) {
     CHECK(boostmap_striped_put(&m->caller, 0, 0, &w) == BOOSTMAP_BUSY && w == owner_number);
     pthread_barrier_wait(&owner_holds);
     pthread_barrier_wait(&owner_holds);
-    for (uint64_t i = 0; i < m->rounds; i++) transfers(m, i);
+    for (uint64_t i = 0; i < m->rounds; i++) transfer(m, i);
     do CHECK(boostmap_striped_begin(&m->caller) == BOOSTMAP_DONE);
     while (boostmap_striped_put(&m->caller, m->seed % KEYS, 7, &w) == BOOSTMAP_BUSY);
     CHECK(boostmap_striped_free(&m->caller) == BOOSTMAP_DONE);
@@ -72,7 +72,7 @@ int main(int argc, char **argv) {
         movers[i].seed = i + 1;
         movers[i].rounds = rounds;
         CHECK(boostmap_striped_join(&owner, &movers[i].caller, &w) == BOOSTMAP_DONE && w == threads - i);
-        CHECK(!pthread_create(&movers[i].thread, 0, runs, &movers[i]));
+        CHECK(!pthread_create(&movers[i].thread, 0, make_transfers, &movers[i]));
     }
     pthread_barrier_wait(&owner_holds);
     CHECK(boostmap_striped_commit(&owner, &place) == BOOSTMAP_DONE && place == 1);
