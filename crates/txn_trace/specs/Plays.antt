@@ -6,7 +6,7 @@ use Rattle.txn_trace.specs.declared.action.Action.{Action}
 use Rattle.txn_trace.specs.declared.action.Action.TheVariants as actions
 use Rattle.txn_trace.specs.declared.entry.Entry.{Entry}
 use Rattle.txn_trace.specs.declared.entry.Entry.TheVariants.{Began, Asked, Did, Saved, Leave, Undone, Returned, Committed}
-use Rattle.txn_trace.specs.History.{caller_of, is_began, is_commit, ends_in, of, txns_of}
+use Rattle.txn_trace.specs.History.{caller_of, is_began, is_commit, of, txns_of}
 
 -- Whether an entry tells that a change was taken back.
 abbrev pub is_undone : Entry → Bool
@@ -79,19 +79,3 @@ part_after (part ∷ parts) e =
 -- The entries of one caller in parts, one for each transaction, the last one first.
 abbrev pub parts_of : List Entry → List (List Entry)
 parts_of es = fold part_after [] es
-
--- The entries are those of a committed transaction that plays the caller's script with this number.
-pub record PlaysPart (callers : ℕ) (scripts : List (List Action)) (c n : ℕ)
-    (part : List Entry) : Type 0 where
-  pub script : List Action
-  pub is : IsScriptOf callers scripts c n script
-  pub plays : IsPlayed script (without_undone part)
-
--- Each committed one of a caller's transactions, the last one first, plays one of the caller's
--- scripts, whose number is below `high` and above those of the transactions before it.
-abbrev pub HavePlayed : ℕ → List (List Action) → ℕ → ℕ → List (List Entry) → Type 0
-HavePlayed callers scripts c high [] = Unit {0}
-HavePlayed callers scripts c high (part ∷ parts) =
-    (n : ℕ) × (n ≤ high)
-    × (ends_in is_commit part ≡ true → (n < high) × PlaysPart callers scripts c n part)
-    × HavePlayed callers scripts c n parts

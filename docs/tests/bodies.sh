@@ -1,0 +1,20 @@
+#!/usr/bin/env bash
+# Tries each wrong body by itself. A file of must-fail/ may hold several, each of another function,
+# so that they share the time in which the crate is read; the gate then requires only that the file
+# as a whole is refused. Here each has a file of its own, in a copy of the repository, under the
+# name that the line "# NAME" above it gives. By hand: it takes about three times as long as the gate's.
+# Usage: docs/tests/bodies.sh [CRATE..]; without one all crates
+set -euo pipefail
+root=$(cd "$(dirname "${BASH_SOURCE[0]}")/../.." && pwd)
+work=$(mktemp -d)
+trap 'rm -rf "$work"' EXIT
+cp -r "$root/crates" "$root/crates.txt" "$root/HANDLES" "$work"
+cd "$work"
+for file in crates/*/must-fail/*.edit; do
+  grep -q '^# [a-z0-9_]*$' "$file" || continue
+  awk -v folder="${file%/*}" '
+    /^# [a-z0-9_]*$/ { out = folder "/" $2 ".edit"; next }
+    NF && out { print >out }' "$file"
+  rm -- "$file"
+done
+rt must-fail "$@"
