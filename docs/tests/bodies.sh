@@ -1,9 +1,9 @@
 #!/usr/bin/env bash
-# Tries each wrong body by itself. A file of must-fail/ may hold several, each of another function,
-# so that they share the time in which the crate is read; the gate then requires only that the file
-# as a whole is refused. Here each has a file of its own, in a copy of the repository, under the
-# name that the line "# NAME" above it gives. By hand: it takes about three times as long as the gate's.
-# Usage: docs/tests/bodies.sh [CRATE..]; without one all crates
+# Tries each wrong body by itself. A file of must-fail/ may hold several, each of another function, so
+# that they share the time in which the crate is read; the gate then requires only that the file as a
+# whole is refused. Here each body has a separate file, in a copy of the repository, with the name from
+# the line "# NAME" above it. Run it by hand: it takes about three times as long as in the gate.
+# Usage: docs/tests/bodies.sh [CRATE..]; by default it tries those of all crates
 set -euo pipefail
 root=$(cd "$(dirname "${BASH_SOURCE[0]}")/../.." && pwd)
 work=$(mktemp -d)

@@ -1,6 +1,6 @@
 #!/bin/sh
-# Prints each link of the documents that leads to no file, or to no heading of one, and fails if there
-# is any.
+# Prints each link of the documents that leads to no file, or to no heading of one, and each wrong body
+# that docs/PROMISES.md names and its crate does not have. Fails if there is any.
 cd "$(dirname "$0")/../.." || exit 1
 
 # The headings of a page, in the form in which links name them.
@@ -8,19 +8,35 @@ headings() {
     sed -n 's/^##* //p' "$1" | tr '[:upper:]' '[:lower:]' | LC_ALL=C sed 's/[^a-z0-9_ -]//g; s/ /-/g'
 }
 
-missing=0
-for document in *.md docs/*.md bindings/*.md; do
-    folder=$(dirname "$document")
-    for link in $(grep -o '](\([^):]*\))' "$document" | sed 's/](//; s/)$//'); do
-        file=${link%%#*}
-        page=$folder/$file
-        [ -n "$file" ] || page=$document
-        heading=
-        case $link in *'#'*) heading=${link#*#} ;; esac
-        if [ ! -e "$page" ] || { [ -n "$heading" ] && ! headings "$page" | grep -qxF -e "$heading"; }; then
-            echo "$document: $link"
-            missing=1
-        fi
+links() {
+    for document in *.md docs/*.md bindings/*.md; do
+        folder=$(dirname "$document")
+        grep -o '](\([^):]*\))' "$document" | sed 's/](//; s/)$//' | while read -r link; do
+            file=${link%%#*}
+            page=$folder/$file
+            [ -n "$file" ] || page=$document
+            heading=
+            case $link in *'#'*) heading=${link#*#} ;; esac
+            if [ ! -e "$page" ]; then
+                echo "$document: $link"
+            elif [ -n "$heading" ] && ! headings "$page" | grep -qxF -e "$heading"; then
+                echo "$document: $link"
+            fi
+        done
     done
-done
-exit $missing
+}
+
+# A file of must-fail/ is one wrong body, or has several, each below a line "# NAME".
+bodies() {
+    grep '^- Refused: ' docs/PROMISES.md | tr ';' '\n' | while read -r part; do
+        folder=$(echo "$part" | sed -n 's|.*(\.\./\(crates/[a-z_]*/must-fail\)).*|\1|p')
+        for name in $(echo "$part" | grep -o '`[a-z0-9_]*`' | tr -d '`'); do
+            if [ ! -e "$folder/$name.edit" ] && ! grep -qxF -e "# $name" "$folder"/*.edit; then
+                echo "docs/PROMISES.md: $name is not in $folder"
+            fi
+        done
+    done
+}
+
+missing=$(links; bodies)
+[ -z "$missing" ] || { echo "$missing"; exit 1; }
