@@ -1,8 +1,11 @@
 //! What the part `striped` of crates/bench times, in plain Rust: with a mutex a stripe over a `HashMap` and an undo log (`mutexes`),
-//! where a stripe is tried and not waited for, and with one mutex over one `HashMap` (`one`). The same transactions are drawn.
-//! Usage: striped mutexes|one THREADS KEYS TRANSACTIONS STRIPES
+//! where a stripe is tried and not waited for; the same with a count of the commits, which numbers each one, as the map does
+//! (`numbered`); and with one mutex over one `HashMap` (`one`). The same transactions are drawn.
+//! Usage: striped mutexes|numbered|one THREADS KEYS TRANSACTIONS STRIPES
 
 use std::collections::HashMap;
+use std::hint::black_box;
+use std::sync::atomic::{AtomicU64, Ordering};
 use std::sync::{Mutex, MutexGuard, TryLockError};
 use std::thread;
 use std::time::Instant;
@@ -79,7 +82,22 @@ trait Map: Sync {
 #[repr(align(64))]
 struct Stripe(Mutex<HashMap<u64, u64>>);
 
-struct Mutexes(Vec<Stripe>);
+/// A count in a line of cache of its own.
+#[repr(align(64))]
+struct Count(AtomicU64);
+
+/// The stripes, and the number of commits, if they are numbered.
+struct Mutexes {
+    stripes: Vec<Stripe>,
+    commits: Option<Count>,
+}
+
+impl Mutexes {
+    fn new(stripes: u64, commits: Option<Count>) -> Mutexes {
+        let stripes = (0..stripes).map(|_| Stripe(Mutex::new(HashMap::new()))).collect();
+        Mutexes { stripes, commits }
+    }
+}
 
 /// The stripes that a transaction holds, and what it takes back: the place of a stripe, a key and the value before.
 #[derive(Default)]
@@ -107,10 +125,10 @@ impl Map for Mutexes {
     fn transact<'a>(&'a self, held: &mut Held<'a>, ops: &[Op], aborts: bool) -> Option<u64> {
         let mut sum = 0u64;
         for op in ops {
-            let stripe = (op.key() % self.0.len() as u64) as usize;
+            let stripe = (op.key() % self.stripes.len() as u64) as usize;
             let place = match held.guards.iter().position(|guard| guard.0 == stripe) {
                 Some(place) => place,
-                None => match self.0[stripe].0.try_lock() {
+                None => match self.stripes[stripe].0.try_lock() {
                     Ok(guard) => {
                         held.guards.push((stripe, guard));
                         held.guards.len() - 1
@@ -131,6 +149,9 @@ impl Map for Mutexes {
         if aborts {
             held.abort();
         } else {
+            if let Some(Count(commits)) = &self.commits {
+                black_box(commits.fetch_add(1, Ordering::SeqCst));
+            }
             held.log.clear();
             held.guards.clear();
         }
@@ -239,11 +260,12 @@ fn main() {
     let words: Vec<String> = std::env::args().skip(1).collect();
     let [threads, keys, transactions, stripes] = [1, 2, 3, 4].map(|place: usize| words[place].parse::<u64>().unwrap());
     match words[0].as_str() {
-        "mutexes" => {
-            let stripes = (0..stripes).map(|_| Stripe(Mutex::new(HashMap::new()))).collect();
-            time("mutexes", &Mutexes(stripes), threads, keys, transactions);
+        "mutexes" => time("mutexes", &Mutexes::new(stripes, None), threads, keys, transactions),
+        "numbered" => {
+            let commits = Some(Count(AtomicU64::new(0)));
+            time("numbered", &Mutexes::new(stripes, commits), threads, keys, transactions);
         }
         "one" => time("one", &One(Mutex::new(HashMap::new())), threads, keys, transactions),
-        _ => panic!("mutexes or one"),
+        _ => panic!("mutexes, numbered or one"),
     }
 }
