@@ -7,6 +7,7 @@
 
 ghost use Rattle.std.specs.Prelude.{◌≡◌, ◌≢◌, false, IfErr, IfOk, OnErr};
 ghost use Rattle.striped_map.specs.Callers.{IsSince};
+ghost use Rattle.striped_map.specs.Keeps.{Keeps};
 ghost use Rattle.accounts.specs.Transfers.{GivesUp, HasTransferred, HasWorked};
 
 use striped_map::{Caller, Stop, Transaction};
@@ -36,8 +37,7 @@ pub fn transfer(caller: &mut Caller, tries: u64, from: u64, to: u64, sum: u64) -
     let (moved, _place) = caller.transact(
         tries,
         |t: &mut Transaction<'_>| -> Result<bool, Stop>
-            ensures same_reference { t.new.me.ghost_name ≡ t.old.me.ghost_name }
-            ensures before { t.new.before ≡ t.old.before }
+            ensures keeps { Keeps t.old t.new }
             ensures ok { IfOk result (λ moved.
                 HasWorked from to sum moved t.old.me.now t.new.me.now) }
         { move_sum(t, from, to, sum) },
@@ -46,10 +46,9 @@ pub fn transfer(caller: &mut Caller, tries: u64, from: u64, to: u64, sum: u64) -
 }
 
 /// Reads both accounts, and writes both if the sum can go over.
-#[tactic(auto, using(crate::proofs::Adding::moved, crate::proofs::Adding::not_moved))]
+#[tactic(auto, using(striped_map::proofs::Within::keeps_on, striped_map::proofs::Within::keeps_three, striped_map::proofs::Within::keeps_four))]
 fn move_sum(t: &mut Transaction<'_>, from: u64, to: u64, sum: u64) -> Result<bool, Stop>
-    ensures same_reference { t.new.me.ghost_name ≡ t.old.me.ghost_name }
-    ensures before { t.new.before ≡ t.old.before }
+    ensures keeps { Keeps t.old t.new }
     ensures ok { IfOk result (λ moved. HasWorked from to sum moved t.old.me.now t.new.me.now) }
 {
     let had = t.get(from)?.unwrap_or(0);

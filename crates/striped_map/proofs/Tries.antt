@@ -1,16 +1,13 @@
 -- A work that is tried several times.
-use Rattle.std.proofs.Common.{◌≡◌, ℕ, zero, suc, Bool, true, false, Result, refl, sym, subst, ◌∙◌}
+use Rattle.std.proofs.Common.{◌≡◌, ℕ, zero, suc, true, false, [], ◌∷◌, Result, sym, subst, ◌∙◌}
+use Rattle.txn_trace.specs.declared.entry.Entry.TheVariants.{Began}
 use Rattle.txn_trace.specs.declared.refusal.Refusal.TheVariants.{AlreadyOpen}
 use Rattle.striped_map.specs.declared.caller.Caller.{Caller}
 use Rattle.map_answers.specs.declared.stop.Stop.{Stop}
 use Rattle.map_answers.specs.declared.stop.Stop.TheVariants.{Busy, Refused}
-use Rattle.striped_map.specs.Attempts.{Fails, FailsBusy}
-use Rattle.striped_map.specs.Callers.{IsSince}
-use Rattle.striped_map.proofs.Within.{since_then}
-
-by_cases : {P : Type 0} (b : Bool) → (b ≡ true → P) → (b ≡ false → P) → P
-by_cases true on_true on_false = on_true refl
-by_cases false on_true on_false = on_false refl
+use Rattle.striped_map.specs.Attempts.{Fails, FailsBusy, IsWhy}
+use Rattle.striped_map.specs.Callers.{number, IsSince, IsStep, IsTakenBack, IsWithin}
+use Rattle.striped_map.proofs.Within.{by_cases, since_began, since_then, within_taken_back}
 
 -- A caller that is in a transaction was not tried.
 pub still : {T : Type 0} (work : Caller → Result T Stop → Caller → Type 0) (n : ℕ) (a b : Caller)
@@ -34,3 +31,18 @@ fails_as {T} {work} a b stop other same fails = subst (Fails work a b) same fail
 pub one_more : {T : Type 0} {work : Caller → Result T Stop → Caller → Type 0} (n m : ℕ) (me a b : Caller) (holder : ℕ)
     → suc n ≡ m → FailsBusy work n me a → Fails work a b (Busy holder) → FailsBusy work m me b
 one_more {T} {work} n m me a b holder once before fails = subst (λ (k : ℕ). FailsBusy work k me b) once (a, holder, before, fails)
+
+-- A try that failed: its transaction was taken back.
+pub failed_by : {T : Type 0} {work : Caller → Result T Stop → Caller → Type 0} (old begun left new : Caller) (txn : ℕ) (answer : Result T Stop) (stop : Stop)
+    → IsStep old (Began (number old) txn ∷ []) begun → work begun answer left → IsWithin begun left → IsWhy answer left stop → IsTakenBack left new → Fails work old new stop
+failed_by old begun left new txn answer stop began worked within why back = record {
+  txn = txn;
+  begun = begun;
+  began = began;
+  answer = answer;
+  left = left;
+  worked = worked;
+  why = why;
+  since = since_then old left new (since_then old begun left (since_began old begun txn began) within.since) (within_taken_back left new back).since;
+  closed = back.closed;
+}

@@ -1,7 +1,7 @@
 -- What the calls of a caller add to the history.
-use Rattle.std.specs.Prelude.{◌≡◌, ℕ, ◌-◌, ◌%◌, ◌^◌, List, [], ◌∷◌, length, Some, slice_get, true, false, Option}
+use Rattle.std.specs.Prelude.{◌≡◌, ℕ, ◌-◌, ◌%◌, ◌^◌, List, [], ◌∷◌, length, None, Some, slice_get, true, false, Option}
 use Rattle.txn_trace.specs.declared.entry.Entry.{Entry}
-use Rattle.txn_trace.specs.declared.entry.Entry.TheVariants.{Began, Committed, Busy as BusyEntry, Aborted}
+use Rattle.txn_trace.specs.declared.entry.Entry.TheVariants.{Began, Leave, Committed, Busy as BusyEntry, Aborted}
 use Rattle.txn_trace.specs.declared.op.Op.{Op}
 use Rattle.txn_trace.specs.declared.op.Op.TheVariants.{Get}
 use Rattle.txn_trace.specs.declared.refusal.Refusal.TheVariants.{NoMemory, NotOpen}
@@ -76,6 +76,15 @@ pub record IsWithin (a b : Caller) : Type 0 where
   pub since : IsSince a b
   pub begins : how_many is_began (own (number a) (seen b))
       ≡ how_many is_began (own (number a) (seen a))
+
+-- A transaction was taken back: the caller has none and holds no stripe. If a busy operation had
+-- ended it before, nothing changes.
+pub record IsTakenBack (a b : Caller) : Type 0 where
+  pub closed : b.is_open ≡ false
+  pub given : stripes_held b ≡ []
+  pub back : a.is_open ≡ true
+      → IsStep a (Leave (number a) None ∷ undoing (number a) (changes a) (Aborted (number a))) b
+  pub over : a.is_open ≡ false → b ≡ a
 
 -- One transaction that committed: it began from b, the work took it from t to u, and it ends in l.
 pub record IsRun (b t u l : Caller) (found : ℕ) : Type 0 where

@@ -1,65 +1,51 @@
-use Rattle.std.proofs.Common.{◌≡◌, ℕ, true, false, [], ◌∷◌, Result, Ok, Err, IfErr, OnErr, subst, sym, refl, ap, ◌∙◌}
+use Rattle.std.proofs.Common.{◌≡◌, ℕ, [], ◌∷◌, Ok, Err, rules, refl, sym, subst, ◌∙◌}
+use Rattle.std.proofs.lemmas.Result.{err_from_is_err_and}
 use Rattle.txn_trace.specs.declared.entry.Entry.TheVariants.{Committed}
-use Rattle.striped_map.specs.Callers.{number, IsStep, IsSince, IsWithin}
-use Rattle.striped_map.proofs.Within.{since_then, since_began}
+use Rattle.striped_map.specs.Callers.{number, IsStep, IsTakenBack}
+use Rattle.striped_map.proofs.Tries.{failed_by}
+use Rattle.striped_map.proofs.Within.{over_already}
 use Rattle.striped_map.proofs.caller.Caller.attempt.Goals as goal
 
-pub returns-in-Ok-commit-clause-ok : goal.returns-in-Ok-commit-clause-ok
-returns-in-Ok-commit-clause-ok g c =
-    let keeps = c.requires.keeps _ _ _ c.in-Ok.ensures in
+-- The work failed, and its transaction was dropped.
+pub returns-in_err-value-clause-err : goal.returns-in_err-value-clause-err
+returns-in_err-value-clause-err g c =
+    let kept = c.requires.keeps _ _ _ c.in_err-value.ensures in
     let step = c.in_ok-begin.ensures.ok in
-    let u = c.work-outcome.new.arg2 in
-    let within : IsWithin c.begin.new.self u.me.now = subst (λ b. IsWithin b u.me.now) (ap (λ s. s.value) keeps.1 ∙ c.of-before.ensures) u.within in
-    let done = c.in-Ok-commit.ensures.ok in (
+    let on = c.from_residual-in_err-value in
+    let p = err_from_is_err_and on.result on.ensures.1 in
+    let ends : c.self-1.given.0 ≡ c.drop-open.new.self.0 = search rules in
+    rw (p.1, p.2) (λ was. failed_by c.args.self.now c.begin.new.self c.work.new.arg2.me.now _ step.2 (Err c.in_err-value.field-0.0) _ step.3 (_, _, c.in_err-value.ensures, refl, refl) kept.goes_on refl
+    (subst (IsTakenBack c.work.new.arg2.me.now) (sym ends) c.drop-open.ensures))
+
+-- The work went on after a call that was busy, so there was no transaction to commit.
+pub returns-in_err-place-clause-err : goal.returns-in_err-place-clause-err
+returns-in_err-place-clause-err g c =
+    let kept = c.requires.keeps _ _ _ c.in_ok-value.ensures in
+    let step = c.in_ok-begin.ensures.ok in
+    let refused = c.in_err-place.ensures.err in
+    let on = c.from_residual-in_err-place in
+    let p = err_from_is_err_and on.result on.ensures.1 in
+    let ends : c.self-2-1.given.0 ≡ c.commit.new.self.0 = search rules in
+    rw (p.1, p.2) (λ was. failed_by c.args.self.now c.begin.new.self c.work.new.arg2.me.now _ step.2 (Ok c.in_ok-value.value) _ step.3 (_, _, c.in_ok-value.ensures, refl, refl) kept.goes_on (refused.0, refused.1)
+    (subst (IsTakenBack c.work.new.arg2.me.now) (sym ends) (over_already c.work.new.arg2.me.now c.commit.new.self.0 refused.1 refused.2)))
+
+pub returns-clause-ok : goal.returns-clause-ok
+returns-clause-ok g c =
+    let kept = c.requires.keeps _ _ _ c.in_ok-value.ensures in
+    let step = c.in_ok-begin.ensures.ok in
+    let done = c.in_ok-place.ensures.ok in
+    let left = c.work.new.arg2.me.now in
+    let ends : c.self-2-1.given.0 ≡ c.commit.new.self.0 = search rules in (
       _,
       _,
-      c.in-Ok.ensures,
+      c.in_ok-value.ensures,
       record {
         txn = step.2;
         began = step.3;
-        works = within;
+        works = kept.goes_on;
         place = done.1;
         found_is = done.2;
-        committed = subst (IsStep u.me.now (Committed (number c.args.self.now) done.1 ∷ [])) (sym (c.self-1.given.1 (sym keeps.0)))
-            (subst (λ (k : ℕ). IsStep u.me.now (Committed k done.1 ∷ []) c.commit.new.self) (within.since.number_is ∙ step.3.number_is) done.3);
+        committed = subst (IsStep left (Committed (number c.args.self.now) done.1 ∷ [])) (sym ends)
+            (subst (λ (k : ℕ). IsStep left (Committed k done.1 ∷ []) c.commit.new.self.0) (kept.goes_on.since.number_is ∙ step.3.number_is) done.3);
       },
     )
-
-pub returns-in-Err-commit-clause-err : goal.returns-in-Err-commit-clause-err
-returns-in-Err-commit-clause-err g c = λ was.
-    let keeps = c.requires.keeps _ _ _ c.in-Ok.ensures in
-    let step = c.in_ok-begin.ensures.ok in
-    let u = c.work-outcome.new.arg2 in
-    let within : IsWithin c.begin.new.self u.me.now = subst (λ b. IsWithin b u.me.now) (ap (λ s. s.value) keeps.1 ∙ c.of-before.ensures) u.within in
-    let refused = c.in-Err-commit.ensures.err in
-    let ends = sym (c.self-1.given.1 (sym keeps.0)) in
-    record {
-      txn = step.2;
-      begun = c.begin.new.self;
-      began = step.3;
-      answer = Ok c.in-Ok.value;
-      left = u.me.now;
-      worked = (_, _, c.in-Ok.ensures, refl, refl);
-      why = (refused.0, refused.1);
-      since = subst (IsSince c.args.self.now) ends (subst (IsSince c.args.self.now) (sym refused.2) (since_then _ _ _ (since_began c.args.self.now c.begin.new.self step.2 step.3) within.since));
-      closed = subst (λ s. s.is_open ≡ false) ends c.in-Err-commit.ensures.closed;
-    }
-
-pub returns-in-Err-clause-err : goal.returns-in-Err-clause-err
-returns-in-Err-clause-err g c = λ was.
-    let keeps = c.requires.keeps _ _ _ c.in-Err.ensures in
-    let step = c.in_ok-begin.ensures.ok in
-    let u = c.work-outcome.new.arg2 in
-    let within : IsWithin c.begin.new.self u.me.now = subst (λ b. IsWithin b u.me.now) (ap (λ s. s.value) keeps.1 ∙ c.of-before.ensures) u.within in
-    let ends = sym (c.self-in-Err-1.given.1 (sym keeps.0)) in
-    record {
-      txn = step.2;
-      begun = c.begin.new.self;
-      began = step.3;
-      answer = Err c.in-Err.stop;
-      left = u.me.now;
-      worked = (_, _, c.in-Err.ensures, refl, refl);
-      why = refl;
-      since = subst (IsSince c.args.self.now) ends (since_then _ _ _ (since_then _ _ _ (since_began c.args.self.now c.begin.new.self step.2 step.3) within.since) c.end.ensures.within.since);
-      closed = subst (λ s. s.is_open ≡ false) ends c.end.ensures.closed;
-    }

@@ -1,5 +1,6 @@
-use Rattle.striped_map.proofs.Within.{within_then, within_cut}
+use Rattle.std.proofs.Common.{refl}
+use Rattle.striped_map.proofs.Within.{keeps_by, within_cut}
 use Rattle.striped_map.proofs.transaction.Transaction.pairs.Goals as goal
 
-pub invariant_of-self : goal.invariant_of-self
-invariant_of-self c = let t = c.args.self.now in record { within = within_then _ _ _ t.within (within_cut t.me.now c.pairs.new.self c.pairs.result c.pairs.ensures.step c.pairs.ensures.err) }
+pub returns-clause-keeps : goal.returns-clause-keeps
+returns-clause-keeps c = keeps_by _ _ refl (within_cut c.args.self.now.me.now c.pairs.new.self c.pairs.result c.pairs.ensures.step c.pairs.ensures.err)

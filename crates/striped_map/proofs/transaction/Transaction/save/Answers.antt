@@ -1,9 +1,9 @@
-use Rattle.std.proofs.Common.{Result, Ok, Err, OnOk, OnErr, ℕ, [], ◌∷◌}
+use Rattle.std.proofs.Common.{Result, Ok, Err, OnOk, OnErr, ℕ, [], ◌∷◌, refl}
 use Rattle.txn_trace.specs.declared.entry.Entry.TheVariants.{Saved}
 use Rattle.striped_map.specs.declared.caller.Caller.{Caller}
 use Rattle.map_answers.specs.declared.stop.Stop.{Stop}
 use Rattle.striped_map.specs.Callers.{number, IsStep, IsWithin}
-use Rattle.striped_map.proofs.Within.{within_then, within_saved, within_none}
+use Rattle.striped_map.proofs.Within.{keeps_by, within_saved, within_none}
 use Rattle.striped_map.proofs.transaction.Transaction.save.Goals as goal
 
 within_save : (a b : Caller) (r : Result ℕ Stop) → OnOk r (IsStep a (Saved (number a) ∷ []) b) → OnErr r (IsStep a [] b) → IsWithin a b
@@ -14,5 +14,5 @@ split : (a b : Caller) (r : Result ℕ Stop) (P : Type 0) → OnErr r (P × IsSt
 split a b (Ok level) P h = tt
 split a b (Err stop) P h = h.1
 
-pub invariant_of-self : goal.invariant_of-self
-invariant_of-self c = let t = c.args.self.now in record { within = within_then _ _ _ t.within (within_save t.me.now c.save.new.self c.save.result c.save.ensures.ok (split t.me.now c.save.new.self c.save.result _ c.save.ensures.unchanged)) }
+pub returns-clause-keeps : goal.returns-clause-keeps
+returns-clause-keeps c = keeps_by _ _ refl (within_save c.args.self.now.me.now c.save.new.self c.save.result c.save.ensures.ok (split c.args.self.now.me.now c.save.new.self c.save.result _ c.save.ensures.unchanged))

@@ -1,0 +1,86 @@
+//! Work that is run in a transaction, and begun anew if another caller holds a stripe.
+ghost use Rattle.std.specs.Prelude.{◌≡◌, ℕ, ◌≤◌, true, false, Ok, IfOk, IfErr, OnOk, OnErr};
+ghost use Rattle.txn_trace.specs.declared.refusal.Refusal.TheVariants.{AlreadyOpen};
+ghost use Rattle.striped_map.specs.Attempts.{on_callers, Fails, FailsBusy};
+ghost use Rattle.striped_map.specs.declared.caller.Caller.{Caller};
+ghost use Rattle.striped_map.specs.Callers.{IsSince, IsRun};
+ghost use Rattle.striped_map.specs.Keeps.{Keeps};
+
+use crate::caller::Caller;
+use crate::transaction::Transaction;
+use map_answers::Stop;
+use std::thread;
+
+impl Caller {
+    /// Begins, runs the work, and commits; or aborts, by a drop.
+    fn attempt<T: Drop, F: Fn(&mut Transaction<'_>) -> Result<T, Stop>>(
+        &mut self,
+        work: &F,
+    ) -> Result<(T, u64), Stop>
+        requires callable { F.IsAlwaysCallable work.now }
+        requires keeps { (t : _) (r : _) (u : _) → F.post work.now t r u → Keeps t.now u.now }
+        ensures closed { OnOk result ((self.old.is_open ≡ false) × (self.new.is_open ≡ false)) }
+        ensures ok { IfOk result (λ r. (t : _) × (u : _) × F.post work.now t (Ok r.0) u
+            × IsRun self.old t.now.me.now u.now.me.now self.new r.1) }
+        ensures open { IfErr result (λ stop. self.old.is_open ≡ true
+            → (stop ≡ Stop.Refused AlreadyOpen) × (self.new ≡ self.old)) }
+        ensures err { IfErr result (λ stop. self.old.is_open ≡ false
+            → Fails (on_callers (λ t. t.now.me.now) (F.post work.now)) self.old self.new stop) }
+    {
+        self.begin()?;
+        let mut open = Transaction { me: self };
+        let value = work(&mut open)?;
+        let place = open.commit()?;
+        Ok((value, place))
+    }
+
+    /// Runs the work in a transaction and commits; answers what the work did, and the commit's
+    /// place. If it was busy, gives way and begins anew, at most `tries` times. If the work fails
+    /// all its changes are taken back.
+    ///
+    /// # Errors
+    ///
+    /// `AlreadyOpen` of a caller that is in a transaction, which is unchanged; what the last try of
+    /// the work answered, `Busy` only once all tries are used up; `NotOpen` if the work went on
+    /// after a call was busy.
+    ///
+    /// # Cost
+    ///
+    /// That of `begin`, the work and `commit`, and of `abort` for each try that fails.
+    pub fn transact<T: Drop, F: Fn(&mut Transaction<'_>) -> Result<T, Stop>>(
+        &mut self,
+        tries: u64,
+        work: F,
+    ) -> Result<(T, u64), Stop>
+        requires callable { F.IsAlwaysCallable work }
+        requires keeps { (t : _) (r : _) (u : _) → F.post work t r u → Keeps t.now u.now }
+        ensures closed { self.old.is_open ≡ false → self.new.is_open ≡ false }
+        ensures ok { IfOk result (λ r. (b : Caller) × (t : _) × (u : _) × F.post work t (Ok r.0) u
+            × IsSince self.old b × IsRun b t.now.me.now u.now.me.now self.new r.1
+            × (busy : ℕ) × (busy ≤ tries)
+            × FailsBusy (on_callers (λ t. t.now.me.now) (F.post work)) busy self.old b) }
+        ensures since { OnErr result (IsSince self.old self.new) }
+        ensures open { IfErr result (λ stop. self.old.is_open ≡ true
+            → (stop ≡ Stop.Refused AlreadyOpen) × (self.new ≡ self.old)) }
+        ensures err { IfErr result (λ stop. self.old.is_open ≡ false
+            → (busy : ℕ) × (busy ≤ tries)
+            × ((holder : ℕ) → stop ≡ Stop.Busy holder → busy ≡ tries) × (b : Caller)
+            × FailsBusy (on_callers (λ t. t.now.me.now) (F.post work)) busy self.old b
+            × Fails (on_callers (λ t. t.now.me.now) (F.post work)) b self.new stop) }
+    {
+        let mut left = tries;
+        loop {
+            match self.attempt(&work) {
+                Ok(done) => return Ok(done),
+                Err(Stop::Refused(refusal)) => return Err(Stop::Refused(refusal)),
+                Err(Stop::Busy { holder }) => {
+                    if left == 0 {
+                        return Err(Stop::Busy { holder });
+                    }
+                    thread::yield_now();
+                    left -= 1;
+                }
+            }
+        }
+    }
+}
