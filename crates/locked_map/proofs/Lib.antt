@@ -16,3 +16,4 @@ pub mod Calling
 pub mod Driving
 pub mod Trying
 pub mod Helped
+pub mod Smalls

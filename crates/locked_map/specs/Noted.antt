@@ -1,15 +1,19 @@
 -- The entries that a caller has seen, and the room for more.
-use Rattle.std.specs.Prelude.{ℕ, ◌≡◌, ◌+◌, ◌<◌, ◌≤◌, Bool, true, false, List, length, Some, is_some}
+use Rattle.std.specs.Prelude.{ℕ, ◌≡◌, ◌+◌, ◌<◌, ◌≤◌, Bool, true, false, List, [], ◌∷◌, length, Some}
+use Rattle.std.specs.Prelude.{is_some}
 use Rattle.std.specs.Prelude.{vec_capacity}
 use Rattle.std.specs.Global.{Vec}
 use Rattle.std.specs.List.{fold}
 use Rattle.txn_trace.specs.declared.entry.Entry.{Entry}
 use Rattle.txn_trace.specs.declared.entry.Entry.TheVariants.{Began}
+use Rattle.txn_trace.specs.declared.answer.Answer.{Answer}
 use Rattle.txn_trace.specs.declared.step.Step.{Step}
 use Rattle.txn_trace.specs.declared.step.Step.TheVariants.{Begin, Ask, Act, Save, Back, Commit}
 use Rattle.txn_trace.specs.declared.step.Step.TheVariants.{Abort}
 use Rattle.txn_trace.specs.Shape.{RoomySeat, seat_after}
+use Rattle.txn_trace.specs.Entries.{entries_of}
 use Rattle.txn_trace.specs.Owed.{owed_by, reserved}
+use Rattle.txn_trace.specs.Packed.{is_small}
 
 -- The number of the last transaction that the entries begin, or 0 if they begin none.
 abbrev pub began_by : ℕ → Entry → ℕ
@@ -57,3 +61,7 @@ pub record HasRoomFor (seen : Noted) (step : Step) : Type 0 where
   pub all : owed_by (seat_after seen.entries) + reserved step ≤ seen.room
   pub one : adds_entry step ≡ true → 0 < seen.room
   pub save : is_save step ≡ true → 0 < seen.save_room
+
+-- The entry that a step adds with this answer, if it adds one, is small.
+abbrev pub AddsSmall : Step → Answer → Type 0
+AddsSmall step answer = (e : Entry) → e ∷ [] ≡ entries_of step answer → is_small e ≡ true

@@ -25,7 +25,7 @@ use boost_core::{Call, Drive, End};
 use std::alloc::{AllocError, Global};
 use std::marker::Model;
 use std::sync::ledger::{Ledger, Share};
-use txn_trace::{Answer, Entry, Limits, Op, Refusal, Step};
+use txn_trace::{Answer, Limits, Op, Refusal, SmallEntry, Step};
 use undo_log::{Side, SideJob, SideValue};
 
 /// One caller of a shared map: its token. It cannot be cloned, so each number has at most one.
@@ -115,8 +115,9 @@ impl<L: Ledger, S: Side> Caller<L, S> {
     }
 
     /// The entries that its calls have added, in order. Unless the token is broken, the rule of
-    /// shape has a row for each.
-    pub fn seen(&self) -> &[Entry]
+    /// shape has a row for each. They are packed: `txn_trace::Unpacked` goes over them as values of
+    /// `Entry`.
+    pub fn seen(&self) -> &[SmallEntry]
         ensures seen { result.now ≡ self.now.seen }
         ensures rows { self.now.broken ≡ false → is_some (seat_after self.now.seen) ≡ true }
     {

@@ -15,7 +15,7 @@ use crate::shared_map::SharedMap;
 use crate::unclosed::Unclosed;
 use boost_core::Core;
 use std::sync::ledger::{Book, Ledger, Share};
-use txn_trace::{Entry, Limits, SmallEntry};
+use txn_trace::{Limits, SmallEntry};
 use undo_log::Side;
 
 impl<L: Ledger> SharedMap<L> {
@@ -107,7 +107,7 @@ fn is_all_own<L: Ledger, S: Side>(core: &Core, callers: &[Caller<L, S>]) -> bool
 }
 
 /// Whether a caller's entries in the history are these.
-fn is_own(trace: &[SmallEntry], caller: u64, seen: &[Entry]) -> bool
+fn is_own(trace: &[SmallEntry], caller: u64, seen: &[SmallEntry]) -> bool
     ensures { IsTrue result ↔ (own caller trace.now ≡ seen.now) }
 {
     let mut rest = seen;
@@ -126,10 +126,10 @@ fn is_own(trace: &[SmallEntry], caller: u64, seen: &[Entry]) -> bool
 }
 
 /// Whether two entries are the same.
-fn is_same(one: &Entry, other: &SmallEntry) -> bool
+fn is_same(one: &SmallEntry, other: &SmallEntry) -> bool
     ensures { IsTrue result ↔ (one.now ≡ other.now) }
 {
-    *one == other.entry()
+    one.entry() == other.entry()
 }
 
 /// The core of a map whose callers are all there. Its history has as many entries as they saw.

@@ -4,15 +4,16 @@ ghost use Rattle.std.specs.Prelude.{◌≡◌, ◌+◌, ◌<◌, ◌≤◌, ◌^
 ghost use Rattle.std.specs.Prelude.{Some, OnOk, OnErr};
 ghost use Rattle.txn_trace.specs.Entries.{entries_of};
 ghost use Rattle.txn_trace.specs.Owed.{owed_by};
+ghost use Rattle.txn_trace.specs.Packed.{is_small};
 ghost use Rattle.txn_trace.specs.Shape.{Seat as Standing, seat_after};
 ghost use Rattle.txn_trace.specs.Seats.{refusal_in};
-ghost use Rattle.locked_map.specs.Noted.{HasRoomFor, adds_entry, began_by, last_txn};
+ghost use Rattle.locked_map.specs.Noted.{AddsSmall, HasRoomFor, adds_entry, began_by, last_txn};
 ghost use Rattle.locked_map.specs.Tokens.{is_over};
 
 use std::alloc::{AllocError, Global};
 use std::marker::Model;
 use std::sync::ledger::{Book, Ledger, Share};
-use txn_trace::{Answer, Entry, Limits, Phase, Refusal, Seat, Step, entry_of};
+use txn_trace::{Answer, Entry, Limits, Phase, Refusal, Seat, SmallEntry, Step, entry_of};
 
 /// The entries that a caller's calls have added, in order, and the seat that they give it.
 ///
@@ -20,7 +21,7 @@ use txn_trace::{Answer, Entry, Limits, Phase, Refusal, Seat, Step, entry_of};
 /// the entries.
 #[derive(Drop)]
 pub(crate) struct Seen<L: Ledger> {
-    entries: Vec<Entry>,
+    entries: Vec<SmallEntry>,
     seat: Seat,
     is_whole: bool,
     txn: u64,
@@ -59,8 +60,8 @@ impl<L: Ledger> Seen<L> {
         }
     }
 
-    /// The entries.
-    pub(crate) fn entries(&self) -> &[Entry]
+    /// The entries, packed.
+    pub(crate) fn entries(&self) -> &[SmallEntry]
         ensures value { result.now ≡ self.now.entries }
         ensures room { owed_by (seat_after self.now.entries) ≤ self.now.room }
         ensures small { length self.now.entries < 2 ^ 63 }
@@ -134,6 +135,7 @@ impl<L: Ledger> Seen<L> {
     pub(crate) fn note(&mut self, book: &mut Book<L>, step: Step, answer: Answer)
         requires whole { is_some (seat_after self.old.entries) ≡ true }
         requires room { HasRoomFor self.old step }
+        requires small { AddsSmall step answer }
         ensures entries { self.new.entries ≡ self.old.entries ++ entries_of step answer }
         ensures book { book.new.total ≡ book.old.total + length (entries_of step answer) }
         ensures same { entries_of step answer ≡ [] → self.new ≡ self.old }
@@ -142,11 +144,19 @@ impl<L: Ledger> Seen<L> {
         let Some(entry) = entry_of(step, answer) else {
             return;
         };
-        self.entries.push_reserved(entry);
+        self.entries.push_reserved(packed(entry));
         self.is_whole = self.seat.enter(entry);
         self.txn = began_by(self.txn, entry);
         book.add(&mut self.share, 1);
     }
+}
+
+/// A small entry, packed.
+fn packed(entry: Entry) -> SmallEntry
+    requires { is_small entry ≡ true }
+    ensures { result ≡ entry }
+{
+    SmallEntry::new(entry).unwrap()
 }
 
 /// The number of the last transaction after an entry.

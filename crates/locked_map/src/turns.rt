@@ -142,6 +142,7 @@ fn take<L: Ledger>(
     let _before = core.trace();
     let answer = claims.step(core, step);
     let _after = core.trace();
+    let _fits = core.limits().callers();
     seen.note(book, step, answer);
     let _seen = seen.entries();
     drive.told(answer);

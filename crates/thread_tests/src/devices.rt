@@ -151,7 +151,7 @@ pub(crate) fn has_seen<L: Ledger>(
     let Some(me) = callers.get(place) else {
         return false;
     };
-    me.number() == place as u64 && me.seen() == wanted
+    me.number() == place as u64 && is_history(me.seen(), wanted)
 }
 
 /// An observer of releases that does nothing.

@@ -17,7 +17,7 @@ use std::sync::Wait;
 use std::sync::ledger::{Blank, Ledger};
 use std::test::Fail;
 use std::time::Duration;
-use txn_trace::{Entry, Limits, Refusal, Reply};
+use txn_trace::{Entry, Limits, Refusal, Reply, SmallEntry};
 
 /// How many keys are put: 0, 3, 6 and so on.
 const KEYS: u64 = 20;
@@ -71,7 +71,7 @@ fn begin_and_put<L: Ledger, R: Wait>(t: &mut Transaction<'_, L, R>, key: u64) ->
     Ok(())
 }
 
-fn seen_by<L: Ledger>(me: &Caller<L, NoSide>) -> &[Entry] {
+fn seen_by<L: Ledger>(me: &Caller<L, NoSide>) -> &[SmallEntry] {
     me.seen()
 }
 
@@ -79,7 +79,7 @@ fn seen_by<L: Ledger>(me: &Caller<L, NoSide>) -> &[Entry] {
 fn begun_by<L: Ledger>(me: &Caller<L, NoSide>) -> u64 {
     let mut count = 0u64;
     for entry in seen_by(me) {
-        if matches!(entry, Entry::Began(..)) {
+        if matches!(entry.entry(), Entry::Began(..)) {
             count = count.wrapping_add(1);
         }
     }

@@ -20,16 +20,15 @@
 #![tactic(auto)]
 
 mod history_file;
+mod line;
 mod operation;
 mod script_file;
-mod small_text;
 mod step_file;
 mod text;
 
 pub use history_file::{read_history, read_packed_history};
 pub use piece_files::{FileFault, Part};
 pub use script_file::read_scripts;
-pub use small_text::small_history_text;
 pub use step_file::{read_packed_steps, read_steps};
-pub use text::history_text;
+pub use text::{history_text, small_history_text};
 pub use txn_trace::{Script, Scripts};

@@ -1,15 +1,14 @@
 //! An operation as elements in JSON: how it is read, and how it is written. Step files, script
 //! files and history files share it.
 
-ghost use Rattle.std.specs.Prelude.{◌≡◌, ◌++◌, ◌∷◌, decimal, map, option_map, OnOk, string_bytes};
+ghost use Rattle.std.specs.Prelude.{◌≡◌, ◌+◌, ◌≤◌, ◌++◌, length, map, option_map};
 ghost use Rattle.std.specs.List.{join_with_byte};
 ghost use Rattle.piece_files.specs.Plain.{data_of};
 ghost use Rattle.txn_files.specs.HistoryText.{comma};
 ghost use Rattle.txn_files.specs.Operations.{is_old_op, op_at, op_of, put_if_at, elements_of_op};
 
-use itoa::Buffer;
+use crate::line::Line;
 use piece_files::{Plain, leading_optional_in, number_in, word_in};
-use std::alloc::AllocError;
 use txn_trace::Op;
 
 /// The `put_if` of this key whose expected value and new value the elements begin with, and the
@@ -73,61 +72,40 @@ pub fn is_old_op(op: Op) -> bool
     !matches!(op, Op::PutIf(..))
 }
 
-/// Adds the decimal digits of a number, which are made on the stack. `write!` would take a
-/// formatter.
-pub(crate) fn put_number(text: &mut String, number: u64) -> Result<(), AllocError>
-    ensures { OnOk result (string_bytes text.new ≡ string_bytes text.old ++ decimal number) }
-{
-    text.push_str(Buffer::new().format(number))
-}
-
-/// Adds a comma and a number.
-fn put_next(text: &mut String, number: u64) -> Result<(), AllocError>
-    ensures { OnOk result (string_bytes text.new
-        ≡ string_bytes text.old ++ comma ∷ decimal number) }
-{
-    text.push_str(",")?;
-    put_number(text, number)
-}
-
-/// Adds a text and a number.
-fn put_named(text: &mut String, name: &str, number: u64) -> Result<(), AllocError>
-    ensures { OnOk result (string_bytes text.new
-        ≡ string_bytes text.old ++ (name.now ++ decimal number)) }
-{
-    text.push_str(name)?;
-    put_number(text, number)
-}
-
-/// Adds the elements of an operation, with a comma between each two.
-///
-/// # Errors
-///
-/// `AllocError` if memory is refused.
-///
-/// # Cost
-///
-/// Amortized constant time; takes memory only if the text has no room.
-pub fn put_op(text: &mut String, op: Op) -> Result<(), AllocError>
-    ensures { OnOk result (string_bytes text.new
-        ≡ string_bytes text.old ++ join_with_byte comma (elements_of_op op)) }
+/// Puts the elements of an operation before a line's text, with a comma between each two.
+pub(crate) fn put_op(line: &mut Line, op: Op)
+    requires { 80 + length line.old ≤ 160 }
+    ensures text { line.new ≡ join_with_byte comma (elements_of_op op) ++ line.old }
+    ensures short { length line.new ≤ 80 + length line.old }
 {
     match op {
         Op::Put(key, value) => {
-            put_named(text, "\"put\",", key)?;
-            put_next(text, value)
+            line.put_number(value);
+            line.put(",");
+            line.put_number(key);
+            line.put("\"put\",");
         }
-        Op::Take(key) => put_named(text, "\"take\",", key),
-        Op::Get(key) => put_named(text, "\"get\",", key),
+        Op::Take(key) => {
+            line.put_number(key);
+            line.put("\"take\",");
+        }
+        Op::Get(key) => {
+            line.put_number(key);
+            line.put("\"get\",");
+        }
         Op::PutIf(key, None, value) => {
-            put_named(text, "\"put_if\",", key)?;
-            text.push_str(",null")?;
-            put_next(text, value)
+            line.put_number(value);
+            line.put(",null,");
+            line.put_number(key);
+            line.put("\"put_if\",");
         }
         Op::PutIf(key, Some(expected), value) => {
-            put_named(text, "\"put_if\",", key)?;
-            put_next(text, expected)?;
-            put_next(text, value)
+            line.put_number(value);
+            line.put(",");
+            line.put_number(expected);
+            line.put(",");
+            line.put_number(key);
+            line.put("\"put_if\",");
         }
     }
 }

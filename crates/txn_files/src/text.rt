@@ -1,125 +1,192 @@
 //! Histories as compact JSON: each entry as an array, and the object around them. The text is a
 //! function of the entries, `text_of_history`. Takes time and memory in proportion to the text.
-ghost use Rattle.std.specs.Prelude.{◌≡◌, [], ◌∷◌, ◌++◌, codes, decimal, map, OnOk, IfOk, string_bytes};
+//!
+//! An entry is written into a `Line`, from its end to its start, and then added to the text as a
+//! whole: so there is one test for room an entry.
+ghost use Rattle.std.specs.Prelude.{◌≡◌, ◌≤◌, ◌∷◌, ◌++◌, codes, decimal, length, map};
+ghost use Rattle.std.specs.Prelude.{OnOk, IfOk, string_bytes};
 ghost use Rattle.std.specs.List.{flat_map, join_with_byte};
-ghost use Rattle.txn_files.specs.HistoryText.{array_text, comma, entry_text, optional_text, quoted, text_of_history};
+ghost use Rattle.txn_files.specs.HistoryText.{comma, entry_text, optional_text, text_of_history};
+ghost use Rattle.txn_trace.specs.declared.entry.Entry.{Entry};
 ghost use Rattle.txn_trace.specs.declared.entry.Entry.TheVariants as entries;
 
-use crate::operation::{put_number, put_op};
+use crate::line::Line;
+use crate::operation::put_op;
 use std::alloc::{AllocError, Global};
-use txn_trace::{Entry, Op};
+use txn_trace::{Entry, Op, SmallEntry};
 
-/// Adds the head of an array: its bracket, a name and a caller.
-fn put_head(text: &mut String, name: &str, caller: u64) -> Result<(), AllocError>
-    ensures { OnOk result (string_bytes text.new ≡ string_bytes text.old
-        ++ (codes "[" ++ (quoted name.now ++ comma ∷ decimal caller))) }
-{
-    text.push_str("[\"")?;
-    text.push_str(name)?;
-    text.push_str("\",")?;
-    put_number(text, caller)
+/// An entry, in one of the forms in which a history keeps it.
+pub(crate) trait EntryForm {
+    /// The entry that this is.
+    ghost told: { Self → Entry };
+
+    /// The entry that this is.
+    fn told(&self) -> Entry
+        ensures { result ≡ told self.now };
 }
 
-/// Adds an array of a name and a caller.
-fn put_short(text: &mut String, name: &str, caller: u64) -> Result<(), AllocError>
-    ensures { OnOk result (string_bytes text.new
-        ≡ string_bytes text.old ++ array_text (quoted name.now ∷ decimal caller ∷ [])) }
-{
-    put_head(text, name, caller)?;
-    text.push_str("]")
+impl EntryForm for Entry {
+    ghost told = { λ e. e };
+
+    #[inline(always)]
+    fn told(&self) -> Entry {
+        *self
+    }
 }
 
-/// Adds an array of a name, a caller and a number.
-fn put_numbered(text: &mut String, name: &str, caller: u64, number: u64) -> Result<(), AllocError>
-    ensures { OnOk result (string_bytes text.new ≡ string_bytes text.old
-        ++ array_text (quoted name.now ∷ decimal caller ∷ decimal number ∷ [])) }
-{
-    put_head(text, name, caller)?;
-    text.push_str(",")?;
-    put_number(text, number)?;
-    text.push_str("]")
+impl EntryForm for SmallEntry {
+    ghost told = { λ e. e };
+
+    #[inline(always)]
+    fn told(&self) -> Entry {
+        self.entry()
+    }
 }
 
-/// Adds an array of a name, a caller, and a number or null.
-fn put_optional(
-    text: &mut String,
-    name: &str,
-    caller: u64,
-    number: Option<u64>,
-) -> Result<(), AllocError>
-    ensures { OnOk result (string_bytes text.new ≡ string_bytes text.old
-        ++ array_text (quoted name.now ∷ decimal caller ∷ optional_text number ∷ [])) }
+/// Makes a line the array of a name and a caller. The head is the array up to the caller.
+#[inline(always)]
+fn set_short(line: &mut Line, head: &str, caller: u64)
+    requires { length head.now ≤ 30 }
+    ensures text { line.new ≡ head.now ++ (decimal caller ++ codes "]") }
+    ensures short { length line.new ≤ 159 }
+{
+    line.clear();
+    line.put("]");
+    line.put_number(caller);
+    line.put(head);
+}
+
+/// Makes a line the array of a name, a caller and a number.
+#[inline(always)]
+fn set_numbered(line: &mut Line, head: &str, caller: u64, number: u64)
+    requires { length head.now ≤ 30 }
+    ensures text { line.new
+        ≡ head.now ++ ((decimal caller ++ comma ∷ decimal number) ++ codes "]") }
+    ensures short { length line.new ≤ 159 }
+{
+    line.clear();
+    line.put("]");
+    line.put_number(number);
+    line.put(",");
+    line.put_number(caller);
+    line.put(head);
+}
+
+/// Makes a line the array of a name, a caller, and a number or null.
+#[inline(always)]
+fn set_optional(line: &mut Line, head: &str, caller: u64, number: Option<u64>)
+    requires { length head.now ≤ 30 }
+    ensures text { line.new
+        ≡ head.now ++ ((decimal caller ++ comma ∷ optional_text number) ++ codes "]") }
+    ensures short { length line.new ≤ 159 }
 {
     match number {
-        Some(number) => put_numbered(text, name, caller, number),
+        Some(number) => set_numbered(line, head, caller, number),
         None => {
-            put_head(text, name, caller)?;
-            text.push_str(",null]")
+            line.clear();
+            line.put(",null]");
+            line.put_number(caller);
+            line.put(head);
         }
     }
 }
 
-/// Adds an Asked entry: the operation that a caller asked for.
-fn put_asked(text: &mut String, caller: u64, op: Op) -> Result<(), AllocError>
-    ensures { OnOk result (string_bytes text.new
-        ≡ string_bytes text.old ++ entry_text (entries.Asked caller op)) }
+/// Makes a line an Asked entry: the operation that a caller asked for.
+#[inline(always)]
+fn set_asked(line: &mut Line, caller: u64, op: Op)
+    ensures text { line.new ≡ entry_text (entries.Asked caller op) }
+    ensures short { length line.new ≤ 159 }
 {
-    put_head(text, "asked", caller)?;
-    text.push_str(",")?;
-    put_op(text, op)?;
-    text.push_str("]")
+    line.clear();
+    line.put("]");
+    put_op(line, op);
+    line.put(",");
+    line.put_number(caller);
+    line.put("[\"asked\",");
 }
 
-/// Adds a Busy entry: the operation that a caller asked for, and the holder of its stripe.
-fn put_busy(text: &mut String, caller: u64, op: Op, holder: u64) -> Result<(), AllocError>
-    ensures { OnOk result (string_bytes text.new
-        ≡ string_bytes text.old ++ entry_text (entries.Busy caller op holder)) }
+/// Makes a line a Busy entry: the operation that a caller asked for, and the holder of its stripe.
+#[inline(always)]
+fn set_busy(line: &mut Line, caller: u64, op: Op, holder: u64)
+    ensures text { line.new ≡ entry_text (entries.Busy caller op holder) }
+    ensures short { length line.new ≤ 159 }
 {
-    write!(text, "[\"busy\",{caller},")?;
-    put_op(text, op)?;
-    write!(text, ",{holder}]")
+    line.clear();
+    line.put("]");
+    line.put_number(holder);
+    line.put(",");
+    put_op(line, op);
+    line.put(",");
+    line.put_number(caller);
+    line.put("[\"busy\",");
 }
 
-/// Adds an entry, as an array.
-pub(crate) fn put_entry(text: &mut String, entry: &Entry) -> Result<(), AllocError>
-    ensures { OnOk result (string_bytes text.new ≡ string_bytes text.old ++ entry_text entry.now) }
+/// Makes a line an entry, as an array.
+#[inline(always)]
+fn set_entry(line: &mut Line, entry: Entry)
+    ensures text { line.new ≡ entry_text entry }
+    ensures short { length line.new ≤ 159 }
 {
-    match *entry {
-        Entry::Began(caller, txn) => put_numbered(text, "began", caller, txn),
-        Entry::Asked(caller, op) => put_asked(text, caller, op),
-        Entry::Did(caller, reply) => put_optional(text, "did", caller, reply),
-        Entry::Saved(caller) => put_short(text, "saved", caller),
-        Entry::Leave(caller, level) => put_optional(text, "leave", caller, level),
-        Entry::Undone(caller) => put_short(text, "undone", caller),
-        Entry::Returned(caller, level) => put_numbered(text, "returned", caller, level),
-        Entry::Committed(caller, place) => put_numbered(text, "committed", caller, place),
-        Entry::Busy(caller, op, holder) => put_busy(text, caller, op, holder),
-        Entry::Aborted(caller) => put_short(text, "aborted", caller),
+    match entry {
+        Entry::Began(caller, txn) => set_numbered(line, "[\"began\",", caller, txn),
+        Entry::Asked(caller, op) => set_asked(line, caller, op),
+        Entry::Did(caller, reply) => set_optional(line, "[\"did\",", caller, reply),
+        Entry::Saved(caller) => set_short(line, "[\"saved\",", caller),
+        Entry::Leave(caller, level) => set_optional(line, "[\"leave\",", caller, level),
+        Entry::Undone(caller) => set_short(line, "[\"undone\",", caller),
+        Entry::Returned(caller, level) => set_numbered(line, "[\"returned\",", caller, level),
+        Entry::Committed(caller, place) => set_numbered(line, "[\"committed\",", caller, place),
+        Entry::Busy(caller, op, holder) => set_busy(line, caller, op, holder),
+        Entry::Aborted(caller) => set_short(line, "[\"aborted\",", caller),
     }
 }
 
 /// Adds each entry, after a comma.
-fn put_further_entries(text: &mut String, entries: &[Entry]) -> Result<(), AllocError>
+fn put_further_entries<E: EntryForm>(
+    text: &mut String,
+    line: &mut Line,
+    entries: &[E],
+) -> Result<(), AllocError>
     ensures { OnOk result (string_bytes text.new
-        ≡ string_bytes text.old ++ flat_map (λ e. comma ∷ entry_text e) entries.now) }
+        ≡ string_bytes text.old ++ flat_map (λ e. comma ∷ entry_text (E.told e)) entries.now) }
 {
     for entry in entries {
-        text.push_str(",")?;
-        put_entry(text, entry)?;
+        set_entry(line, entry.told());
+        line.put(",");
+        text.push_str(line.text())?;
     }
     Ok(())
 }
 
 /// Adds the entries, with a comma between each two.
-fn put_entries(text: &mut String, entries: &[Entry]) -> Result<(), AllocError>
-    ensures { OnOk result (string_bytes text.new
-        ≡ string_bytes text.old ++ join_with_byte comma (map entry_text entries.now)) }
+fn put_entries<E: EntryForm>(text: &mut String, entries: &[E]) -> Result<(), AllocError>
+    ensures { OnOk result (string_bytes text.new ≡ string_bytes text.old
+        ++ join_with_byte comma (map (λ e. entry_text (E.told e)) entries.now)) }
 {
     let Some((first, rest)) = entries.split_first() else {
         return Ok(());
     };
-    put_entry(text, first)?;
-    put_further_entries(text, rest)
+    let mut line = Line::new();
+    set_entry(&mut line, first.told());
+    text.push_str(line.text())?;
+    put_further_entries(text, &mut line, rest)
+}
+
+/// The text of a history whose entries have any form.
+fn text_of<E: EntryForm>(
+    alloc: Global,
+    version: u64,
+    stripes: u32,
+    entries: &[E],
+) -> Result<String, AllocError>
+    ensures { IfOk result (λ text. string_bytes text
+        ≡ text_of_history version stripes (map E.told entries.now)) }
+{
+    let mut text = String::new(alloc);
+    text.push_str("{\"entries\":[")?;
+    put_entries(&mut text, entries)?;
+    write!(text, "],\"stripes\":{stripes},\"version\":{version}}}")?;
+    Ok(text)
 }
 
 /// A history as compact JSON: an object with its entries, its stripes and the version of the file,
@@ -142,9 +209,26 @@ pub fn history_text(
     ensures { IfOk result (λ text.
         string_bytes text ≡ text_of_history version stripes entries.now) }
 {
-    let mut text = String::new(alloc);
-    text.push_str("{\"entries\":[")?;
-    put_entries(&mut text, entries)?;
-    write!(text, "],\"stripes\":{stripes},\"version\":{version}}}")?;
-    Ok(text)
+    text_of(alloc, version, stripes, entries)
+}
+
+/// The text of `history_text`, of a history whose entries are small, such as a core keeps.
+///
+/// # Errors
+///
+/// `AllocError` if memory is refused.
+///
+/// # Cost
+///
+/// Time and memory in proportion to the entries.
+pub fn small_history_text(
+    alloc: Global,
+    version: u64,
+    stripes: u32,
+    entries: &[SmallEntry],
+) -> Result<String, AllocError>
+    ensures { IfOk result (λ text.
+        string_bytes text ≡ text_of_history version stripes entries.now) }
+{
+    text_of(alloc, version, stripes, entries)
 }

@@ -1,6 +1,9 @@
+use Rattle.std.proofs.Common.{◌≡◌, true, subst}
 use Rattle.txn_trace.specs.Entries.{entries_of}
+use Rattle.txn_trace.specs.Sizes.{Sizes, are_limits}
 use Rattle.locked_map.specs.Claims.{claim_in}
 use Rattle.locked_map.proofs.Claiming.{counted_more, goes_over}
+use Rattle.locked_map.proofs.Smalls.{small_added}
 use Rattle.locked_map.proofs.Stepping.{in_step_told}
 use Rattle.locked_map.proofs.Going.{goes_told}
 use Rattle.locked_map.proofs.turns.take.Goals as goal
@@ -17,3 +20,10 @@ pub invariant_of-booked-clause-counted : goal.invariant_of-booked-clause-counted
 invariant_of-booked-clause-counted g c =
     counted_more c.args.booked.now.core.history c.step-answer.new.core.history (entries_of c.args.step c.step-answer.result) c.args.booked.now.book.total c.note.new.book.total c.args.booked.now.counted c.note.ensures.book
     (goes_over (claim_in c.args.claims.now.tried c.args.booked.now.core c.args.step) c.args.booked.now.core c.step-answer.new.core c.args.step c.step-answer.result c.step-answer.ensures.goes).history
+
+pub note-requires-clause-small : goal.note-requires-clause-small
+note-requires-clause-small g c =
+    small_added c.args.booked.now.core c.step-answer.new.core c.args.step c.step-answer.result
+    (goes_over (claim_in c.args.claims.now.tried c.args.booked.now.core c.args.step) c.args.booked.now.core c.step-answer.new.core c.args.step c.step-answer.result c.step-answer.ensures.goes)
+    c.trace-after.ensures.callers c.trace-after.ensures.legal
+    (subst (λ (l : Sizes). are_limits l.callers l.stripes l.buckets ≡ true) c.limits.ensures c.callers-fits.ensures.limits)

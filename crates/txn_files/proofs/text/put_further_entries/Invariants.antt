@@ -5,4 +5,4 @@ use Rattle.txn_files.specs.HistoryText.{comma, entry_text}
 use Rattle.txn_files.proofs.text.put_further_entries.Given as goal
 
 abbrev pub invariant-loop-entry : goal.invariant-loop-entry
-invariant-loop-entry l = string_bytes l.text ≡ string_bytes l.fn.text ++ flat_map (λ e. comma ∷ entry_text e) (take l.entry-index l.entries)
+invariant-loop-entry g l = string_bytes l.text ≡ string_bytes l.fn.text ++ flat_map (λ e. comma ∷ entry_text (g.E.EntryForm.told e)) (take l.entry-index l.entries)

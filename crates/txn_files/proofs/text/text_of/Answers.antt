@@ -1,7 +1,8 @@
 use Rattle.std.proofs.Common.{append_assoc}
-use Rattle.txn_files.proofs.small_text.small_history_text.Goals as goal
+use Rattle.std.proofs.lemmas.Simd.{map-map}
+use Rattle.txn_files.proofs.text.text_of.Goals as goal
 
 pub returns : goal.returns
-returns c =
+returns g c =
     let whole = rw (c.in_ok-put_entries.ensures, c.in_ok-push_str.ensures.bytes, c.new-text.ensures.bytes) at c.in_ok-write.ensures.bytes in
-    simp append_assoc whole
+    simp (append_assoc, map-map) whole

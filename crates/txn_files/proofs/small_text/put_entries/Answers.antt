@@ -1,9 +1,0 @@
-use Rattle.std.proofs.Common.{append_assoc}
-use Rattle.txn_files.proofs.Joined.{join_with_byte_cons}
-use Rattle.txn_files.specs.HistoryText.{comma, entry_text}
-use Rattle.txn_files.proofs.small_text.put_entries.Goals as goal
-
-pub returns : goal.returns
-returns c =
-    let so_far = rw (c.in_ok-put_entry.ensures, c.entry.ensures, append_assoc) at c.put_further_entries.ensures in
-    rw (c.in-Some.ensures.cases.0, join_with_byte_cons comma entry_text c.in-Some.first.now c.in-Some.rest.now) so_far
