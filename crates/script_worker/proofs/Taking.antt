@@ -8,8 +8,7 @@ use Rattle.txn_drive.specs.declared.turn.Turn.TheVariants.{One, Two, Ended}
 use Rattle.txn_drive.specs.Turns.{HasTaken}
 use Rattle.txn_drive.proofs.TurnLemmas.{turn_maps}
 use Rattle.script_worker.specs.declared.attempt.Outcome.{Outcome}
-use Rattle.script_worker.specs.declared.standing.Standing.{Standing}
-use Rattle.script_worker.specs.Workers.{sized_by, turn_by, IsTurnBy, Working, TakesStep, TakesIn, TakesNext}
+use Rattle.script_worker.specs.Workers.{Standing, sized_by, turn_by, IsTurnBy, Working, TakesStep, TakesIn, TakesNext}
 
 -- If each step that is taken maps to a step of a part, and keeps a fact that the mapping needs,
 -- then so does the worker's turn.

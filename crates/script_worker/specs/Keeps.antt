@@ -4,10 +4,10 @@ use Rattle.txn_trace.specs.declared.action.Action.{Action}
 use Rattle.txn_trace.specs.declared.entry.Entry.{Entry}
 use Rattle.txn_drive.specs.Made.{made}
 use Rattle.script_worker.specs.declared.task.Task.{Task}
-use Rattle.script_worker.specs.declared.standing.Standing.{Standing}
 use Rattle.script_worker.specs.Accounts.{Outcome, AreAccounts, every, tolds_of}
 use Rattle.script_worker.specs.Attempts.{call_at}
 use Rattle.script_worker.specs.Chunks.{IsChunk}
+use Rattle.script_worker.specs.Workers.{Standing}
 
 -- The worker is at this script, which is one of its scripts: its entries are the accounts of its
 -- scripts before this one, then those of the calls of this one that have ended, and then those of

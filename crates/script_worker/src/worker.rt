@@ -1,5 +1,5 @@
-//! A worker as its users see it: by the invariant of the type it has a step to take while it has a
-//! script left. `standing` says which step that is, and the effect of an answer.
+//! A worker: its number, the limits of the map and its task. By the invariant of the type it has a
+//! step to take while it has a script left. `task` says what follows an answer.
 ghost use Rattle.std.specs.Option.{option_or};
 ghost use Rattle.std.specs.Prelude.{◌≡◌, ℕ, ◌<◌, ◌++◌, List, [], Some, true, is_some};
 ghost use Rattle.txn_trace.specs.declared.action.Action.{Action};
@@ -10,7 +10,7 @@ ghost use Rattle.script_worker.specs.Workers.{new_worker, told_by, told_drive, o
 ghost use Rattle.script_worker.specs.Keeps.{Keeps};
 
 use crate::attempt::Outcome;
-use crate::standing::Standing;
+use crate::task::{Task, tell};
 use std::marker::Model;
 use txn_drive::Turn;
 use txn_trace::{Answer, Limits, Script, Step};
@@ -23,21 +23,32 @@ use txn_trace::{Answer, Limits, Script, Step};
 /// each step pass its answer to `told`.
 #[derive(Clone, Copy, Debug, PartialEq, Eq)]
 pub struct Worker {
-    standing: Standing,
+    /// The worker's number, from 0, which is its caller's too.
+    number: usize,
+    /// The limits of the map: as many workers as callers.
+    limits: Limits,
+    /// The script that it is at, or `None` if no script is left.
+    task: Option<Task>,
 }
 
 impl Model for Worker {
-    ghost use Rattle.script_worker.specs.declared.standing.Standing.{Standing};
+    ghost use Rattle.script_worker.specs.Workers.{Standing, IsReadyTask};
 
     ghost Value = { Standing };
 
-    ghost use Rattle.script_worker.specs.Workers.{IsReady};
+    ghost view = { λ worker. record {
+      number = worker.number;
+      limits = worker.limits;
+      task = worker.task;
+    } };
 
-    ghost view = { λ worker. worker.standing };
+    ghost invariant = { λ worker. IsReadyTask worker.task };
 
-    ghost invariant = { λ worker. IsReady worker.standing };
-
-    ghost inverse = { λ standing. record { standing = standing } };
+    ghost inverse = { λ standing. record {
+      number = standing.number;
+      limits = standing.limits;
+      task = standing.task;
+    } };
 }
 
 impl Worker {
@@ -50,16 +61,18 @@ impl Worker {
         ensures keeps { (tries : ℕ) → Keeps scripts.now tries result [] }
     {
         Worker {
-            standing: Standing::new(number, limits, scripts),
+            number,
+            limits,
+            task: Task::start(number, limits, scripts, number),
         }
     }
 
-    /// The worker's number and the script that it is at.
-    pub fn standing(self) -> Standing
-        ensures worker { result ≡ self }
+    /// The script that the worker is at, or `None` if no script is left.
+    pub fn task(self) -> Option<Task>
+        ensures task { result ≡ self.task }
         ensures ready { IsReady self }
     {
-        self.standing
+        self.task
     }
 
     /// Whether the worker has a step to take: it has until the last step of its last script.
@@ -67,7 +80,7 @@ impl Worker {
         ensures step { result ≡ is_some (step_by self.now) }
         ensures script { result ≡ is_some self.now.task }
     {
-        self.standing.task.is_some()
+        self.task.is_some()
     }
 
     /// The next turn, of one step or of two, for a table that has this size now; `None` if the
@@ -80,7 +93,10 @@ impl Worker {
         ensures keeps { (scripts : List (List Action)) (tries : ℕ) (seen : List Entry)
             → Keeps scripts tries self.old seen → Keeps scripts tries self.new seen }
     {
-        self.standing.turn(size)
+        match &mut self.task {
+            Some(task) => Some(task.drive.turn(size)),
+            None => None,
+        }
     }
 
     /// Takes the next turn, for a table that has this size now: `step` takes each of its steps, and
@@ -145,6 +161,7 @@ impl Worker {
             → Keeps scripts.now tries self.old seen
             → Keeps scripts.now tries self.new (seen ++ entries_of step answer) }
     {
-        self.standing.told(scripts, tries, answer)
+        let (number, limits) = (self.number, self.limits);
+        tell(&mut self.task, number, limits, scripts, tries, answer)
     }
 }
