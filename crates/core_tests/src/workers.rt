@@ -1,5 +1,5 @@
 //! Workers that run scripts, step by step.
-use script_worker::{Outcome, Stage, Worker};
+use script_worker::{Finish as Outcome, Stage, Worker};
 use std::alloc::{AllocError, Global};
 use std::process::Abort;
 use std::test::Fail;

@@ -28,9 +28,9 @@ use Rattle.boost_core.specs.Machine.{State, Move}
 use Rattle.boost_core.specs.Answers as core
 use Rattle.script_worker.specs.declared.task.Task.{Task}
 use Rattle.script_worker.specs.declared.worker.Worker.{Worker}
-use Rattle.script_worker.specs.declared.attempt.Outcome.{Outcome}
+use Rattle.script_worker.specs.declared.attempt.Finish.{Finish}
 use Rattle.script_worker.specs.Workers.{told_drive, told_by, sized_by, turn_by, task_step, step_by, IsReady, IsTurnBy, Working, TakesStep, TakesIn, TakesNext}
-use Rattle.script_worker.specs.Accounts.{Outcome as Told, AreAccounts, AreTrue, every, tolds_of}
+use Rattle.script_worker.specs.Accounts.{Outcome, AreAccounts, AreTrue, every, tolds_of}
 use Rattle.script_worker.specs.Keeps.{KeepsAt, Keeps}
 use Rattle.script_worker.proofs.Accounts.{true_plays}
 use Rattle.script_worker.proofs.Telling.{accounts_true}
@@ -136,17 +136,17 @@ module _ (scripts : List (List Action)) (tries : ℕ) where
   turn_goes_in old (Some (Two first second)) new is keeps (answer, between, takes, then) = second_goes old first second answer between new is.0 is.1 keeps takes then
 
   -- A worker that has noted the table's size moves on as the worker itself does.
-  pub turn_goes : (size : ℕ) (old new : State) (before after : Worker) (outcome : Option Outcome) → IsTurnBy (sized_by size before) (turn_by (sized_by size before)) → Keeps scripts tries before (own before.number old.history)
-      → TakesNext Move size scripts tries old before outcome new after → Goes scripts tries old new before after
-  turn_goes size old new before after outcome is keeps takes =
-      let goes = turn_goes_in (record { taker = old; worker = sized_by size before; outcome = None }) (turn_by (sized_by size before)) (record { taker = new; worker = after; outcome = outcome }) is
+  pub turn_goes : (size : ℕ) (old new : State) (before after : Worker) (finish : Option Finish) → IsTurnBy (sized_by size before) (turn_by (sized_by size before)) → Keeps scripts tries before (own before.number old.history)
+      → TakesNext Move size scripts tries old before finish new after → Goes scripts tries old new before after
+  turn_goes size old new before after finish is keeps takes =
+      let goes = turn_goes_in (record { taker = old; worker = sized_by size before; finish = None }) (turn_by (sized_by size before)) (record { taker = new; worker = after; finish = finish }) is
       (sized_keeps size scripts tries before (own before.number old.history) keeps) takes.steps in
       record { limits = goes.limits; number = goes.number; same = goes.same; others = goes.others; keeps = goes.keeps }
 
 -- A turn at the size of the core's table.
-pub took : (scripts : List (List Action)) (tries size : ℕ) (old new : State) (before after : Worker) (outcome : Option Outcome) → size ≡ old.size
-    → TakesNext Move size scripts tries old before outcome new after → TakesNext Move old.size scripts tries old before outcome new after
-took scripts tries size old new before after outcome is takes = subst (λ n. TakesNext Move n scripts tries old before outcome new after) is takes
+pub took : (scripts : List (List Action)) (tries size : ℕ) (old new : State) (before after : Worker) (finish : Option Finish) → size ≡ old.size
+    → TakesNext Move size scripts tries old before finish new after → TakesNext Move old.size scripts tries old before finish new after
+took scripts tries size old new before after finish is takes = subst (λ n. TakesNext Move n scripts tries old before finish new after) is takes
 
 -- One member moves on, and the others are unchanged.
 pub crew_goes : (scripts : List (List Action)) (tries count w : ℕ) (old new : State) (crew : List Worker) (before after : Worker) → w < length crew → before ≡ get_or crew w before
@@ -210,7 +210,7 @@ crew_more scripts tries count crew worker member each w other less = elim (nat_l
 -- In a crew's history the outcomes of each worker's scripts are true, and its committed transactions
 -- play its scripts.
 pub crew_told : {rule : Holder} (limits : Sizes) (scripts : List (List Action)) (tries count stripes : ℕ) (h : List Entry) (crew : List Worker) → IsLegal rule stripes h → IsCrew scripts tries count h crew
-    → (c : ℕ) → c < count → (outcomes : List Told) × AreTrue c tries h (tolds_of (every count c scripts) outcomes)
+    → (c : ℕ) → c < count → (outcomes : List Outcome) × AreTrue c tries h (tolds_of (every count c scripts) outcomes)
 crew_told limits scripts tries count stripes h crew legal is c below =
     let nobody : Worker = record { number = 0; limits = limits; task = None } in
     let worker : Worker = get_or crew c nobody in

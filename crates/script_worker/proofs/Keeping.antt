@@ -26,7 +26,7 @@ use Rattle.script_worker.specs.declared.attempt.Progress.TheVariants.{Next, Over
 use Rattle.script_worker.specs.declared.task.Task.{Task}
 use Rattle.script_worker.specs.Accounts.{Outcome, AreAccounts, every, tolds_of}
 use Rattle.script_worker.specs.Attempts.{attempt_at, call_at, progress_of}
-use Rattle.script_worker.specs.Chunks.{txn_then, replies_then, outcome_by}
+use Rattle.script_worker.specs.Chunks.{Heard, heard_at, txn_then, replies_then, outcome_by}
 use Rattle.script_worker.specs.Workers.{Standing, new_worker, started, with_drive, followed, progressed, settled_in, settled, drive_told, told_drive, told_by, sized_by, task_step, step_by}
 use Rattle.script_worker.specs.Keeps.{KeepsTask, KeepsAt, Keeps}
 use Rattle.script_worker.proofs.Accounts.{account_more, no_account}
@@ -54,7 +54,7 @@ module _ (tries workers : ℕ) (half : Bool) (scripts : List (List Action)) (w :
         told = told;
         txn = 0;
         replies = [];
-        so_far = chunk_begun w (get_or scripts n []) 0 [];
+        so_far = chunk_begun w (get_or scripts n []);
       }
       at false is = (outcomes, told)
 
@@ -107,10 +107,13 @@ module _ (scripts : List (List Action)) (tries w : ℕ) (limits : Sizes) (below 
   made_is : IsMade w (call_at at.script task.attempt.stage) outcome (made task.drive)
   made_is = subst (λ c. IsMade c (call_at at.script task.attempt.stage) outcome (made task.drive)) at.caller (subst (λ (call : Call). IsMade task.drive.caller call outcome (made task.drive)) at.call (made_at_end task.drive outcome ended))
 
-  after : ChunkAfter w tries at.script at.txn at.replies (at.chunk ++ made task.drive) outcome (progress_of at.script tries task.attempt outcome)
-  after = after_call w tries at.script task.attempt at.txn at.replies at.chunk (made task.drive) outcome made_is (ended_quiet task.drive outcome ended) at.so_far
+  abbrev heard : Heard
+  heard = heard_at task.attempt at.txn at.replies
 
-  follows : (p : Progress) → ChunkAfter w tries at.script at.txn at.replies (at.chunk ++ made task.drive) outcome p → KeepsAt tries workers scripts w (followed scripts w limits task at.script p) seen
+  after : ChunkAfter w tries at.script heard (at.chunk ++ made task.drive) outcome (progress_of at.script tries task.attempt outcome)
+  after = after_call w tries at.script heard at.chunk (made task.drive) outcome made_is (ended_quiet task.drive outcome ended) at.so_far
+
+  follows : (p : Progress) → ChunkAfter w tries at.script heard (at.chunk ++ made task.drive) outcome p → KeepsAt tries workers scripts w (followed scripts w limits task at.script p) seen
   follows (Next attempt) chunk = record {
     outcomes = at.outcomes;
     number = at.number;
@@ -129,7 +132,7 @@ module _ (scripts : List (List Action)) (tries w : ℕ) (limits : Sizes) (below 
     so_far = chunk;
   }
   follows (Over over) account =
-      let told = outcome_by over outcome at.txn at.replies in
+      let told = outcome_by over outcome heard in
       let some : 0 < workers = omega (arith, below) in
       let here = get-every workers some scripts w (length at.outcomes) ∙ ap (slice_get scripts) (sym at.number) ∙ at.there in
       let longer : length (at.outcomes ++ told ∷ []) ≡ suc (length at.outcomes) = let n = length-append at.outcomes (told ∷ []) in omega (arith, n) in

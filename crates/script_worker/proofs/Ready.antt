@@ -2,7 +2,6 @@
 use Rattle.std.proofs.Common.{◌≡◌, ℕ, ◌+◌, nat_lt, Bool, true, false, if◌then◌else◌, List, length, Option, Some, None, inl, inr, ◌⊎◌, refl, sym, ap, subst, ◌∙◌}
 use Rattle.std.specs.Prelude.{is_some, slice_get}
 use Rattle.std.specs.Option.{option_and_then}
-use Rattle.std.proofs.lemmas.Bool.{false≢true}
 use Rattle.txn_trace.specs.declared.action.Action.{Action}
 use Rattle.txn_trace.specs.declared.action.Action.TheVariants as actions
 use Rattle.txn_trace.specs.declared.answer.Answer.{Answer}
@@ -16,16 +15,14 @@ use Rattle.txn_drive.specs.declared.«end».End.{End}
 use Rattle.txn_drive.specs.declared.«end».End.TheVariants as ends
 use Rattle.txn_drive.specs.declared.phase.Phase.{Phase}
 use Rattle.txn_drive.specs.declared.phase.Phase.TheVariants.{Fresh, Seeking, Acting, Doubling, Initialising, Linking, Storing, Refused}
-use Rattle.txn_drive.specs.declared.turn.Turn.{Turn}
-use Rattle.txn_drive.specs.declared.turn.Turn.TheVariants.{One, Two, Ended}
-use Rattle.txn_drive.specs.Drives.{step_in, step_of, turn_in, sized_in, sized_of, ended_by, end_of, new_drive, IsTurnOf}
+use Rattle.txn_drive.specs.Drives.{step_in, step_of, turn_in, ended_by, end_of, new_drive}
 use Rattle.script_worker.specs.declared.attempt.Progress.{Progress}
 use Rattle.script_worker.specs.declared.attempt.Progress.TheVariants.{Next, Over}
 use Rattle.script_worker.specs.declared.attempt.Stage.{Stage}
 use Rattle.script_worker.specs.declared.attempt.Stage.TheVariants as stages
 use Rattle.script_worker.specs.declared.task.Task.{Task}
 use Rattle.script_worker.specs.Attempts.{first_attempt, call_of, call_at, refused_with, progress_at, progress_of}
-use Rattle.script_worker.specs.Workers.{started, with_drive, followed, progressed, settled_in, settled, drive_told, task_told, IsReadyTask, IsTurnBy}
+use Rattle.script_worker.specs.Workers.{started, followed, progressed, settled_in, settled, drive_told, task_told, IsReadyTask}
 use Rattle.txn_drive.proofs.DriveLaws.{goes_on}
 
 -- A drive that has not ended has a step to take.
@@ -38,11 +35,6 @@ steps_in c call (Initialising way again) is = refl
 steps_in c call (Linking way again) is = refl
 steps_in c call (Storing way) is = refl
 steps_in c call phase is = absurd (cc is)
-
--- To note the table's size leaves a drive a step.
-steps-sized : (size c : ℕ) (call : Call) (phase : Phase) → is_some (step_in c call (sized_in size phase)) ≡ is_some (step_in c call phase)
-steps-sized size c call (Doubling seen) = refl
-steps-sized size c call phase = refl
 
 -- A drive with a step to take has not ended.
 abbrev HasStep : Drive → Type 0
@@ -133,17 +125,3 @@ module _ (scripts : List (List Action)) (tries w : ℕ) (limits : Sizes) where
   -- The task of a worker that was told an answer is ready, whatever it was before.
   pub told_ready : (task : Option Task) (answer : Answer) → IsReadyTask (task_told scripts tries w limits task answer)
   told_ready task answer = let told : Option Task = drive_told task answer in ready_at (settled scripts tries w limits told) (called_at told)
-
--- To note the table's size leaves a task its step.
-pub sized_ready : (size : ℕ) (task : Option Task) → IsReadyTask task → IsReadyTask (with_drive (sized_of size) task)
-sized_ready size None ready = ready
-sized_ready size (Some task) ready = steps-sized size task.drive.caller task.drive.call task.drive.phase ∙ ready
-
--- The turn of the drive of a ready task is the worker's turn.
-pub turn_is : (size n : ℕ) (limits : Sizes) (old : Option Task) (task : Task) (drive : Drive) (turn : Turn) → old ≡ Some task → drive ≡ sized_of size task.drive → IsReadyTask old → IsTurnOf drive turn
-    → IsTurnBy (record { number = n; limits = limits; task = Some (record { script = task.script; attempt = task.attempt; drive = drive }) }) (Some turn)
-turn_is size n limits old task drive (One step) is drive_is ready taken = taken
-turn_is size n limits old task drive (Two step next) is drive_is ready taken = taken
-turn_is size n limits old task drive (Ended outcome) is drive_is ready taken =
-    let steps : is_some (step_of task.drive) ≡ true = subst IsReadyTask is ready in
-    false≢true (sym (ap is_some taken) ∙ ap (λ d. is_some (step_of d)) drive_is ∙ steps-sized size task.drive.caller task.drive.call task.drive.phase ∙ steps)

@@ -13,7 +13,7 @@ use Rattle.txn_drive.specs.declared.turn.Turn.{Turn}
 use Rattle.txn_drive.specs.declared.turn.Turn.TheVariants.{One, Two, Ended}
 use Rattle.txn_drive.specs.Drives.{new_drive, sized_of, turn_of, told_of, step_of, end_of}
 use Rattle.txn_drive.specs.Turns.{TakesTurn}
-use Rattle.script_worker.specs.declared.attempt.Outcome.{Outcome}
+use Rattle.script_worker.specs.declared.attempt.Finish.{Finish}
 use Rattle.script_worker.specs.declared.attempt.Progress.{Progress}
 use Rattle.script_worker.specs.declared.attempt.Progress.TheVariants.{Next, Over}
 use Rattle.script_worker.specs.declared.task.Task.{Task}
@@ -47,7 +47,7 @@ followed scripts w limits task script (Next attempt) =
       attempt = attempt;
       drive = new_drive limits.half w (call_at script attempt.stage);
     })
-followed scripts w limits task script (Over outcome) =
+followed scripts w limits task script (Over finish) =
     started limits.half scripts w (task.script + limits.callers)
 
 -- The task of a worker after a call of an attempt at the script of a number, by the end of the
@@ -68,22 +68,22 @@ settled scripts tries w limits None = None
 settled scripts tries w limits (Some task) =
     settled_in scripts tries w limits task (end_of task.drive)
 
--- The outcome of a script, if it is over.
-abbrev pub outcome_of : Progress → Option Outcome
-outcome_of (Next attempt) = None
-outcome_of (Over outcome) = Some outcome
+-- How a script is over, if it is.
+abbrev pub finish_of : Progress → Option Finish
+finish_of (Next attempt) = None
+finish_of (Over finish) = Some finish
 
--- The outcome of the script of a task, if it is over with this end of the call.
-abbrev pub outcome_at : List (List Action) → ℕ → Task → End → Option Outcome
-outcome_at scripts tries task outcome =
-    option_and_then (λ script. outcome_of (progress_of script tries task.attempt outcome))
+-- How the script of a task is over, if it is with this end of the call.
+abbrev pub finish_at : List (List Action) → ℕ → Task → End → Option Finish
+finish_at scripts tries task outcome =
+    option_and_then (λ script. finish_of (progress_of script tries task.attempt outcome))
     (slice_get scripts task.script)
 
--- The outcome of the task's script, if its call has ended and the script is over with it.
-abbrev pub outcome_by : List (List Action) → ℕ → Option Task → Option Outcome
-outcome_by scripts tries None = None
-outcome_by scripts tries (Some task) =
-    option_and_then (outcome_at scripts tries task) (end_of task.drive)
+-- How the task's script is over, if it is with the end of its call.
+abbrev pub finish_by : List (List Action) → ℕ → Option Task → Option Finish
+finish_by scripts tries None = None
+finish_by scripts tries (Some task) =
+    option_and_then (finish_at scripts tries task) (end_of task.drive)
 
 -- The task with its drive changed.
 abbrev pub with_drive : (Drive → Drive) → Option Task → Option Task
@@ -100,12 +100,12 @@ abbrev pub task_told : List (List Action) → ℕ → ℕ → Sizes → Option T
 task_told scripts tries w limits task answer =
     settled scripts tries w limits (settled scripts tries w limits (drive_told task answer))
 
--- The outcome of the task's script, if this answer ended it.
-abbrev pub outcome_after : List (List Action) → ℕ → ℕ → Sizes → Option Task → Answer
-    → Option Outcome
-outcome_after scripts tries w limits task answer =
-    option_or (outcome_by scripts tries (drive_told task answer))
-    (outcome_by scripts tries (settled scripts tries w limits (drive_told task answer)))
+-- How the task's script is over, if this answer ended it.
+abbrev pub finish_after : List (List Action) → ℕ → ℕ → Sizes → Option Task → Answer
+    → Option Finish
+finish_after scripts tries w limits task answer =
+    option_or (finish_by scripts tries (drive_told task answer))
+    (finish_by scripts tries (settled scripts tries w limits (drive_told task answer)))
 
 -- The worker whose drive was told an answer.
 abbrev pub told_drive : Standing → Answer → Standing
@@ -117,10 +117,10 @@ told_by scripts tries worker answer = record worker {
   task = task_told scripts tries worker.number worker.limits worker.task answer;
 }
 
--- The outcome of the worker's script, if this answer ended it.
-abbrev pub outcome_told : List (List Action) → ℕ → Standing → Answer → Option Outcome
-outcome_told scripts tries worker answer =
-    outcome_after scripts tries worker.number worker.limits worker.task answer
+-- How the worker's script is over, if this answer ended it.
+abbrev pub finish_told : List (List Action) → ℕ → Standing → Answer → Option Finish
+finish_told scripts tries worker answer =
+    finish_after scripts tries worker.number worker.limits worker.task answer
 
 -- The worker after it has noted the table's size.
 abbrev pub sized_by : ℕ → Standing → Standing
@@ -153,12 +153,12 @@ IsTurnBy worker (Some (Two step next)) =
     (step_by worker ≡ Some step) × (step_by (told_drive worker answers.Placed) ≡ Some next)
 IsTurnBy worker (Some (Ended outcome)) = ⊥
 
--- The state on which a worker's steps are taken, the worker, and the outcome of its script, if this
+-- The state on which a worker's steps are taken, the worker, and how its script is over, if this
 -- turn ended it.
 pub record Working (X : Type 0) : Type 0 where
   pub taker : X
   pub worker : Standing
-  pub outcome : Option Outcome
+  pub finish : Option Finish
 
 -- A step of the worker is taken, and the worker is told the answer.
 pub record TakesStep {X : Type 0} (takes : X → Step → Answer → X → Type 0)
@@ -166,7 +166,7 @@ pub record TakesStep {X : Type 0} (takes : X → Step → Answer → X → Type 
     (old : Working X) (step : Step) (answer : Answer) (new : Working X) : Type 0 where
   pub taken : takes old.taker step answer new.taker
   pub told : new.worker ≡ told_by scripts tries old.worker answer
-  pub ended : new.outcome ≡ option_or (outcome_told scripts tries old.worker answer) old.outcome
+  pub ended : new.finish ≡ option_or (finish_told scripts tries old.worker answer) old.finish
 
 -- A turn of a worker takes at least one step.
 abbrev pub TakesIn : {X : Type 0} → (X → Step → Answer → X → Type 0) → List (List Action) → ℕ
@@ -179,9 +179,9 @@ TakesIn takes scripts tries old (Some turn) new =
 -- The next turn of a worker is taken, at this size of the table.
 pub record TakesNext {X : Type 0} (takes : X → Step → Answer → X → Type 0)
     (size : ℕ) (scripts : List (List Action)) (tries : ℕ)
-    (old : X) (before : Standing) (outcome : Option Outcome) (new : X)
+    (old : X) (before : Standing) (finish : Option Finish) (new : X)
     (after : Standing) : Type 0 where
   pub steps : TakesIn takes scripts tries
-      (record { taker = old; worker = sized_by size before; outcome = None })
+      (record { taker = old; worker = sized_by size before; finish = None })
       (turn_by (sized_by size before))
-      (record { taker = new; worker = after; outcome = outcome })
+      (record { taker = new; worker = after; finish = finish })

@@ -27,9 +27,10 @@ pub struct Attempt {
     pub stage: Stage,
 }
 
-/// The outcome of a script.
+/// How a script is over. The outcome of a script, with its transaction and replies, is told by
+/// whoever keeps these.
 #[derive(Clone, Copy, Debug, PartialEq, Eq)]
-pub enum Outcome {
+pub enum Finish {
     /// Its transaction is committed.
     Committed,
     /// It has aborted its transaction itself.
@@ -47,7 +48,7 @@ pub enum Progress {
     /// The next call of this attempt.
     Next(Attempt),
     /// Nothing: the script is over.
-    Over(Outcome),
+    Over(Finish),
 }
 
 /// The call of an action.
@@ -110,11 +111,11 @@ impl Attempt {
         match self.stage {
             Stage::Beginning => self.goes_to(Stage::Acting(0)),
             Stage::Acting(place) => match script.get(place) {
-                Some(Action::Abort) => Progress::Over(Outcome::Aborted),
+                Some(Action::Abort) => Progress::Over(Finish::Aborted),
                 Some(_) => self.goes_to(Stage::Acting(place + 1)),
-                None => Progress::Over(Outcome::Committed),
+                None => Progress::Over(Finish::Committed),
             },
-            Stage::Leaving(refusal) => Progress::Over(Outcome::Refused(refusal)),
+            Stage::Leaving(refusal) => Progress::Over(Finish::Refused(refusal)),
         }
     }
 
@@ -128,7 +129,7 @@ impl Attempt {
                 stage: Stage::Beginning,
             })
         } else {
-            Progress::Over(Outcome::Busy)
+            Progress::Over(Finish::Busy)
         }
     }
 
@@ -136,7 +137,7 @@ impl Attempt {
     fn after_refusal(self, script: &[Action], refusal: Refusal) -> Progress
         ensures { result ≡ refused_at script.now self.again self.stage refusal }
     {
-        let over = Progress::Over(Outcome::Refused(refusal));
+        let over = Progress::Over(Finish::Refused(refusal));
         if let Refusal::OutOfStep = refusal {
             return over;
         }

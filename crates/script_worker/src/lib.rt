@@ -25,6 +25,6 @@ mod attempt;
 mod task;
 mod worker;
 
-pub use attempt::{Attempt, Outcome, Progress, Stage};
+pub use attempt::{Attempt, Finish, Progress, Stage};
 pub use task::Task;
 pub use worker::Worker;

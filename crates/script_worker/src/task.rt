@@ -2,9 +2,10 @@
 //! that ended is followed by the next one, and a script that is over by the worker's next script. A
 //! worker without a script left has no task.
 ghost use Rattle.std.specs.Prelude.{◌≡◌};
-ghost use Rattle.script_worker.specs.Workers.{started, progressed, settled, outcome_at, outcome_by, task_told, outcome_after};
+ghost use Rattle.script_worker.specs.Workers.{started, progressed, settled, task_told};
+ghost use Rattle.script_worker.specs.Workers.{finish_at, finish_by, finish_after};
 
-use crate::attempt::{Attempt, Outcome, Progress};
+use crate::attempt::{Attempt, Finish, Progress};
 use txn_drive::{Call, Drive, End};
 use txn_trace::{Answer, Limits, Script};
 
@@ -40,7 +41,7 @@ impl Task {
         }
     }
 
-    /// The worker's task after this end of the call, and the outcome of the script, if it is over.
+    /// The worker's task after this end of the call, and how the script is over, if it is.
     fn go_on(
         self,
         worker: usize,
@@ -48,9 +49,9 @@ impl Task {
         scripts: &[Script],
         tries: u64,
         end: End,
-    ) -> (Option<Task>, Option<Outcome>)
+    ) -> (Option<Task>, Option<Finish>)
         ensures task { result.0 ≡ progressed scripts.now tries worker limits self end }
-        ensures outcome { result.1 ≡ outcome_at scripts.now tries self end }
+        ensures finish { result.1 ≡ finish_at scripts.now tries self end }
     {
         let Some(script) = scripts.get(self.script) else {
             return (None, None);
@@ -65,25 +66,25 @@ impl Task {
                 };
                 (Some(next), None)
             }
-            Progress::Over(outcome) => {
+            Progress::Over(finish) => {
                 let next = self.script.saturating_add(limits.callers() as usize);
-                (Task::start(worker, limits, scripts, next), Some(outcome))
+                (Task::start(worker, limits, scripts, next), Some(finish))
             }
         }
     }
 }
 
-/// Moves on to the next call, if the call of the worker's task has ended. Answers the outcome of
-/// its script, if it is over.
+/// Moves on to the next call, if the call of the worker's task has ended. Answers how its script
+/// is over, if it is.
 fn settle(
     task: &mut Option<Task>,
     worker: usize,
     limits: Limits,
     scripts: &[Script],
     tries: u64,
-) -> Option<Outcome>
+) -> Option<Finish>
     ensures task { task.new ≡ settled scripts.now tries worker limits task.old }
-    ensures outcome { result ≡ outcome_by scripts.now tries task.old }
+    ensures finish { result ≡ finish_by scripts.now tries task.old }
 {
     let Some(now) = *task else {
         return None;
@@ -91,13 +92,13 @@ fn settle(
     let Some(end) = now.drive.ended() else {
         return None;
     };
-    let (next, outcome) = now.go_on(worker, limits, scripts, tries, end);
+    let (next, finish) = now.go_on(worker, limits, scripts, tries, end);
     *task = next;
-    outcome
+    finish
 }
 
-/// Tells the worker's task the answer to its step and finds its next step. Answers the outcome of
-/// its script, if this answer ended it.
+/// Tells the worker's task the answer to its step and finds its next step. Answers how its script
+/// is over, if this answer ended it.
 pub(crate) fn tell(
     task: &mut Option<Task>,
     worker: usize,
@@ -105,9 +106,9 @@ pub(crate) fn tell(
     scripts: &[Script],
     tries: u64,
     answer: Answer,
-) -> Option<Outcome>
+) -> Option<Finish>
     ensures task { task.new ≡ task_told scripts.now tries worker limits task.old answer }
-    ensures outcome { result ≡ outcome_after scripts.now tries worker limits task.old answer }
+    ensures finish { result ≡ finish_after scripts.now tries worker limits task.old answer }
 {
     let Some(now) = task else {
         return None;

@@ -6,10 +6,10 @@ ghost use Rattle.txn_trace.specs.declared.action.Action.{Action};
 ghost use Rattle.txn_trace.specs.declared.entry.Entry.{Entry};
 ghost use Rattle.txn_trace.specs.declared.step.Step.{Step};
 ghost use Rattle.txn_trace.specs.Entries.{entries_of};
-ghost use Rattle.script_worker.specs.Workers.{new_worker, told_by, told_drive, outcome_told, sized_by, turn_by, step_by, IsReady, IsTurnBy, TakesNext};
+ghost use Rattle.script_worker.specs.Workers.{new_worker, told_by, told_drive, finish_told, sized_by, turn_by, step_by, IsReady, IsTurnBy, TakesNext};
 ghost use Rattle.script_worker.specs.Keeps.{Keeps};
 
-use crate::attempt::Outcome;
+use crate::attempt::Finish;
 use crate::task::{Task, tell};
 use std::marker::Model;
 use txn_drive::Turn;
@@ -100,7 +100,7 @@ impl Worker {
     }
 
     /// Takes the next turn, for a table that has this size now: `step` takes each of its steps, and
-    /// the worker is told the answers, as by `told`. Answers the outcome of the worker's script, if
+    /// the worker is told the answers, as by `told`. Answers how the worker's script is over, if
     /// this turn ended it.
     ///
     /// # Cost
@@ -112,7 +112,7 @@ impl Worker {
         scripts: &[Script],
         tries: u64,
         step: &mut F,
-    ) -> Option<Outcome>
+    ) -> Option<Finish>
         requires live { is_some (step_by self.old) ≡ true }
         requires callable { (f : F) (s : _) → F.pre f s }
         ensures turn { IsTurnBy (sized_by size self.old) (turn_by (sized_by size self.old)) }
@@ -122,26 +122,26 @@ impl Worker {
         let Some(turn) = self.turn(size) else {
             return None;
         };
-        let mut outcome = None;
+        let mut finish = None;
         let mut take = |next: Step| -> Answer
             requires { (f : F) (s : _) → F.pre f s }
             ensures taken { F.step step.entry.now next result step.exit.now }
             ensures told { self.exit.now ≡ told_by scripts.entry.now tries self.entry.now result }
-            ensures ended { outcome.exit ≡ option_or
-                (outcome_told scripts.entry.now tries self.entry.now result) outcome.entry }
+            ensures ended { finish.exit ≡ option_or
+                (finish_told scripts.entry.now tries self.entry.now result) finish.entry }
         {
             let answer = step(next);
-            outcome = self.told(scripts, tries, answer).or(outcome);
+            finish = self.told(scripts, tries, answer).or(finish);
             answer
         };
         turn.take(&mut take);
-        outcome
+        finish
     }
 
     /// Tells the worker the answer to the step that the turn named; of a turn of two steps, the
     /// answer to each step taken. Pass the same scripts and tries to each call: a script that found
-    /// a stripe held is attempted again up to `tries` times. Answers the outcome of the worker's
-    /// script, if this answer ended it.
+    /// a stripe held is attempted again up to `tries` times. Answers how the worker's script is
+    /// over, if this answer ended it.
     ///
     /// If the call has ended, the worker is at its next call when `told` returns, of the same
     /// script or of the next.
@@ -149,8 +149,8 @@ impl Worker {
     /// # Cost
     ///
     /// Constant time: the search of a helper's next bucket takes up to 32 rounds.
-    pub fn told(&mut self, scripts: &[Script], tries: u64, answer: Answer) -> Option<Outcome>
-        ensures outcome { result ≡ outcome_told scripts.now tries self.old answer }
+    pub fn told(&mut self, scripts: &[Script], tries: u64, answer: Answer) -> Option<Finish>
+        ensures finish { result ≡ finish_told scripts.now tries self.old answer }
         ensures worker { self.new ≡ told_by scripts.now tries self.old answer }
         ensures number { self.new.number ≡ self.old.number }
         ensures limits { self.new.limits ≡ self.old.limits }

@@ -2,7 +2,7 @@ use Rattle.std.proofs.Common.{◌≡◌, ◌++◌, Option, sym, ap, subst, ◌�
 use Rattle.txn_trace.specs.Entries.{entries_of}
 use Rattle.script_worker.specs.declared.task.Task.{Task}
 use Rattle.script_worker.specs.Keeps.{Keeps}
-use Rattle.script_worker.specs.Workers.{Standing, told_by, outcome_told, step_by, IsReadyTask}
+use Rattle.script_worker.specs.Workers.{Standing, told_by, finish_told, step_by, IsReadyTask}
 use Rattle.script_worker.proofs.Keeping.{told_keeps, told_on}
 use Rattle.script_worker.proofs.Ready.{told_ready}
 use Rattle.script_worker.proofs.worker.Worker.told.Goals as goal
@@ -13,8 +13,8 @@ invariant_of-self c = subst IsReadyTask (sym c.tell.ensures.task) (told_ready c.
 pub returns-clause-ready : goal.returns-clause-ready
 returns-clause-ready c = subst IsReadyTask (sym c.tell.ensures.task) (told_ready c.args.scripts.now c.args.tries c.self.inside.number c.self.inside.limits c.self.inside.task c.args.answer)
 
-pub returns-clause-outcome : goal.returns-clause-outcome
-returns-clause-outcome c = c.tell.ensures.outcome ∙ ap (λ (worker : Standing). outcome_told c.args.scripts.now c.args.tries worker c.args.answer) c.self.view_is
+pub returns-clause-finish : goal.returns-clause-finish
+returns-clause-finish c = c.tell.ensures.finish ∙ ap (λ (worker : Standing). finish_told c.args.scripts.now c.args.tries worker c.args.answer) c.self.view_is
 
 pub returns-clause-second : goal.returns-clause-second
 returns-clause-second c = λ step is.
