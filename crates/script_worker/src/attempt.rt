@@ -27,8 +27,8 @@ pub struct Attempt {
     pub stage: Stage,
 }
 
-/// How a script is over. The outcome of a script, with its transaction and replies, is told by
-/// whoever keeps these.
+/// How a script is over, by the rules of its attempts. The outcome of a script, as `thread_runs`
+/// tells it, also has the transaction and the replies.
 #[derive(Clone, Copy, Debug, PartialEq, Eq)]
 pub enum Finish {
     /// Its transaction is committed.
