@@ -1,5 +1,5 @@
 //! Workers that run scripts, step by step.
-use script_worker::{Outcome, Stage, Worker};
+use script_worker::{Finish as Outcome, Stage, Worker};
 use std::alloc::{AllocError, Global};
 use std::process::Abort;
 use std::test::Fail;
@@ -44,12 +44,12 @@ fn script_at(worker: &Worker) -> Option<usize> {
     if !worker.is_live() {
         return None;
     }
-    worker.standing().task.map(|task| task.script)
+    worker.task().map(|task| task.script)
 }
 
 /// The stage of the worker's attempt at its script.
 fn stage_of(worker: &Worker) -> Option<Stage> {
-    worker.standing().task.map(|task| task.attempt.stage)
+    worker.task().map(|task| task.attempt.stage)
 }
 
 /// Whether the worker has a turn, at size 2 of the table.

@@ -1,7 +1,6 @@
 -- A worker's step is a move of the core that adds only its entries.
 use Rattle.std.proofs.Common.{◌≡◌, ◌≢◌, ℕ, ◌<◌, ◌≤◌, ◌==◌, true, false, cond, List, [], ◌∷◌, ◌++◌, length, get_or, set, Option, Some, None, refl, sym, ap, subst, ◌∙◌, arith, length-append, length-set, get_or-set_same, get_or-set_other}
 use Rattle.std.specs.Prelude.{nat_lt}
-use Rattle.std.specs.Option.{option_and_then}
 use Rattle.std.specs.List.{AllByRecursion}
 use Rattle.std.proofs.lemmas.Bool.{eq-eqb, eqb-true, ne_eqb, false≢true, ltb-true, ltb-false}
 use Rattle.std.proofs.lemmas.List.{append-nil}
@@ -23,22 +22,21 @@ use Rattle.txn_trace.specs.Sizes.{Sizes}
 use Rattle.txn_trace.specs.Plays.{PlayScripts}
 use Rattle.txn_drive.specs.declared.turn.Turn.{Turn}
 use Rattle.txn_drive.specs.declared.turn.Turn.TheVariants.{One, Two, Ended}
-use Rattle.txn_drive.specs.Drives.{step_of}
 use Rattle.txn_drive.specs.Turns.{TakesSecond}
 use Rattle.txn_trace.specs.Entries.{entries_of}
 use Rattle.boost_core.specs.Machine.{State, Move}
 use Rattle.boost_core.specs.Answers as core
 use Rattle.script_worker.specs.declared.task.Task.{Task}
 use Rattle.script_worker.specs.declared.worker.Worker.{Worker}
-use Rattle.script_worker.specs.declared.attempt.Outcome.{Outcome}
-use Rattle.script_worker.specs.Workers.{told_drive, told_by, sized_by, turn_by, step_by, IsReady, IsTurnBy, Working, TakesStep, TakesIn, TakesNext}
-use Rattle.script_worker.specs.Accounts.{Outcome as Told, AreAccounts, AreTrue, every, tolds_of}
+use Rattle.script_worker.specs.declared.attempt.Finish.{Finish}
+use Rattle.script_worker.specs.Workers.{told_drive, told_by, sized_by, turn_by, task_step, step_by, IsReady, IsTurnBy, Working, TakesStep, TakesIn, TakesNext}
+use Rattle.script_worker.specs.Accounts.{Outcome, AreAccounts, AreTrue, every, tolds_of}
 use Rattle.script_worker.specs.Keeps.{KeepsAt, Keeps}
 use Rattle.script_worker.proofs.Accounts.{true_plays}
 use Rattle.script_worker.proofs.Telling.{accounts_true}
 use Rattle.txn_drive.proofs.DriveLaws.{entries_callers}
 use Rattle.script_worker.proofs.Keeping.{told_keeps, told_on, sized_keeps}
-use Rattle.script_worker.proofs.Remaining.{keeps_told, told_same}
+use Rattle.script_worker.proofs.Remaining.{keeps_told}
 use Rattle.script_mix.specs.Crews.{IsMember, IsCrew, Goes}
 
 no_entries : (step : Step) (refusal : Refusal) → entries_of step (answers.Refused refusal) ≡ []
@@ -80,24 +78,23 @@ own-others w c h es other all = filter-append (λ e. caller_of e == c) h es ∙ 
 
 -- The step of a worker that keeps to its scripts is a step of its caller.
 step_mine : (tries workers : ℕ) (scripts : List (List Action)) (w : ℕ) (task : Option Task) (seen : List Entry) (step : Step) (answer : Answer)
-    → KeepsAt tries workers scripts w task seen → option_and_then (λ (task : Task). step_of task.drive) task ≡ Some step → AreOf w (entries_of step answer)
+    → KeepsAt tries workers scripts w task seen → task_step task ≡ Some step → AreOf w (entries_of step answer)
 step_mine tries workers scripts w None seen step answer keeps is = absurd (cc is)
 step_mine tries workers scripts w (Some task) seen step answer keeps is = subst (λ c. AreOf c (entries_of step answer)) keeps.caller (entries_callers task.drive step answer is)
 
 -- A worker's step.
-step_goes : (scripts : List (List Action)) (tries : ℕ) (old new : State) (before after : Worker) (step : Step) (answer : Answer) → Move old step answer new → step_by before ≡ Some step
-    → after.number ≡ before.number → after.limits ≡ before.limits → Keeps scripts tries before (own before.number old.history)
-    → (Keeps scripts tries before (own before.number old.history) → Keeps scripts tries after (own before.number old.history ++ entries_of step answer)) → Goes scripts tries old new before after
-step_goes scripts tries old new before after step answer move is number same keeps told =
+step_goes : (scripts : List (List Action)) (tries : ℕ) (old new : State) (before : Worker) (step : Step) (answer : Answer) → Move old step answer new → step_by before ≡ Some step
+    → Keeps scripts tries before (own before.number old.history) → Goes scripts tries old new before (told_by scripts tries before answer)
+step_goes scripts tries old new before step answer move is keeps =
     let es = entries_of step answer in
     let mine : AreOf before.number es = step_mine tries before.limits.callers scripts before.number before.task _ step answer keeps.at is in
     let history = move-history old new step answer move in
     record {
       limits = move-limits old new step answer move;
-      number = number;
-      same = same;
+      number = refl;
+      same = refl;
       others = λ c other. ap (own c) history ∙ own-others before.number c old.history es other mine;
-      keeps = subst (Keeps scripts tries after) (sym (ap (own before.number) history ∙ own-mine before.number old.history es mine) ∙ ap (λ w. own w new.history) (sym number)) (told keeps);
+      keeps = subst (Keeps scripts tries (told_by scripts tries before answer)) (sym (ap (own before.number) history ∙ own-mine before.number old.history es mine)) (told_keeps scripts tries before answer (own before.number old.history) step is keeps);
     }
 
 goes_then : (scripts : List (List Action)) (tries : ℕ) (a b c : State) (x y z : Worker) → Goes scripts tries a b x y → Goes scripts tries b c y z → Goes scripts tries a c x z
@@ -117,9 +114,7 @@ module _ (scripts : List (List Action)) (tries : ℕ) where
   one_goes : (old : Working State) (step : Step) (answer : Answer) (new : Working State) → step_by old.worker ≡ Some step → Keeps scripts tries old.worker (own old.worker.number old.taker.history)
       → Steps old step answer new → Goes scripts tries old.taker new.taker old.worker new.worker
   one_goes old step answer new is keeps takes =
-      subst (λ (w : Worker). Goes scripts tries old.taker new.taker old.worker w) (sym takes.told)
-      (step_goes scripts tries old.taker new.taker old.worker (told_by scripts tries old.worker answer) step answer takes.taken is (told_same scripts tries old.worker answer).0 (told_same scripts tries old.worker answer).1 keeps
-      (λ keeps. told_keeps scripts tries old.worker answer (own old.worker.number old.taker.history) step is keeps))
+      subst (λ (w : Worker). Goes scripts tries old.taker new.taker old.worker w) (sym takes.told) (step_goes scripts tries old.taker new.taker old.worker step answer takes.taken is keeps)
 
   second_goes : (old : Working State) (first second : Step) (answer : Answer) (between new : Working State) → step_by old.worker ≡ Some first → step_by (told_drive old.worker answers.Placed) ≡ Some second
       → Keeps scripts tries old.worker (own old.worker.number old.taker.history) → Steps old first answer between → TakesSecond Steps between second answer new
@@ -141,17 +136,17 @@ module _ (scripts : List (List Action)) (tries : ℕ) where
   turn_goes_in old (Some (Two first second)) new is keeps (answer, between, takes, then) = second_goes old first second answer between new is.0 is.1 keeps takes then
 
   -- A worker that has noted the table's size moves on as the worker itself does.
-  pub turn_goes : (size : ℕ) (old new : State) (before after : Worker) (outcome : Option Outcome) → IsTurnBy (sized_by size before) (turn_by (sized_by size before)) → Keeps scripts tries before (own before.number old.history)
-      → TakesNext Move size scripts tries old before outcome new after → Goes scripts tries old new before after
-  turn_goes size old new before after outcome is keeps takes =
-      let goes = turn_goes_in (record { taker = old; worker = sized_by size before; outcome = None }) (turn_by (sized_by size before)) (record { taker = new; worker = after; outcome = outcome }) is
+  pub turn_goes : (size : ℕ) (old new : State) (before after : Worker) (finish : Option Finish) → IsTurnBy (sized_by size before) (turn_by (sized_by size before)) → Keeps scripts tries before (own before.number old.history)
+      → TakesNext Move size scripts tries old before finish new after → Goes scripts tries old new before after
+  turn_goes size old new before after finish is keeps takes =
+      let goes = turn_goes_in (record { taker = old; worker = sized_by size before; finish = None }) (turn_by (sized_by size before)) (record { taker = new; worker = after; finish = finish }) is
       (sized_keeps size scripts tries before (own before.number old.history) keeps) takes.steps in
       record { limits = goes.limits; number = goes.number; same = goes.same; others = goes.others; keeps = goes.keeps }
 
 -- A turn at the size of the core's table.
-pub took : (scripts : List (List Action)) (tries size : ℕ) (old new : State) (before after : Worker) (outcome : Option Outcome) → size ≡ old.size
-    → TakesNext Move size scripts tries old before outcome new after → TakesNext Move old.size scripts tries old before outcome new after
-took scripts tries size old new before after outcome is takes = subst (λ n. TakesNext Move n scripts tries old before outcome new after) is takes
+pub took : (scripts : List (List Action)) (tries size : ℕ) (old new : State) (before after : Worker) (finish : Option Finish) → size ≡ old.size
+    → TakesNext Move size scripts tries old before finish new after → TakesNext Move old.size scripts tries old before finish new after
+took scripts tries size old new before after finish is takes = subst (λ n. TakesNext Move n scripts tries old before finish new after) is takes
 
 -- One member moves on, and the others are unchanged.
 pub crew_goes : (scripts : List (List Action)) (tries count w : ℕ) (old new : State) (crew : List Worker) (before after : Worker) → w < length crew → before ≡ get_or crew w before
@@ -215,7 +210,7 @@ crew_more scripts tries count crew worker member each w other less = elim (nat_l
 -- In a crew's history the outcomes of each worker's scripts are true, and its committed transactions
 -- play its scripts.
 pub crew_told : {rule : Holder} (limits : Sizes) (scripts : List (List Action)) (tries count stripes : ℕ) (h : List Entry) (crew : List Worker) → IsLegal rule stripes h → IsCrew scripts tries count h crew
-    → (c : ℕ) → c < count → (outcomes : List Told) × AreTrue c tries h (tolds_of (every count c scripts) outcomes)
+    → (c : ℕ) → c < count → (outcomes : List Outcome) × AreTrue c tries h (tolds_of (every count c scripts) outcomes)
 crew_told limits scripts tries count stripes h crew legal is c below =
     let nobody : Worker = record { number = 0; limits = limits; task = None } in
     let worker : Worker = get_or crew c nobody in

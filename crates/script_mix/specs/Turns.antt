@@ -6,7 +6,7 @@ use Rattle.txn_trace.specs.Sizes.{Sizes}
 use Rattle.txn_trace.specs.Work.{Work}
 use Rattle.boost_core.specs.Machine.{State, Move, start}
 use Rattle.script_worker.specs.declared.worker.Worker.{Worker}
-use Rattle.script_worker.specs.declared.attempt.Outcome.{Outcome}
+use Rattle.script_worker.specs.declared.attempt.Finish.{Finish}
 use Rattle.script_worker.specs.Workers.{new_worker, step_by, TakesNext}
 use Rattle.rand_core.specs.Pcg32Seed.{pcg32_seed}
 use Rattle.rand_pcg.specs.Lcg.{Lcg}
@@ -37,7 +37,7 @@ pub record IsAtPlace (workers : List Worker) (place number : ℕ) : Type 0 where
 -- A worker takes its next turn on the core, at the size of the core's table.
 abbrev pub TakesTurn : List (List Action) → ℕ → State → Worker → State → Worker → Type 0
 TakesTurn scripts tries old before new after =
-    (outcome : Option Outcome) × TakesNext Move old.size scripts tries old before outcome new after
+    (finish : Option Finish) × TakesNext Move old.size scripts tries old before finish new after
 
 -- A core, the workers that take turns on it, and the generator by which they are drawn.
 pub record Mixing : Type 0 where

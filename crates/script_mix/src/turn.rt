@@ -27,6 +27,6 @@ pub(crate) fn take_turn(
     ensures ready { IsReady worker.new }
 {
     let size = core.size();
-    let _outcome = worker.take_turn(size, scripts, tries, &mut |step| core.step(step));
+    let _finish = worker.take_turn(size, scripts, tries, &mut |step| core.step(step));
     worker.is_live()
 }

@@ -19,7 +19,7 @@ use Rattle.txn_trace.specs.History.{is_commit}
 use Rattle.txn_trace.specs.Shape.{how_many}
 use Rattle.txn_trace.specs.Plays.{without_undone, ArePlayed}
 use Rattle.script_worker.specs.Accounts.{CommitNothing, is_busy, replies_in, AreBusy, IsAccount}
-use Rattle.script_worker.specs.Chunks.{IsQuiet, txn_then, replies_then, outcome_by, IsFront, IsAtStage, IsChunk}
+use Rattle.script_worker.specs.Chunks.{Heard, IsQuiet, first_heard, txn_then, replies_then, heard_then, outcome_by, IsFront, IsAtStage, IsChunk}
 use Rattle.script_worker.proofs.Attempting.{quiet-append, busy_none, busy_more, busy_fewer, front_begun, front_more, front_committed}
 use Rattle.txn_drive.specs.declared.call.Call.{Call}
 use Rattle.txn_drive.specs.declared.call.Call.TheVariants as calls
@@ -31,9 +31,9 @@ use Rattle.script_worker.specs.declared.attempt.Stage.TheVariants.{Beginning, Ac
 use Rattle.script_worker.specs.declared.attempt.Attempt.{Attempt}
 use Rattle.script_worker.specs.declared.attempt.Progress.{Progress}
 use Rattle.script_worker.specs.declared.attempt.Progress.TheVariants.{Next, Over}
-use Rattle.script_worker.specs.declared.attempt.Outcome as attempts
-use Rattle.script_worker.specs.declared.attempt.Outcome.TheVariants as overs
-use Rattle.script_worker.specs.Attempts.{attempt_at, first_attempt, call_for, call_of, call_at, done_with, done_at, busy_at, refused_with, refused_in, refused_at, progress_at, progress_of}
+use Rattle.script_worker.specs.declared.attempt.Finish.{Finish}
+use Rattle.script_worker.specs.declared.attempt.Finish.TheVariants as finishes
+use Rattle.script_worker.specs.Attempts.{attempt_at, call_for, call_of, call_at, done_with, done_at, busy_at, refused_with, refused_in, refused_at, progress_at, progress_of}
 use Rattle.script_worker.proofs.Undoing.{undone_quiet, undone_replies, undone_busy, without_undone_by}
 
 -- The script from an action on.
@@ -50,17 +50,26 @@ none_left script i is = elim ((slice_get_cases script i).1) [
 ]
 
 -- A new chunk.
-pub chunk_begun : (c : ℕ) (script : List Action) (txn : ℕ) (replies : List (Option ℕ)) → IsChunk c script first_attempt txn replies []
-chunk_begun c script txn replies = record { before = []; part = []; whole = refl; busy = busy_none; at = refl }
+pub chunk_begun : (c : ℕ) (script : List Action) → IsChunk c script first_heard []
+chunk_begun c script = record { before = []; part = []; whole = refl; busy = busy_none; at = refl }
 
 -- The chunk after a call: of the same attempt, of the next one, or the account of the script.
-abbrev pub ChunkAfter : ℕ → ℕ → List Action → ℕ → List (Option ℕ) → List Entry → End → Progress → Type 0
-ChunkAfter c tries script txn replies chunk end (Next attempt) = IsChunk c script attempt (txn_then txn end) (replies_then replies end) chunk
-ChunkAfter c tries script txn replies chunk end (Over over) = IsAccount c tries script (outcome_by over end txn replies) chunk
+abbrev pub ChunkAfter : ℕ → ℕ → List Action → Heard → List Entry → End → Progress → Type 0
+ChunkAfter c tries script heard chunk end (Next attempt) = IsChunk c script (heard_then heard end attempt) chunk
+ChunkAfter c tries script heard chunk end (Over finish) = IsAccount c tries script (outcome_by finish end heard) chunk
 
-module _ (c tries : ℕ) (script : List Action) (again txn : ℕ) (replies : List (Option ℕ)) (before part : List Entry) (busy : AreBusy again before) where
+module _ (c tries : ℕ) (script : List Action) (heard : Heard) (before part : List Entry) (busy : AreBusy heard.attempt.again before) where
+  abbrev again : ℕ
+  again = heard.attempt.again
+
+  abbrev txn : ℕ
+  txn = heard.txn
+
+  abbrev replies : List (Option ℕ)
+  replies = heard.replies
+
   abbrev After : List Entry → End → Progress → Type 0
-  After added end progress = ChunkAfter c tries script txn replies (before ++ (part ++ added)) end progress
+  After added end progress = ChunkAfter c tries script heard (before ++ (part ++ added)) end progress
 
   all_quiet : (added : List Entry) → CommitNothing part → CommitNothing added → CommitNothing (before ++ (part ++ added))
   all_quiet added quiet silent = quiet-append before (part ++ added) busy.nothing (quiet-append part added quiet silent)
@@ -84,7 +93,7 @@ module _ (c tries : ℕ) (script : List Action) (again txn : ℕ) (replies : Lis
       more : AreBusy (again + 1) (before ++ (part ++ added))
       more = busy_more again before (part ++ added) busy (one_in added quiet one)
 
-      at : (b : Bool) → nat_lt again tries ≡ b → After added (ends.Busy x) (if b then Next (attempt_at (again + 1) Beginning) else Over overs.Busy)
+      at : (b : Bool) → nat_lt again tries ≡ b → After added (ends.Busy x) (if b then Next (attempt_at (again + 1) Beginning) else Over finishes.Busy)
       at true is = record { before = before ++ (part ++ added); part = []; whole = sym (append-nil (before ++ (part ++ added))); busy = more; at = refl }
       at false is = let past : tries ≤ again = ltb-false again tries is in busy_fewer (again + 1) (tries + 1) (before ++ (part ++ added)) (omega arith) more
 
@@ -124,9 +133,9 @@ module _ (c tries : ℕ) (script : List Action) (again txn : ℕ) (replies : Lis
 
   -- The commit.
   committed : (i : ℕ) (a : Answer) (added : List Entry) → slice_get script i ≡ None → IsMade c calls.Commit (ends.Answered a) added → IsFront c script (drop i script) txn replies part
-      → After added (ends.Answered a) (Over overs.Committed)
+      → After added (ends.Answered a) (Over finishes.Committed)
   committed i (answers.Committed place) added here made front =
-      subst (λ es. After es (ends.Answered (answers.Committed place)) (Over overs.Committed)) (sym made)
+      subst (λ es. After es (ends.Answered (answers.Committed place)) (Over finishes.Committed)) (sym made)
       (before, part ++ entries.Committed c place ∷ [], refl, busy.nothing, front_committed c script txn place replies part (subst (λ left. IsFront c script left txn replies part) (none_left script i here) front))
   committed i a added here made front = absurd made
 
@@ -140,11 +149,11 @@ module _ (c tries : ℕ) (script : List Action) (again txn : ℕ) (replies : Lis
   }
   begun a added made none = absurd made
 
-  left : (a : Answer) (refusal : Refusal) (added : List Entry) → IsMade c calls.Abort (ends.Answered a) added → CommitNothing part → After added (ends.Answered a) (Over (overs.Refused refusal))
+  left : (a : Answer) (refusal : Refusal) (added : List Entry) → IsMade c calls.Abort (ends.Answered a) added → CommitNothing part → After added (ends.Answered a) (Over (finishes.Refused refusal))
   left answers.Aborted refusal added made quiet = all_quiet added quiet (ap (filter is_commit) made.1 ∙ undone_quiet c made.0 (entries.Aborted c) refl)
   left a refusal added made quiet = absurd made
 
-  done_told : (stage : Stage) (a : Answer) (added : List Entry) → IsMade c (call_at script stage) (ends.Answered a) added → IsAtStage c script txn replies part stage → After added (ends.Answered a) (done_at script again stage)
+  done_told : (stage : Stage) (a : Answer) (added : List Entry) → IsMade c (call_at script stage) (ends.Answered a) added → IsAtStage c script heard part stage → After added (ends.Answered a) (done_at script again stage)
   done_told Beginning a added made at = begun a added made at
   done_told (Acting i) a added made at = by (slice_get script i) refl made
     where
@@ -159,7 +168,7 @@ module _ (c tries : ℕ) (script : List Action) (again txn : ℕ) (replies : Lis
   helped i (actions.Help key) added here made front = goes i (actions.Help key) ends.Helped [] added here made refl none_more refl (λ rest plays. plays) front
   helped i action added here made front = absurd made
 
-  helped_told : (stage : Stage) (added : List Entry) → IsMade c (call_at script stage) ends.Helped added → IsAtStage c script txn replies part stage → After added ends.Helped (done_at script again stage)
+  helped_told : (stage : Stage) (added : List Entry) → IsMade c (call_at script stage) ends.Helped added → IsAtStage c script heard part stage → After added ends.Helped (done_at script again stage)
   helped_told Beginning added made at = absurd made
   helped_told (Acting i) added made at = by (slice_get script i) refl made
     where
@@ -168,7 +177,7 @@ module _ (c tries : ℕ) (script : List Action) (again txn : ℕ) (replies : Lis
       by (Some action) here made = helped i action added here made at
   helped_told (Leaving refusal) added made at = absurd made
 
-  stage_quiet : (stage : Stage) → IsAtStage c script txn replies part stage → CommitNothing part
+  stage_quiet : (stage : Stage) → IsAtStage c script heard part stage → CommitNothing part
   stage_quiet Beginning at = ap (filter is_commit) at
   stage_quiet (Acting i) at = at.quiet
   stage_quiet (Leaving refusal) at = at
@@ -190,18 +199,18 @@ module _ (c tries : ℕ) (script : List Action) (again txn : ℕ) (replies : Lis
   refused_told stage OutOfStep added made silent quiet = all_quiet added quiet silent
   refused_told stage refusal added made silent quiet = refused_stage stage refusal added made quiet
 
-  told_at : (stage : Stage) (end : End) (added : List Entry) → IsMade c (call_at script stage) end added → IsQuiet end added → IsAtStage c script txn replies part stage → After added end (progress_at script tries again stage end)
+  told_at : (stage : Stage) (end : End) (added : List Entry) → IsMade c (call_at script stage) end added → IsQuiet end added → IsAtStage c script heard part stage → After added end (progress_at script tries again stage end)
   told_at stage (ends.Answered a) added made silent at = done_told stage a added made at
   told_at stage ends.Helped added made silent at = helped_told stage added made at
   told_at stage (ends.Busy x) added made silent at = after_busy x added (stage_quiet stage at) (busy_one (call_at script stage) x added made)
   told_at stage (ends.Refused refusal) added made silent at = refused_told stage refusal added made silent (stage_quiet stage at)
 
 -- One call of a script.
-pub after_call : (c tries : ℕ) (script : List Action) (attempt : Attempt) (txn : ℕ) (replies : List (Option ℕ)) (chunk added : List Entry) (end : End) → IsMade c (call_at script attempt.stage) end added → IsQuiet end added
-    → IsChunk c script attempt txn replies chunk → ChunkAfter c tries script txn replies (chunk ++ added) end (progress_of script tries attempt end)
-after_call c tries script attempt txn replies chunk added end made silent so_far =
-    subst (λ es. ChunkAfter c tries script txn replies es end (progress_of script tries attempt end)) (sym (ap (λ es. es ++ added) so_far.whole ∙ append_assoc so_far.before so_far.part added))
-    (told_at c tries script attempt.again txn replies so_far.before so_far.part so_far.busy attempt.stage end added made silent so_far.at)
+pub after_call : (c tries : ℕ) (script : List Action) (heard : Heard) (chunk added : List Entry) (end : End) → IsMade c (call_at script heard.attempt.stage) end added → IsQuiet end added → IsChunk c script heard chunk
+    → ChunkAfter c tries script heard (chunk ++ added) end (progress_of script tries heard.attempt end)
+after_call c tries script heard chunk added end made silent so_far =
+    subst (λ es. ChunkAfter c tries script heard es end (progress_of script tries heard.attempt end)) (sym (ap (λ es. es ++ added) so_far.whole ∙ append_assoc so_far.before so_far.part added))
+    (told_at c tries script heard so_far.before so_far.part so_far.busy heard.attempt.stage end added made silent so_far.at)
 
 -- An attempt continues only if it is not out of step.
 goes_quiet : (script : List Action) (tries : ℕ) (attempt next : Attempt) (end : End) (added : List Entry) → progress_of script tries attempt end ≡ Next next → IsQuiet end added
@@ -210,18 +219,17 @@ goes_quiet script tries attempt next end added is = tt
 
 -- After a call the attempt continues, or the next one follows; or the script is over, and the chunk
 -- is its account.
-pub chunk_goes : (c tries : ℕ) (script : List Action) (attempt next : Attempt) (txn : ℕ) (replies : List (Option ℕ)) (chunk added : List Entry) (end : End) → IsMade c (call_at script attempt.stage) end added
-    → progress_of script tries attempt end ≡ Next next → IsChunk c script attempt txn replies chunk → IsChunk c script next (txn_then txn end) (replies_then replies end) (chunk ++ added)
-chunk_goes c tries script attempt next txn replies chunk added end made is so_far =
-    subst (ChunkAfter c tries script txn replies (chunk ++ added) end) is (after_call c tries script attempt txn replies chunk added end made (goes_quiet script tries attempt next end added is) so_far)
+pub chunk_goes : (c tries : ℕ) (script : List Action) (heard : Heard) (next : Attempt) (chunk added : List Entry) (end : End) → IsMade c (call_at script heard.attempt.stage) end added
+    → progress_of script tries heard.attempt end ≡ Next next → IsChunk c script heard chunk → IsChunk c script (heard_then heard end next) (chunk ++ added)
+chunk_goes c tries script heard next chunk added end made is so_far =
+    subst (ChunkAfter c tries script heard (chunk ++ added) end) is (after_call c tries script heard chunk added end made (goes_quiet script tries heard.attempt next end added is) so_far)
 
 -- Before the end of its script a chunk commits nothing.
-pub chunk_quiet : (c : ℕ) (script : List Action) (attempt : Attempt) (txn : ℕ) (replies : List (Option ℕ)) (chunk : List Entry) → IsChunk c script attempt txn replies chunk → CommitNothing chunk
-chunk_quiet c script attempt txn replies chunk so_far =
-    subst CommitNothing (sym so_far.whole)
-    (quiet-append so_far.before so_far.part so_far.busy.nothing (stage_quiet c 0 script attempt.again txn replies so_far.before so_far.part so_far.busy attempt.stage so_far.at))
+pub chunk_quiet : (c : ℕ) (script : List Action) (heard : Heard) (chunk : List Entry) → IsChunk c script heard chunk → CommitNothing chunk
+chunk_quiet c script heard chunk so_far =
+    subst CommitNothing (sym so_far.whole) (quiet-append so_far.before so_far.part so_far.busy.nothing (stage_quiet c 0 script heard so_far.before so_far.part so_far.busy heard.attempt.stage so_far.at))
 
-pub chunk_over : (c tries : ℕ) (script : List Action) (attempt : Attempt) (over : attempts.Outcome) (txn : ℕ) (replies : List (Option ℕ)) (chunk added : List Entry) (end : End) → IsMade c (call_at script attempt.stage) end added
-    → IsQuiet end added → progress_of script tries attempt end ≡ Over over → IsChunk c script attempt txn replies chunk → IsAccount c tries script (outcome_by over end txn replies) (chunk ++ added)
-chunk_over c tries script attempt over txn replies chunk added end made silent is so_far =
-    subst (ChunkAfter c tries script txn replies (chunk ++ added) end) is (after_call c tries script attempt txn replies chunk added end made silent so_far)
+pub chunk_over : (c tries : ℕ) (script : List Action) (heard : Heard) (finish : Finish) (chunk added : List Entry) (end : End) → IsMade c (call_at script heard.attempt.stage) end added → IsQuiet end added
+    → progress_of script tries heard.attempt end ≡ Over finish → IsChunk c script heard chunk → IsAccount c tries script (outcome_by finish end heard) (chunk ++ added)
+chunk_over c tries script heard finish chunk added end made silent is so_far =
+    subst (ChunkAfter c tries script heard (chunk ++ added) end) is (after_call c tries script heard chunk added end made silent so_far)

@@ -16,7 +16,7 @@ use Rattle.txn_trace.specs.Sizes.{Sizes}
 use Rattle.txn_drive.specs.declared.call.Call.{Call}
 use Rattle.txn_drive.specs.declared.call.Call.TheVariants as calls
 use Rattle.txn_drive.specs.declared.«end».End.{End}
-use Rattle.txn_drive.specs.Drives.{step_of, sized_of, told_of, end_of, new_drive}
+use Rattle.txn_drive.specs.Drives.{sized_of, end_of, new_drive}
 use Rattle.txn_drive.specs.Made.{made, IsMade}
 use Rattle.txn_drive.proofs.DriveLaws.{goes_on, made_at_end, made-new, made-sized}
 use Rattle.txn_drive.proofs.MadeLemmas.{made-told_of}
@@ -24,11 +24,10 @@ use Rattle.script_worker.specs.declared.attempt.Stage.TheVariants.{Beginning}
 use Rattle.script_worker.specs.declared.attempt.Progress.{Progress}
 use Rattle.script_worker.specs.declared.attempt.Progress.TheVariants.{Next, Over}
 use Rattle.script_worker.specs.declared.task.Task.{Task}
-use Rattle.script_worker.specs.declared.standing.Standing.{Standing}
 use Rattle.script_worker.specs.Accounts.{Outcome, AreAccounts, every, tolds_of}
 use Rattle.script_worker.specs.Attempts.{attempt_at, call_at, progress_of}
-use Rattle.script_worker.specs.Chunks.{txn_then, replies_then, outcome_by}
-use Rattle.script_worker.specs.Workers.{new_worker, started, with_drive_in, followed, progressed, settled_in, settled_at, settled, told_drive, told_by, sized_by, step_by}
+use Rattle.script_worker.specs.Chunks.{Heard, heard_at, txn_then, replies_then, outcome_by}
+use Rattle.script_worker.specs.Workers.{Standing, new_worker, started, with_drive, followed, progressed, settled_in, settled, drive_told, told_drive, told_by, sized_by, task_step, step_by}
 use Rattle.script_worker.specs.Keeps.{KeepsTask, KeepsAt, Keeps}
 use Rattle.script_worker.proofs.Accounts.{account_more, no_account}
 use Rattle.script_worker.proofs.Chunks.{ChunkAfter, after_call, chunk_begun}
@@ -55,15 +54,15 @@ module _ (tries workers : ℕ) (half : Bool) (scripts : List (List Action)) (w :
         told = told;
         txn = 0;
         replies = [];
-        so_far = chunk_begun w (get_or scripts n []) 0 [];
+        so_far = chunk_begun w (get_or scripts n []);
       }
       at false is = (outcomes, told)
 
   -- An answer that the drive is told, and the table's size.
-  pub task_told : (task : Option Task) (step : Step) (answer : Answer) (seen : List Entry) → option_and_then (λ task. step_of task.drive) task ≡ Some step → KeepsAt tries workers scripts w task seen
-      → KeepsAt tries workers scripts w (with_drive_in (λ drive. told_of drive answer) task) (seen ++ entries_of step answer)
-  task_told None step answer seen is at = absurd (cc is)
-  task_told (Some task) step answer seen is at = record {
+  drive_keeps : (task : Option Task) (step : Step) (answer : Answer) (seen : List Entry) → task_step task ≡ Some step → KeepsAt tries workers scripts w task seen
+      → KeepsAt tries workers scripts w (drive_told task answer) (seen ++ entries_of step answer)
+  drive_keeps None step answer seen is at = absurd (cc is)
+  drive_keeps (Some task) step answer seen is at = record {
     outcomes = at.outcomes;
     number = at.number;
     script = at.script;
@@ -81,7 +80,7 @@ module _ (tries workers : ℕ) (half : Bool) (scripts : List (List Action)) (w :
     so_far = at.so_far;
   }
 
-  pub task_sized : (size : ℕ) (task : Option Task) (seen : List Entry) → KeepsAt tries workers scripts w task seen → KeepsAt tries workers scripts w (with_drive_in (sized_of size) task) seen
+  task_sized : (size : ℕ) (task : Option Task) (seen : List Entry) → KeepsAt tries workers scripts w task seen → KeepsAt tries workers scripts w (with_drive (sized_of size) task) seen
   task_sized size None seen at = at
   task_sized size (Some task) seen at = record {
     outcomes = at.outcomes;
@@ -100,21 +99,21 @@ module _ (tries workers : ℕ) (half : Bool) (scripts : List (List Action)) (w :
   }
 
 -- The call of a task has ended.
-module _ (scripts : List (List Action)) (tries : ℕ) (worker : Standing) (below : worker.number < worker.limits.callers) (task : Task) (outcome : End) (seen : List Entry) (ended : end_of task.drive ≡ Some outcome)
-    (at : KeepsTask tries worker.limits.callers scripts worker.number task seen) where
-  abbrev w : ℕ
-  w = worker.number
-
+module _ (scripts : List (List Action)) (tries w : ℕ) (limits : Sizes) (below : w < limits.callers) (task : Task) (outcome : End) (seen : List Entry) (ended : end_of task.drive ≡ Some outcome)
+    (at : KeepsTask tries limits.callers scripts w task seen) where
   abbrev workers : ℕ
-  workers = worker.limits.callers
+  workers = limits.callers
 
   made_is : IsMade w (call_at at.script task.attempt.stage) outcome (made task.drive)
   made_is = subst (λ c. IsMade c (call_at at.script task.attempt.stage) outcome (made task.drive)) at.caller (subst (λ (call : Call). IsMade task.drive.caller call outcome (made task.drive)) at.call (made_at_end task.drive outcome ended))
 
-  after : ChunkAfter w tries at.script at.txn at.replies (at.chunk ++ made task.drive) outcome (progress_of at.script tries task.attempt outcome)
-  after = after_call w tries at.script task.attempt at.txn at.replies at.chunk (made task.drive) outcome made_is (ended_quiet task.drive outcome ended) at.so_far
+  abbrev heard : Heard
+  heard = heard_at task.attempt at.txn at.replies
 
-  follows : (p : Progress) → ChunkAfter w tries at.script at.txn at.replies (at.chunk ++ made task.drive) outcome p → KeepsAt tries workers scripts w (followed scripts worker task at.script p) seen
+  after : ChunkAfter w tries at.script heard (at.chunk ++ made task.drive) outcome (progress_of at.script tries task.attempt outcome)
+  after = after_call w tries at.script heard at.chunk (made task.drive) outcome made_is (ended_quiet task.drive outcome ended) at.so_far
+
+  follows : (p : Progress) → ChunkAfter w tries at.script heard (at.chunk ++ made task.drive) outcome p → KeepsAt tries workers scripts w (followed scripts w limits task at.script p) seen
   follows (Next attempt) chunk = record {
     outcomes = at.outcomes;
     number = at.number;
@@ -126,52 +125,45 @@ module _ (scripts : List (List Action)) (tries : ℕ) (worker : Standing) (below
     chunk = at.chunk ++ made task.drive;
     entries =
         at.entries ∙ ap (λ es. at.earlier ++ es) (sym (append-nil (at.chunk ++ made task.drive)))
-        ∙ ap (λ es. at.earlier ++ ((at.chunk ++ made task.drive) ++ es)) (sym (made-new worker.limits.half w (call_at at.script attempt.stage)));
+        ∙ ap (λ es. at.earlier ++ ((at.chunk ++ made task.drive) ++ es)) (sym (made-new limits.half w (call_at at.script attempt.stage)));
     told = at.told;
     txn = txn_then at.txn outcome;
     replies = replies_then at.replies outcome;
     so_far = chunk;
   }
   follows (Over over) account =
-      let told = outcome_by over outcome at.txn at.replies in
+      let told = outcome_by over outcome heard in
       let some : 0 < workers = omega (arith, below) in
       let here = get-every workers some scripts w (length at.outcomes) ∙ ap (slice_get scripts) (sym at.number) ∙ at.there in
       let longer : length (at.outcomes ++ told ∷ []) ≡ suc (length at.outcomes) = let n = length-append at.outcomes (told ∷ []) in omega (arith, n) in
       let more : suc (length at.outcomes) * workers ≡ length at.outcomes * workers + workers = suc-mul (length at.outcomes) workers in
       let number : task.script + workers ≡ w + suc (length at.outcomes) * workers = let now = at.number in omega (arith, more, now) in
-      keeps_started tries workers worker.limits.half scripts w (at.outcomes ++ told ∷ []) (task.script + workers) seen (number ∙ ap (λ n. w + n * workers) (sym longer))
+      keeps_started tries workers limits.half scripts w (at.outcomes ++ told ∷ []) (task.script + workers) seen (number ∙ ap (λ n. w + n * workers) (sym longer))
       (subst (AreAccounts w tries (tolds_of (every workers w scripts) (at.outcomes ++ told ∷ []))) (sym at.entries)
       (account_more w tries (every workers w scripts) at.outcomes at.script told at.earlier (at.chunk ++ made task.drive) here at.told account))
 
-  progressed_keeps : KeepsAt tries workers scripts w (progressed scripts tries worker task outcome) seen
+  progressed_keeps : KeepsAt tries workers scripts w (progressed scripts tries w limits task outcome) seen
   progressed_keeps =
-      subst (λ o. KeepsAt tries workers scripts w (option_and_then (λ script. followed scripts worker task script (progress_of script tries task.attempt outcome)) o) seen) (sym at.there)
+      subst (λ o. KeepsAt tries workers scripts w (option_and_then (λ script. followed scripts w limits task script (progress_of script tries task.attempt outcome)) o) seen) (sym at.there)
       (follows (progress_of at.script tries task.attempt outcome) after)
 
-settled_in_keeps : (scripts : List (List Action)) (tries : ℕ) (worker : Standing) (below : worker.number < worker.limits.callers) (task : Task) (seen : List Entry) (o : Option End) → end_of task.drive ≡ o → worker.task ≡ Some task
-    → KeepsTask tries worker.limits.callers scripts worker.number task seen → Keeps scripts tries (settled_in scripts tries worker task o) seen
-settled_in_keeps scripts tries worker below task seen None ended is at = record { number = below; at = subst (λ o. KeepsAt tries worker.limits.callers scripts worker.number o seen) (sym is) at }
-settled_in_keeps scripts tries worker below task seen (Some outcome) ended is at = record { number = below; at = progressed_keeps scripts tries worker below task outcome seen ended at }
+-- The task of a worker that moves on keeps to its scripts.
+module _ (scripts : List (List Action)) (tries w : ℕ) (limits : Sizes) (below : w < limits.callers) (seen : List Entry) where
+  settled_in_keeps : (task : Task) (o : Option End) → end_of task.drive ≡ o → KeepsTask tries limits.callers scripts w task seen → KeepsAt tries limits.callers scripts w (settled_in scripts tries w limits task o) seen
+  settled_in_keeps task None ended at = at
+  settled_in_keeps task (Some outcome) ended at = progressed_keeps scripts tries w limits below task outcome seen ended at
 
-settled_at_keeps : (scripts : List (List Action)) (tries : ℕ) (worker : Standing) (below : worker.number < worker.limits.callers) (seen : List Entry) (o : Option Task) → worker.task ≡ o
-    → KeepsAt tries worker.limits.callers scripts worker.number o seen → Keeps scripts tries (settled_at scripts tries worker o) seen
-settled_at_keeps scripts tries worker below seen None is at = record { number = below; at = subst (λ o. KeepsAt tries worker.limits.callers scripts worker.number o seen) (sym is) at }
-settled_at_keeps scripts tries worker below seen (Some task) is at = settled_in_keeps scripts tries worker below task seen (end_of task.drive) refl is at
-
--- A worker that moves on keeps to its scripts.
-settled_keeps : (scripts : List (List Action)) (tries : ℕ) (worker : Standing) (seen : List Entry) → Keeps scripts tries worker seen → Keeps scripts tries (settled scripts tries worker) seen
-settled_keeps scripts tries worker seen keeps = settled_at_keeps scripts tries worker keeps.number seen worker.task refl keeps.at
+  settled_keeps : (task : Option Task) → KeepsAt tries limits.callers scripts w task seen → KeepsAt tries limits.callers scripts w (settled scripts tries w limits task) seen
+  settled_keeps None at = at
+  settled_keeps (Some task) at = settled_in_keeps task (end_of task.drive) refl at
 
 -- A worker that is told an answer keeps to its scripts.
 pub told_keeps : (scripts : List (List Action)) (tries : ℕ) (worker : Standing) (answer : Answer) (seen : List Entry) (step : Step) → step_by worker ≡ Some step → Keeps scripts tries worker seen
     → Keeps scripts tries (told_by scripts tries worker answer) (seen ++ entries_of step answer)
 told_keeps scripts tries worker answer seen step is keeps =
-    let es : List Entry = seen ++ entries_of step answer in
-    let told : Keeps scripts tries (told_drive worker answer) es = record {
-      number = keeps.number;
-      at = task_told tries worker.limits.callers worker.limits.half scripts worker.number worker.task step answer seen is keeps.at;
-    } in
-    settled_keeps scripts tries _ es (settled_keeps scripts tries _ es told)
+    let settles = settled_keeps scripts tries worker.number worker.limits keeps.number (seen ++ entries_of step answer) in
+    let told = drive_keeps tries worker.limits.callers worker.limits.half scripts worker.number worker.task step answer seen is keeps.at in
+    record { number = keeps.number; at = settles _ (settles _ told) }
 
 pub sized_keeps : (size : ℕ) (scripts : List (List Action)) (tries : ℕ) (worker : Standing) (seen : List Entry) → Keeps scripts tries worker seen → Keeps scripts tries (sized_by size worker) seen
 sized_keeps size scripts tries worker seen keeps = record { number = keeps.number; at = task_sized tries worker.limits.callers worker.limits.half scripts worker.number size worker.task seen keeps.at }
@@ -181,13 +173,14 @@ new_keeps scripts tries w limits below =
     let first : w ≡ w + 0 * limits.callers = omega arith in
     record { number = below; at = keeps_started tries limits.callers limits.half scripts w [] w [] first (no_account w tries (every limits.callers w scripts)) }
 
--- A worker with a step to take is unchanged.
-stays : (scripts : List (List Action)) (tries : ℕ) (worker : Standing) (step : Step) (o : Option Task) → option_and_then (λ (task : Task). step_of task.drive) o ≡ Some step → settled_at scripts tries worker o ≡ worker
-stays scripts tries worker step None is = absurd (cc is)
-stays scripts tries worker step (Some task) is = ap (settled_in scripts tries worker task) (goes_on task.drive step is)
+-- A task with a step to take is unchanged.
+stays : (scripts : List (List Action)) (tries w : ℕ) (limits : Sizes) (step : Step) (task : Option Task) → task_step task ≡ Some step → settled scripts tries w limits task ≡ task
+stays scripts tries w limits step None is = refl
+stays scripts tries w limits step (Some task) is = ap (settled_in scripts tries w limits task) (goes_on task.drive step is)
 
 pub told_on : (scripts : List (List Action)) (tries : ℕ) (worker : Standing) (answer : Answer) (step : Step) → step_by (told_drive worker answer) ≡ Some step → told_by scripts tries worker answer ≡ told_drive worker answer
 told_on scripts tries worker answer step is =
-    let told : Standing = told_drive worker answer in
-    let once : settled scripts tries told ≡ told = stays scripts tries told step told.task is in
-    ap (settled scripts tries) once ∙ once
+    let told : Option Task = drive_told worker.task answer in
+    let with_task : Option Task → Standing = λ o. record { number = worker.number; limits = worker.limits; task = o } in
+    let once : settled scripts tries worker.number worker.limits told ≡ told = stays scripts tries worker.number worker.limits step told is in
+    ap with_task (ap (settled scripts tries worker.number worker.limits) once ∙ once)

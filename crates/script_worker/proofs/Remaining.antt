@@ -1,23 +1,18 @@
--- The accounts of a worker that keeps to its scripts, and the parts of a worker that no answer
--- changes.
+-- The accounts of a worker that keeps to its scripts.
 use Rattle.std.proofs.Common.{◌≡◌, ℕ, ◌<◌, true, List, [], ◌∷◌, ◌++◌, length, Option, Some, None, is_some, refl, sym, ap, subst, ◌∙◌, arith}
 use Rattle.std.specs.List.{slice_get}
-use Rattle.std.specs.Option.{option_and_then}
 use Rattle.txn_trace.specs.declared.action.Action.{Action}
-use Rattle.txn_trace.specs.declared.answer.Answer.{Answer}
 use Rattle.txn_trace.specs.declared.entry.Entry.{Entry}
 use Rattle.txn_trace.specs.declared.step.Step.{Step}
-use Rattle.txn_drive.specs.declared.drive.Drive.{Drive}
-use Rattle.txn_drive.specs.declared.«end».End.{End}
-use Rattle.txn_drive.specs.Drives.{end_of, sized_of, step_of}
+use Rattle.txn_drive.specs.Drives.{step_of}
 use Rattle.txn_drive.specs.Made.{made}
 use Rattle.txn_drive.proofs.DriveLaws.{goes_on}
 use Rattle.txn_drive.proofs.Quiet.{going_quiet}
 use Rattle.script_worker.specs.declared.task.Task.{Task}
-use Rattle.script_worker.specs.declared.standing.Standing.{Standing}
 use Rattle.script_worker.specs.Accounts as accounts
 use Rattle.script_worker.specs.Accounts.{CommitNothing, Outcome, AreAccounts, every, tolds_of}
-use Rattle.script_worker.specs.Workers.{settled_in, settled_at, settled, with_drive_in, told_drive, told_by, sized_by, IsReady}
+use Rattle.script_worker.specs.Chunks.{heard_at}
+use Rattle.script_worker.specs.Workers.{Standing, IsReadyTask, IsReady}
 use Rattle.script_worker.specs.Keeps.{KeepsAt, Keeps}
 use Rattle.script_worker.proofs.Accounts.{account_more}
 use Rattle.script_worker.proofs.Attempting.{quiet-append}
@@ -31,13 +26,13 @@ module _ (tries workers : ℕ) (scripts : List (List Action)) (w : ℕ) (below :
   open_quiet task None is some = absurd (cc some)
   open_quiet task (Some step) is some = going_quiet task.drive (goes_on task.drive step is)
 
-  at_told : (task : Option Task) (seen : List Entry) → is_some (option_and_then (λ (task : Task). step_of task.drive) task) ≡ is_some task → KeepsAt tries workers scripts w task seen
+  at_told : (task : Option Task) (seen : List Entry) → IsReadyTask task → KeepsAt tries workers scripts w task seen
       → (outcomes : List Outcome) × AreAccounts w tries (tolds_of (every workers w scripts) outcomes) seen
   at_told None seen ready at = at
   at_told (Some task) seen ready at =
       let some : 0 < workers = omega (arith, below) in
       let here = get-every workers some scripts w (length at.outcomes) ∙ ap (slice_get scripts) (sym at.number) ∙ at.there in
-      let quiet : CommitNothing (at.chunk ++ made task.drive) = quiet-append at.chunk (made task.drive) (chunk_quiet w at.script task.attempt at.txn at.replies at.chunk at.so_far) (open_quiet task (step_of task.drive) refl ready) in (
+      let quiet : CommitNothing (at.chunk ++ made task.drive) = quiet-append at.chunk (made task.drive) (chunk_quiet w at.script (heard_at task.attempt at.txn at.replies) at.chunk at.so_far) (open_quiet task (step_of task.drive) refl ready) in (
         at.outcomes ++ accounts.Aborted ∷ [],
         subst (AreAccounts w tries (tolds_of (every workers w scripts) (at.outcomes ++ accounts.Aborted ∷ []))) (sym at.entries)
             (account_more w tries (every workers w scripts) at.outcomes at.script accounts.Aborted at.earlier (at.chunk ++ made task.drive) here at.told quiet),
@@ -46,29 +41,3 @@ module _ (tries workers : ℕ) (scripts : List (List Action)) (w : ℕ) (below :
 pub keeps_told : (scripts : List (List Action)) (tries : ℕ) (worker : Standing) (seen : List Entry) → IsReady worker → Keeps scripts tries worker seen
     → (outcomes : List Outcome) × AreAccounts worker.number tries (tolds_of (every worker.limits.callers worker.number scripts) outcomes) seen
 keeps_told scripts tries worker seen ready keeps = at_told tries worker.limits.callers scripts worker.number keeps.number worker.task seen ready keeps.at
-
--- The worker whose drive has noted the table's size.
-pub sized_is : (size : ℕ) (worker : Standing) (task : Task) (drive : Drive) → worker.task ≡ Some task → drive ≡ sized_of size task.drive
-    → sized_by size worker ≡ record { number = worker.number; limits = worker.limits; task = Some (record { script = task.script; attempt = task.attempt; drive = drive }) }
-sized_is size worker task drive is drive_is =
-    let with_task : Option Task → Standing = λ o. record { number = worker.number; limits = worker.limits; task = o } in
-    ap (λ o. with_task (with_drive_in (sized_of size) o)) is ∙ ap (λ d. with_task (Some (record { script = task.script; attempt = task.attempt; drive = d }))) (sym drive_is)
-
--- The number and the limits of a worker are unchanged.
-abbrev IsSameOne : Standing → Standing → Type 0
-IsSameOne after before = (after.number ≡ before.number) × (after.limits ≡ before.limits)
-
-settled_in_same : (scripts : List (List Action)) (tries : ℕ) (worker : Standing) (task : Task) (o : Option End) → IsSameOne (settled_in scripts tries worker task o) worker
-settled_in_same scripts tries worker task None = (refl, refl)
-settled_in_same scripts tries worker task (Some outcome) = (refl, refl)
-
-settled_same : (scripts : List (List Action)) (tries : ℕ) (worker : Standing) (o : Option Task) → IsSameOne (settled_at scripts tries worker o) worker
-settled_same scripts tries worker None = (refl, refl)
-settled_same scripts tries worker (Some task) = settled_in_same scripts tries worker task (end_of task.drive)
-
-pub told_same : (scripts : List (List Action)) (tries : ℕ) (worker : Standing) (answer : Answer) → IsSameOne (told_by scripts tries worker answer) worker
-told_same scripts tries worker answer =
-    let told : Standing = told_drive worker answer in
-    let once = settled_same scripts tries told told.task in
-    let twice = settled_same scripts tries (settled scripts tries told) (settled scripts tries told).task in
-    (twice.0 ∙ once.0, twice.1 ∙ once.1)

@@ -11,7 +11,7 @@ use Rattle.txn_drive.specs.declared.«end».End.TheVariants as ends
 use Rattle.script_worker.specs.declared.attempt.Stage.{Stage}
 use Rattle.script_worker.specs.declared.attempt.Stage.TheVariants.{Beginning, Acting, Leaving}
 use Rattle.script_worker.specs.declared.attempt.Attempt.{Attempt}
-use Rattle.script_worker.specs.declared.attempt.Outcome.TheVariants as outcomes
+use Rattle.script_worker.specs.declared.attempt.Finish.TheVariants as finishes
 use Rattle.script_worker.specs.declared.attempt.Progress.{Progress}
 use Rattle.script_worker.specs.declared.attempt.Progress.TheVariants.{Next, Over}
 
@@ -44,34 +44,34 @@ call_at script (Leaving refusal) = calls.Abort
 -- The next action follows one that is done; after an abort, and after the commit, the script is
 -- over.
 abbrev pub done_with : ℕ → ℕ → Option Action → Progress
-done_with again i None = Over outcomes.Committed
-done_with again i (Some actions.Abort) = Over outcomes.Aborted
+done_with again i None = Over finishes.Committed
+done_with again i (Some actions.Abort) = Over finishes.Aborted
 done_with again i (Some action) = Next (attempt_at again (Acting (i + 1)))
 
 -- The progress after a call that is done.
 abbrev pub done_at : List Action → ℕ → Stage → Progress
 done_at script again Beginning = Next (attempt_at again (Acting 0))
 done_at script again (Acting i) = done_with again i (slice_get script i)
-done_at script again (Leaving refusal) = Over (outcomes.Refused refusal)
+done_at script again (Leaving refusal) = Over (finishes.Refused refusal)
 
 -- After a busy stripe the script is attempted again, if fewer than `tries` attempts were repeated.
 abbrev pub busy_at : ℕ → ℕ → Progress
 busy_at tries again =
-    if nat_lt again tries then Next (attempt_at (again + 1) Beginning) else Over outcomes.Busy
+    if nat_lt again tries then Next (attempt_at (again + 1) Beginning) else Over finishes.Busy
 
 -- After a refused action the transaction is aborted; a refused abort or commit ends the script.
 abbrev pub refused_with : ℕ → Option Action → Refusal → Progress
-refused_with again None refusal = Over (outcomes.Refused refusal)
-refused_with again (Some actions.Abort) refusal = Over (outcomes.Refused refusal)
+refused_with again None refusal = Over (finishes.Refused refusal)
+refused_with again (Some actions.Abort) refusal = Over (finishes.Refused refusal)
 refused_with again (Some action) refusal = Next (attempt_at again (Leaving refusal))
 
 abbrev pub refused_in : List Action → ℕ → Stage → Refusal → Progress
 refused_in script again (Acting i) refusal = refused_with again (slice_get script i) refusal
-refused_in script again stage refusal = Over (outcomes.Refused refusal)
+refused_in script again stage refusal = Over (finishes.Refused refusal)
 
 -- The progress after a refused call. An answer that no rule foresees ends the script at once.
 abbrev pub refused_at : List Action → ℕ → Stage → Refusal → Progress
-refused_at script again stage OutOfStep = Over (outcomes.Refused OutOfStep)
+refused_at script again stage OutOfStep = Over (finishes.Refused OutOfStep)
 refused_at script again stage refusal = refused_in script again stage refusal
 
 -- The progress after the call of a stage, by its end.

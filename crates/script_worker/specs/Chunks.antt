@@ -11,8 +11,9 @@ use Rattle.txn_drive.specs.declared.«end».End.TheVariants as ends
 use Rattle.script_worker.specs.declared.attempt.Stage.{Stage}
 use Rattle.script_worker.specs.declared.attempt.Stage.TheVariants.{Beginning, Acting, Leaving}
 use Rattle.script_worker.specs.declared.attempt.Attempt.{Attempt}
-use Rattle.script_worker.specs.declared.attempt.Outcome as attempts
-use Rattle.script_worker.specs.declared.attempt.Outcome.TheVariants as overs
+use Rattle.script_worker.specs.declared.attempt.Finish.{Finish}
+use Rattle.script_worker.specs.declared.attempt.Finish.TheVariants as finishes
+use Rattle.script_worker.specs.Attempts.{first_attempt}
 use Rattle.script_worker.specs.Accounts as accounts
 use Rattle.script_worker.specs.Accounts.{CommitNothing, Outcome, replies_in, AreBusy}
 
@@ -21,7 +22,20 @@ abbrev pub IsQuiet : End → List Entry → Type 0
 IsQuiet (ends.Refused OutOfStep) added = CommitNothing added
 IsQuiet outcome added = Unit {0}
 
--- The transaction and the replies of an attempt after a call.
+-- An attempt with what its caller has been told: the number of its transaction, and the replies of
+-- its operations.
+pub record Heard : Type 0 where
+  pub attempt : Attempt
+  pub txn : ℕ
+  pub replies : List (Option ℕ)
+
+abbrev pub heard_at : Attempt → ℕ → List (Option ℕ) → Heard
+heard_at attempt txn replies = record { attempt = attempt; txn = txn; replies = replies }
+
+abbrev pub first_heard : Heard
+first_heard = heard_at first_attempt 0 []
+
+-- The transaction and the replies after a call with this end.
 abbrev pub txn_then : ℕ → End → ℕ
 txn_then txn (ends.Answered (answers.Began t)) = t
 txn_then txn outcome = txn
@@ -31,14 +45,19 @@ replies_then replies (ends.Answered (answers.Began t)) = []
 replies_then replies (ends.Answered (answers.Done reply)) = replies ++ reply ∷ []
 replies_then replies outcome = replies
 
+-- The next attempt, or the next stage of this one, after a call with this end.
+abbrev pub heard_then : Heard → End → Attempt → Heard
+heard_then heard outcome next =
+    heard_at next (txn_then heard.txn outcome) (replies_then heard.replies outcome)
+
 -- The outcome of a script whose attempt is over, with this end of the last call.
-abbrev pub outcome_by : attempts.Outcome → End → ℕ → List (Option ℕ) → Outcome
-outcome_by overs.Committed (ends.Answered (answers.Committed place)) txn replies =
-    accounts.Committed txn place replies
-outcome_by overs.Committed outcome txn replies = accounts.Refused OutOfStep
-outcome_by overs.Aborted outcome txn replies = accounts.Aborted
-outcome_by overs.Busy outcome txn replies = accounts.Busy
-outcome_by (overs.Refused refusal) outcome txn replies = accounts.Refused refusal
+abbrev pub outcome_by : Finish → End → Heard → Outcome
+outcome_by finishes.Committed (ends.Answered (answers.Committed place)) heard =
+    accounts.Committed heard.txn place heard.replies
+outcome_by finishes.Committed outcome heard = accounts.Refused OutOfStep
+outcome_by finishes.Aborted outcome heard = accounts.Aborted
+outcome_by finishes.Busy outcome heard = accounts.Busy
+outcome_by (finishes.Refused refusal) outcome heard = accounts.Refused refusal
 
 -- The entries of a transaction that has played the script up to the actions `left`, with these
 -- replies.
@@ -51,17 +70,18 @@ pub record IsFront (c : ℕ) (script left : List Action) (txn : ℕ) (replies : 
   pub goes : (rest : List Entry) → ArePlayed left rest → IsPlayed script (without_undone es ++ rest)
 
 -- The entries of the present attempt, at a stage.
-abbrev pub IsAtStage : ℕ → List Action → ℕ → List (Option ℕ) → List Entry → Stage → Type 0
-IsAtStage c script txn replies part Beginning = part ≡ []
-IsAtStage c script txn replies part (Acting i) = IsFront c script (drop i script) txn replies part
-IsAtStage c script txn replies part (Leaving refusal) = CommitNothing part
+abbrev pub IsAtStage : ℕ → List Action → Heard → List Entry → Stage → Type 0
+IsAtStage c script heard part Beginning = part ≡ []
+IsAtStage c script heard part (Acting i) =
+    IsFront c script (drop i script) heard.txn heard.replies part
+IsAtStage c script heard part (Leaving refusal) = CommitNothing part
 
 -- The entries since the script began: those of the attempts that found a stripe held, and those of
 -- the present one.
-pub record IsChunk (c : ℕ) (script : List Action) (attempt : Attempt) (txn : ℕ)
-    (replies : List (Option ℕ)) (chunk : List Entry) : Type 0 where
-  pub before : List Entry
-  pub part : List Entry
-  pub whole : chunk ≡ before ++ part
-  pub busy : AreBusy attempt.again before
-  pub at : IsAtStage c script txn replies part attempt.stage
+pub record IsChunk (c : ℕ) (script : List Action) (heard : Heard) (chunk : List Entry) : Type 0
+  where
+    pub before : List Entry
+    pub part : List Entry
+    pub whole : chunk ≡ before ++ part
+    pub busy : AreBusy heard.attempt.again before
+    pub at : IsAtStage c script heard part heard.attempt.stage

@@ -4,10 +4,10 @@ use Rattle.txn_trace.specs.declared.action.Action.{Action}
 use Rattle.txn_trace.specs.declared.entry.Entry.{Entry}
 use Rattle.txn_drive.specs.Made.{made}
 use Rattle.script_worker.specs.declared.task.Task.{Task}
-use Rattle.script_worker.specs.declared.standing.Standing.{Standing}
 use Rattle.script_worker.specs.Accounts.{Outcome, AreAccounts, every, tolds_of}
 use Rattle.script_worker.specs.Attempts.{call_at}
-use Rattle.script_worker.specs.Chunks.{IsChunk}
+use Rattle.script_worker.specs.Chunks.{heard_at, IsChunk}
+use Rattle.script_worker.specs.Workers.{Standing}
 
 -- The worker is at this script, which is one of its scripts: its entries are the accounts of its
 -- scripts before this one, then those of the calls of this one that have ended, and then those of
@@ -26,7 +26,7 @@ pub record KeepsTask (tries workers : ℕ) (scripts : List (List Action)) (w : �
   pub told : AreAccounts w tries (tolds_of (every workers w scripts) outcomes) earlier
   pub txn : ℕ
   pub replies : List (Option ℕ)
-  pub so_far : IsChunk w script task.attempt txn replies chunk
+  pub so_far : IsChunk w script (heard_at task.attempt txn replies) chunk
 
 -- If no script is left, the entries are the accounts of the worker's scripts.
 abbrev pub KeepsAt : ℕ → ℕ → List (List Action) → ℕ → Option Task → List Entry → Type 0

@@ -13,12 +13,18 @@ use Rattle.txn_drive.specs.declared.turn.Turn.{Turn}
 use Rattle.txn_drive.specs.declared.turn.Turn.TheVariants.{One, Two, Ended}
 use Rattle.txn_drive.specs.Drives.{new_drive, sized_of, turn_of, told_of, step_of, end_of}
 use Rattle.txn_drive.specs.Turns.{TakesTurn}
-use Rattle.script_worker.specs.declared.attempt.Outcome.{Outcome}
+use Rattle.script_worker.specs.declared.attempt.Finish.{Finish}
 use Rattle.script_worker.specs.declared.attempt.Progress.{Progress}
 use Rattle.script_worker.specs.declared.attempt.Progress.TheVariants.{Next, Over}
 use Rattle.script_worker.specs.declared.task.Task.{Task}
-use Rattle.script_worker.specs.declared.standing.Standing.{Standing}
 use Rattle.script_worker.specs.Attempts.{first_attempt, call_at, progress_of}
+
+-- A worker as contracts see it: its number, the limits of the map, which has as many workers as
+-- callers, and the script that it is at, if one is left.
+pub record Standing : Type 0 where
+  pub number : ℕ
+  pub limits : Sizes
+  pub task : Option Task
 
 -- The first attempt at the script of a number, if there is one.
 abbrev pub started : Bool → List (List Action) → ℕ → ℕ → Option Task
@@ -32,103 +38,111 @@ abbrev pub new_worker : List (List Action) → ℕ → Sizes → Standing
 new_worker scripts w limits =
     record { number = w; limits = limits; task = started limits.half scripts w w }
 
--- The task of the worker after a call of an attempt at a script: the next call, or the worker's
--- next script.
-abbrev pub followed : List (List Action) → Standing → Task → List Action → Progress → Option Task
-followed scripts worker task script (Next attempt) =
+-- The task of a worker after a call of an attempt at a script: the next call, or the worker's next
+-- script.
+abbrev pub followed : List (List Action) → ℕ → Sizes → Task → List Action → Progress → Option Task
+followed scripts w limits task script (Next attempt) =
     Some (record {
       script = task.script;
       attempt = attempt;
-      drive = new_drive worker.limits.half worker.number (call_at script attempt.stage);
+      drive = new_drive limits.half w (call_at script attempt.stage);
     })
-followed scripts worker task script (Over outcome) =
-    started worker.limits.half scripts worker.number (task.script + worker.limits.callers)
+followed scripts w limits task script (Over finish) =
+    started limits.half scripts w (task.script + limits.callers)
 
--- The task of the worker after a call of an attempt at the script of a number, by the end of the
+-- The task of a worker after a call of an attempt at the script of a number, by the end of the
 -- call.
-abbrev pub progressed : List (List Action) → ℕ → Standing → Task → End → Option Task
-progressed scripts tries worker task outcome =
-    option_and_then (λ script. followed scripts worker task script
+abbrev pub progressed : List (List Action) → ℕ → ℕ → Sizes → Task → End → Option Task
+progressed scripts tries w limits task outcome =
+    option_and_then (λ script. followed scripts w limits task script
     (progress_of script tries task.attempt outcome)) (slice_get scripts task.script)
 
 -- If the call has ended, the next one follows.
-abbrev pub settled_in : List (List Action) → ℕ → Standing → Task → Option End → Standing
-settled_in scripts tries worker task None = worker
-settled_in scripts tries worker task (Some outcome) =
-    record worker { task = progressed scripts tries worker task outcome }
+abbrev pub settled_in : List (List Action) → ℕ → ℕ → Sizes → Task → Option End → Option Task
+settled_in scripts tries w limits task None = Some task
+settled_in scripts tries w limits task (Some outcome) =
+    progressed scripts tries w limits task outcome
 
-abbrev pub settled_at : List (List Action) → ℕ → Standing → Option Task → Standing
-settled_at scripts tries worker None = worker
-settled_at scripts tries worker (Some task) =
-    settled_in scripts tries worker task (end_of task.drive)
+abbrev pub settled : List (List Action) → ℕ → ℕ → Sizes → Option Task → Option Task
+settled scripts tries w limits None = None
+settled scripts tries w limits (Some task) =
+    settled_in scripts tries w limits task (end_of task.drive)
 
--- The end of the worker's call, if it has ended.
-abbrev pub end_by : Standing → Option End
-end_by worker = option_and_then (λ task. end_of task.drive) worker.task
+-- How a script is over, if it is.
+abbrev pub finish_of : Progress → Option Finish
+finish_of (Next attempt) = None
+finish_of (Over finish) = Some finish
 
-abbrev pub settled : List (List Action) → ℕ → Standing → Standing
-settled scripts tries worker = settled_at scripts tries worker worker.task
-
--- The outcome of a script, if it is over.
-abbrev pub outcome_of : Progress → Option Outcome
-outcome_of (Next attempt) = None
-outcome_of (Over outcome) = Some outcome
-
--- The outcome of the script of a task, if it is over with this end of the call.
-abbrev pub outcome_at : List (List Action) → ℕ → Task → End → Option Outcome
-outcome_at scripts tries task outcome =
-    option_and_then (λ script. outcome_of (progress_of script tries task.attempt outcome))
+-- How the script of a task is over, if it is with this end of the call.
+abbrev pub finish_at : List (List Action) → ℕ → Task → End → Option Finish
+finish_at scripts tries task outcome =
+    option_and_then (λ script. finish_of (progress_of script tries task.attempt outcome))
     (slice_get scripts task.script)
 
-abbrev pub outcome_in : List (List Action) → ℕ → Option Task → Option Outcome
-outcome_in scripts tries None = None
-outcome_in scripts tries (Some task) =
-    option_and_then (outcome_at scripts tries task) (end_of task.drive)
-
--- The outcome of the worker's script, if its call has ended and the script is over with it.
-abbrev pub outcome_by : List (List Action) → ℕ → Standing → Option Outcome
-outcome_by scripts tries worker = outcome_in scripts tries worker.task
+-- How the task's script is over, if it is with the end of its call.
+abbrev pub finish_by : List (List Action) → ℕ → Option Task → Option Finish
+finish_by scripts tries None = None
+finish_by scripts tries (Some task) =
+    option_and_then (finish_at scripts tries task) (end_of task.drive)
 
 -- The task with its drive changed.
-abbrev pub with_drive_in : (Drive → Drive) → Option Task → Option Task
-with_drive_in f None = None
-with_drive_in f (Some task) = Some (record task { drive = f task.drive })
+abbrev pub with_drive : (Drive → Drive) → Option Task → Option Task
+with_drive f None = None
+with_drive f (Some task) = Some (record task { drive = f task.drive })
 
--- The worker with its drive changed.
-abbrev pub with_drive : (Drive → Drive) → Standing → Standing
-with_drive f worker = record worker { task = with_drive_in f worker.task }
+-- The task whose drive was told an answer.
+abbrev pub drive_told : Option Task → Answer → Option Task
+drive_told task answer = with_drive (λ drive. told_of drive answer) task
+
+-- The task of a worker that was told an answer. A call may end before its first step, and then the
+-- next one follows.
+abbrev pub task_told : List (List Action) → ℕ → ℕ → Sizes → Option Task → Answer → Option Task
+task_told scripts tries w limits task answer =
+    settled scripts tries w limits (settled scripts tries w limits (drive_told task answer))
+
+-- How the task's script is over, if this answer ended it.
+abbrev pub finish_after : List (List Action) → ℕ → ℕ → Sizes → Option Task → Answer
+    → Option Finish
+finish_after scripts tries w limits task answer =
+    option_or (finish_by scripts tries (drive_told task answer))
+    (finish_by scripts tries (settled scripts tries w limits (drive_told task answer)))
 
 -- The worker whose drive was told an answer.
 abbrev pub told_drive : Standing → Answer → Standing
-told_drive worker answer = with_drive (λ drive. told_of drive answer) worker
+told_drive worker answer = record worker { task = drive_told worker.task answer }
 
--- The worker after it was told an answer. A call may end before its first step, and then the next
--- one follows.
+-- The worker after it was told an answer.
 abbrev pub told_by : List (List Action) → ℕ → Standing → Answer → Standing
-told_by scripts tries worker answer =
-    settled scripts tries (settled scripts tries (told_drive worker answer))
+told_by scripts tries worker answer = record worker {
+  task = task_told scripts tries worker.number worker.limits worker.task answer;
+}
 
--- The outcome of the worker's script, if this answer ended it.
-abbrev pub outcome_told : List (List Action) → ℕ → Standing → Answer → Option Outcome
-outcome_told scripts tries worker answer =
-    option_or (outcome_by scripts tries (told_drive worker answer))
-    (outcome_by scripts tries (settled scripts tries (told_drive worker answer)))
+-- How the worker's script is over, if this answer ended it.
+abbrev pub finish_told : List (List Action) → ℕ → Standing → Answer → Option Finish
+finish_told scripts tries worker answer =
+    finish_after scripts tries worker.number worker.limits worker.task answer
 
 -- The worker after it has noted the table's size.
 abbrev pub sized_by : ℕ → Standing → Standing
-sized_by size worker = with_drive (sized_of size) worker
+sized_by size worker = record worker { task = with_drive (sized_of size) worker.task }
 
 -- The worker's turn, if it has a script left.
 abbrev pub turn_by : Standing → Option Turn
 turn_by worker = option_map (λ task. turn_of task.drive) worker.task
 
--- The worker's next step.
+-- The next step of a task, and of a worker.
+abbrev pub task_step : Option Task → Option Step
+task_step task = option_and_then (λ task. step_of task.drive) task
+
 abbrev pub step_by : Standing → Option Step
-step_by worker = option_and_then (λ task. step_of task.drive) worker.task
+step_by worker = task_step worker.task
 
 -- A worker with a script left has a step to take: its call has not ended.
+abbrev pub IsReadyTask : Option Task → Type 0
+IsReadyTask task = is_some (task_step task) ≡ is_some task
+
 abbrev pub IsReady : Standing → Type 0
-IsReady worker = is_some (step_by worker) ≡ is_some worker.task
+IsReady worker = IsReadyTask worker.task
 
 -- A turn takes the worker's next step; a second step is the one after `placed`. Only a worker with
 -- no script left takes none.
@@ -139,12 +153,12 @@ IsTurnBy worker (Some (Two step next)) =
     (step_by worker ≡ Some step) × (step_by (told_drive worker answers.Placed) ≡ Some next)
 IsTurnBy worker (Some (Ended outcome)) = ⊥
 
--- The state on which a worker's steps are taken, the worker, and the outcome of its script, if this
+-- The state on which a worker's steps are taken, the worker, and how its script is over, if this
 -- turn ended it.
 pub record Working (X : Type 0) : Type 0 where
   pub taker : X
   pub worker : Standing
-  pub outcome : Option Outcome
+  pub finish : Option Finish
 
 -- A step of the worker is taken, and the worker is told the answer.
 pub record TakesStep {X : Type 0} (takes : X → Step → Answer → X → Type 0)
@@ -152,7 +166,7 @@ pub record TakesStep {X : Type 0} (takes : X → Step → Answer → X → Type 
     (old : Working X) (step : Step) (answer : Answer) (new : Working X) : Type 0 where
   pub taken : takes old.taker step answer new.taker
   pub told : new.worker ≡ told_by scripts tries old.worker answer
-  pub ended : new.outcome ≡ option_or (outcome_told scripts tries old.worker answer) old.outcome
+  pub ended : new.finish ≡ option_or (finish_told scripts tries old.worker answer) old.finish
 
 -- A turn of a worker takes at least one step.
 abbrev pub TakesIn : {X : Type 0} → (X → Step → Answer → X → Type 0) → List (List Action) → ℕ
@@ -165,9 +179,9 @@ TakesIn takes scripts tries old (Some turn) new =
 -- The next turn of a worker is taken, at this size of the table.
 pub record TakesNext {X : Type 0} (takes : X → Step → Answer → X → Type 0)
     (size : ℕ) (scripts : List (List Action)) (tries : ℕ)
-    (old : X) (before : Standing) (outcome : Option Outcome) (new : X)
+    (old : X) (before : Standing) (finish : Option Finish) (new : X)
     (after : Standing) : Type 0 where
   pub steps : TakesIn takes scripts tries
-      (record { taker = old; worker = sized_by size before; outcome = None })
+      (record { taker = old; worker = sized_by size before; finish = None })
       (turn_by (sized_by size before))
-      (record { taker = new; worker = after; outcome = outcome })
+      (record { taker = new; worker = after; finish = finish })

@@ -1,5 +1,5 @@
 //! One attempt at a script: the next call, and the progress after the end of a call. These rules
-//! are about one script only and take no step; those of the worker are in `standing`.
+//! are about one script only and take no step; those of the worker are in `task`.
 ghost use Rattle.std.specs.Prelude.{◌≡◌};
 ghost use Rattle.script_worker.specs.Attempts.{first_attempt, call_for, call_at, done_with, done_at, busy_at, refused_with, refused_at, progress_of};
 
@@ -27,9 +27,10 @@ pub struct Attempt {
     pub stage: Stage,
 }
 
-/// The outcome of a script.
+/// How a script is over, by the rules of its attempts. The outcome of a script, as `thread_runs`
+/// tells it, also has the transaction and the replies.
 #[derive(Clone, Copy, Debug, PartialEq, Eq)]
-pub enum Outcome {
+pub enum Finish {
     /// Its transaction is committed.
     Committed,
     /// It has aborted its transaction itself.
@@ -47,7 +48,7 @@ pub enum Progress {
     /// The next call of this attempt.
     Next(Attempt),
     /// Nothing: the script is over.
-    Over(Outcome),
+    Over(Finish),
 }
 
 /// The call of an action.
@@ -110,11 +111,11 @@ impl Attempt {
         match self.stage {
             Stage::Beginning => self.goes_to(Stage::Acting(0)),
             Stage::Acting(place) => match script.get(place) {
-                Some(Action::Abort) => Progress::Over(Outcome::Aborted),
+                Some(Action::Abort) => Progress::Over(Finish::Aborted),
                 Some(_) => self.goes_to(Stage::Acting(place + 1)),
-                None => Progress::Over(Outcome::Committed),
+                None => Progress::Over(Finish::Committed),
             },
-            Stage::Leaving(refusal) => Progress::Over(Outcome::Refused(refusal)),
+            Stage::Leaving(refusal) => Progress::Over(Finish::Refused(refusal)),
         }
     }
 
@@ -128,7 +129,7 @@ impl Attempt {
                 stage: Stage::Beginning,
             })
         } else {
-            Progress::Over(Outcome::Busy)
+            Progress::Over(Finish::Busy)
         }
     }
 
@@ -136,7 +137,7 @@ impl Attempt {
     fn after_refusal(self, script: &[Action], refusal: Refusal) -> Progress
         ensures { result ≡ refused_at script.now self.again self.stage refusal }
     {
-        let over = Progress::Over(Outcome::Refused(refusal));
+        let over = Progress::Over(Finish::Refused(refusal));
         if let Refusal::OutOfStep = refusal {
             return over;
         }

@@ -1,9 +1,15 @@
-//! The script that a worker is at: its number, the attempt at it, and the drive of the present
-//! call. A worker without a script left has no task.
-use crate::attempt::Attempt;
-use txn_drive::Drive;
+//! The script that a worker is at, and the effect of an answer on it: the drive is told, a call
+//! that ended is followed by the next one, and a script that is over by the worker's next script. A
+//! worker without a script left has no task.
+ghost use Rattle.std.specs.Prelude.{◌≡◌};
+ghost use Rattle.script_worker.specs.Workers.{started, progressed, settled, task_told};
+ghost use Rattle.script_worker.specs.Workers.{finish_at, finish_by, finish_after};
 
-/// A script that a worker is at.
+use crate::attempt::{Attempt, Finish, Progress};
+use txn_drive::{Call, Drive, End};
+use txn_trace::{Answer, Limits, Script};
+
+/// A script that a worker is at. Its call may have ended.
 #[derive(Clone, Copy, Debug, PartialEq, Eq)]
 pub struct Task {
     /// The number of the script among all scripts, from 0.
@@ -12,4 +18,108 @@ pub struct Task {
     pub attempt: Attempt,
     /// The drive of the attempt's present call.
     pub drive: Drive,
+}
+
+impl Task {
+    /// The first attempt at the script of this number, if there is one.
+    pub(crate) fn start(
+        worker: usize,
+        limits: Limits,
+        scripts: &[Script],
+        script: usize,
+    ) -> Option<Task>
+        ensures { result ≡ started limits.half scripts.now worker script }
+    {
+        if script < scripts.len() {
+            Some(Task {
+                script,
+                attempt: Attempt::first(),
+                drive: Drive::new(worker as u64, Call::Begin, limits),
+            })
+        } else {
+            None
+        }
+    }
+
+    /// The worker's task after this end of the call, and how the script is over, if it is.
+    fn go_on(
+        self,
+        worker: usize,
+        limits: Limits,
+        scripts: &[Script],
+        tries: u64,
+        end: End,
+    ) -> (Option<Task>, Option<Finish>)
+        ensures task { result.0 ≡ progressed scripts.now tries worker limits self end }
+        ensures finish { result.1 ≡ finish_at scripts.now tries self end }
+    {
+        let Some(script) = scripts.get(self.script) else {
+            return (None, None);
+        };
+        match self.attempt.progress(script.actions(), tries, end) {
+            Progress::Next(attempt) => {
+                let call = attempt.call(script.actions());
+                let next = Task {
+                    script: self.script,
+                    attempt,
+                    drive: Drive::new(worker as u64, call, limits),
+                };
+                (Some(next), None)
+            }
+            Progress::Over(finish) => {
+                let next = self.script.saturating_add(limits.callers() as usize);
+                (Task::start(worker, limits, scripts, next), Some(finish))
+            }
+        }
+    }
+}
+
+/// Moves on to the next call, if the call of the worker's task has ended. Answers how its script
+/// is over, if it is.
+fn settle(
+    task: &mut Option<Task>,
+    worker: usize,
+    limits: Limits,
+    scripts: &[Script],
+    tries: u64,
+) -> Option<Finish>
+    ensures task { task.new ≡ settled scripts.now tries worker limits task.old }
+    ensures finish { result ≡ finish_by scripts.now tries task.old }
+{
+    let Some(now) = *task else {
+        return None;
+    };
+    let Some(end) = now.drive.ended() else {
+        return None;
+    };
+    let (next, finish) = now.go_on(worker, limits, scripts, tries, end);
+    *task = next;
+    finish
+}
+
+/// Tells the worker's task the answer to its step and finds its next step. Answers how its script
+/// is over, if this answer ended it.
+pub(crate) fn tell(
+    task: &mut Option<Task>,
+    worker: usize,
+    limits: Limits,
+    scripts: &[Script],
+    tries: u64,
+    answer: Answer,
+) -> Option<Finish>
+    ensures task { task.new ≡ task_told scripts.now tries worker limits task.old answer }
+    ensures finish { result ≡ finish_after scripts.now tries worker limits task.old answer }
+{
+    let Some(now) = task else {
+        return None;
+    };
+    now.drive.told(answer);
+    let Some(_end) = now.drive.ended() else {
+        return None;
+    };
+    let first = settle(task, worker, limits, scripts, tries);
+    // A call of help may end before its first step. Then an abort follows at once, which takes a
+    // step.
+    let second = settle(task, worker, limits, scripts, tries);
+    first.or(second)
 }

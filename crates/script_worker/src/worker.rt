@@ -1,16 +1,16 @@
-//! A worker as its users see it: by the invariant of the type it has a step to take while it has a
-//! script left. `standing` says which step that is, and the effect of an answer.
+//! A worker: its number, the limits of the map and its task. By the invariant of the type it has a
+//! step to take while it has a script left. `task` says what follows an answer.
 ghost use Rattle.std.specs.Option.{option_or};
 ghost use Rattle.std.specs.Prelude.{◌≡◌, ℕ, ◌<◌, ◌++◌, List, [], Some, true, is_some};
 ghost use Rattle.txn_trace.specs.declared.action.Action.{Action};
 ghost use Rattle.txn_trace.specs.declared.entry.Entry.{Entry};
 ghost use Rattle.txn_trace.specs.declared.step.Step.{Step};
 ghost use Rattle.txn_trace.specs.Entries.{entries_of};
-ghost use Rattle.script_worker.specs.Workers.{new_worker, told_by, told_drive, outcome_told, sized_by, turn_by, step_by, IsReady, IsTurnBy, TakesNext};
+ghost use Rattle.script_worker.specs.Workers.{new_worker, told_by, told_drive, finish_told, sized_by, turn_by, step_by, IsReady, IsTurnBy, TakesNext};
 ghost use Rattle.script_worker.specs.Keeps.{Keeps};
 
-use crate::attempt::Outcome;
-use crate::standing::Standing;
+use crate::attempt::Finish;
+use crate::task::{Task, tell};
 use std::marker::Model;
 use txn_drive::Turn;
 use txn_trace::{Answer, Limits, Script, Step};
@@ -23,21 +23,32 @@ use txn_trace::{Answer, Limits, Script, Step};
 /// each step pass its answer to `told`.
 #[derive(Clone, Copy, Debug, PartialEq, Eq)]
 pub struct Worker {
-    standing: Standing,
+    /// The worker's number, from 0, which is its caller's too.
+    number: usize,
+    /// The limits of the map: as many workers as callers.
+    limits: Limits,
+    /// The script that it is at, or `None` if no script is left.
+    task: Option<Task>,
 }
 
 impl Model for Worker {
-    ghost use Rattle.script_worker.specs.declared.standing.Standing.{Standing};
+    ghost use Rattle.script_worker.specs.Workers.{Standing, IsReadyTask};
 
     ghost Value = { Standing };
 
-    ghost use Rattle.script_worker.specs.Workers.{IsReady};
+    ghost view = { λ worker. record {
+      number = worker.number;
+      limits = worker.limits;
+      task = worker.task;
+    } };
 
-    ghost view = { λ worker. worker.standing };
+    ghost invariant = { λ worker. IsReadyTask worker.task };
 
-    ghost invariant = { λ worker. IsReady worker.standing };
-
-    ghost inverse = { λ standing. record { standing = standing } };
+    ghost inverse = { λ standing. record {
+      number = standing.number;
+      limits = standing.limits;
+      task = standing.task;
+    } };
 }
 
 impl Worker {
@@ -50,16 +61,18 @@ impl Worker {
         ensures keeps { (tries : ℕ) → Keeps scripts.now tries result [] }
     {
         Worker {
-            standing: Standing::new(number, limits, scripts),
+            number,
+            limits,
+            task: Task::start(number, limits, scripts, number),
         }
     }
 
-    /// The worker's number and the script that it is at.
-    pub fn standing(self) -> Standing
-        ensures worker { result ≡ self }
+    /// The script that the worker is at, or `None` if no script is left.
+    pub fn task(self) -> Option<Task>
+        ensures task { result ≡ self.task }
         ensures ready { IsReady self }
     {
-        self.standing
+        self.task
     }
 
     /// Whether the worker has a step to take: it has until the last step of its last script.
@@ -67,7 +80,7 @@ impl Worker {
         ensures step { result ≡ is_some (step_by self.now) }
         ensures script { result ≡ is_some self.now.task }
     {
-        self.standing.task.is_some()
+        self.task.is_some()
     }
 
     /// The next turn, of one step or of two, for a table that has this size now; `None` if the
@@ -80,11 +93,14 @@ impl Worker {
         ensures keeps { (scripts : List (List Action)) (tries : ℕ) (seen : List Entry)
             → Keeps scripts tries self.old seen → Keeps scripts tries self.new seen }
     {
-        self.standing.turn(size)
+        match &mut self.task {
+            Some(task) => Some(task.drive.turn(size)),
+            None => None,
+        }
     }
 
     /// Takes the next turn, for a table that has this size now: `step` takes each of its steps, and
-    /// the worker is told the answers, as by `told`. Answers the outcome of the worker's script, if
+    /// the worker is told the answers, as by `told`. Answers how the worker's script is over, if
     /// this turn ended it.
     ///
     /// # Cost
@@ -96,7 +112,7 @@ impl Worker {
         scripts: &[Script],
         tries: u64,
         step: &mut F,
-    ) -> Option<Outcome>
+    ) -> Option<Finish>
         requires live { is_some (step_by self.old) ≡ true }
         requires callable { (f : F) (s : _) → F.pre f s }
         ensures turn { IsTurnBy (sized_by size self.old) (turn_by (sized_by size self.old)) }
@@ -106,26 +122,26 @@ impl Worker {
         let Some(turn) = self.turn(size) else {
             return None;
         };
-        let mut outcome = None;
+        let mut finish = None;
         let mut take = |next: Step| -> Answer
             requires { (f : F) (s : _) → F.pre f s }
             ensures taken { F.step step.entry.now next result step.exit.now }
             ensures told { self.exit.now ≡ told_by scripts.entry.now tries self.entry.now result }
-            ensures ended { outcome.exit ≡ option_or
-                (outcome_told scripts.entry.now tries self.entry.now result) outcome.entry }
+            ensures ended { finish.exit ≡ option_or
+                (finish_told scripts.entry.now tries self.entry.now result) finish.entry }
         {
             let answer = step(next);
-            outcome = self.told(scripts, tries, answer).or(outcome);
+            finish = self.told(scripts, tries, answer).or(finish);
             answer
         };
         turn.take(&mut take);
-        outcome
+        finish
     }
 
     /// Tells the worker the answer to the step that the turn named; of a turn of two steps, the
     /// answer to each step taken. Pass the same scripts and tries to each call: a script that found
-    /// a stripe held is attempted again up to `tries` times. Answers the outcome of the worker's
-    /// script, if this answer ended it.
+    /// a stripe held is attempted again up to `tries` times. Answers how the worker's script is
+    /// over, if this answer ended it.
     ///
     /// If the call has ended, the worker is at its next call when `told` returns, of the same
     /// script or of the next.
@@ -133,8 +149,8 @@ impl Worker {
     /// # Cost
     ///
     /// Constant time: the search of a helper's next bucket takes up to 32 rounds.
-    pub fn told(&mut self, scripts: &[Script], tries: u64, answer: Answer) -> Option<Outcome>
-        ensures outcome { result ≡ outcome_told scripts.now tries self.old answer }
+    pub fn told(&mut self, scripts: &[Script], tries: u64, answer: Answer) -> Option<Finish>
+        ensures finish { result ≡ finish_told scripts.now tries self.old answer }
         ensures worker { self.new ≡ told_by scripts.now tries self.old answer }
         ensures number { self.new.number ≡ self.old.number }
         ensures limits { self.new.limits ≡ self.old.limits }
@@ -145,6 +161,7 @@ impl Worker {
             → Keeps scripts.now tries self.old seen
             → Keeps scripts.now tries self.new (seen ++ entries_of step answer) }
     {
-        self.standing.told(scripts, tries, answer)
+        let (number, limits) = (self.number, self.limits);
+        tell(&mut self.task, number, limits, scripts, tries, answer)
     }
 }

@@ -28,15 +28,15 @@ use Rattle.script_worker.specs.declared.attempt.Stage.TheVariants.{Beginning, Ac
 use Rattle.script_worker.specs.declared.attempt.Attempt.{Attempt}
 use Rattle.script_worker.specs.declared.attempt.Progress.{Progress}
 use Rattle.script_worker.specs.declared.attempt.Progress.TheVariants.{Next, Over}
-use Rattle.script_worker.specs.declared.attempt.Outcome as attempts
-use Rattle.script_worker.specs.declared.attempt.Outcome.TheVariants as overs
+use Rattle.script_worker.specs.declared.attempt.Finish.{Finish}
+use Rattle.script_worker.specs.declared.attempt.Finish.TheVariants as finishes
 use Rattle.script_worker.specs.Attempts.{attempt_at, first_attempt, call_of, call_at, done_with, done_at, busy_at, refused_with, refused_in, refused_at, progress_at, progress_of}
 use Rattle.locked_map.specs.Calls.{Ran, Failed, refused_at as refused_token, refused_help}
 use Rattle.locked_map.specs.Suits.{may_refuse}
 use Rattle.locked_map.specs.Tokens.{Token}
 use Rattle.script_worker.specs.Accounts.{Outcome}
 use Rattle.thread_runs.specs.Possible.{has_bad_key, is_back, is_abort, MayBeRefused, MayCome, is_op}
-use Rattle.script_worker.specs.Chunks.{outcome_by}
+use Rattle.script_worker.specs.Chunks.{Heard, outcome_by}
 use Rattle.thread_runs.specs.Runs.{HasPhase, IsIn, HasEnded, phase_at}
 use Rattle.script_worker.proofs.Every.{get_empty}
 use Rattle.thread_runs.proofs.Seating.{is_refusal, phase_by, made_landed}
@@ -59,9 +59,9 @@ MayLeave half script (Leaving refusal) = MayBeRefused half script refusal
 MayLeave half script stage = Unit {0}
 
 -- The ends of an attempt that the script allows.
-abbrev pub MayBeOver : Bool → List Action → attempts.Outcome → Type 0
-MayBeOver half script overs.Aborted = IsTrue (list_any is_abort script)
-MayBeOver half script (overs.Refused refusal) = MayBeRefused half script refusal
+abbrev pub MayBeOver : Bool → List Action → Finish → Type 0
+MayBeOver half script finishes.Aborted = IsTrue (list_any is_abort script)
+MayBeOver half script (finishes.Refused refusal) = MayBeRefused half script refusal
 MayBeOver half script over = Unit {0}
 
 -- The caller's phase after a call, by the progress.
@@ -113,7 +113,7 @@ module _ (half : Bool) (script : List Action) (tries again : ℕ) (broken : Bool
   busy_stands : HasPhase Closed (seat_after seen) → Stands half script broken seen (busy_at tries again)
   busy_stands at = by (nat_lt again tries)
     where
-      by : (b : Bool) → Stands half script broken seen (if b then Next (attempt_at (again + 1) Beginning) else Over overs.Busy)
+      by : (b : Bool) → Stands half script broken seen (if b then Next (attempt_at (again + 1) Beginning) else Over finishes.Busy)
       by true = (inr at, tt)
       by false = (inr at, tt)
 
@@ -256,12 +256,12 @@ call_stands half script tries attempt k l asked outcome p halves asked_is p_is e
 pub first_stands : (half : Bool) (script : List Action) (broken : Bool) (seen : List Entry) (attempt : Attempt) → attempt ≡ first_attempt → IsIn Closed broken seen → IsIn (phase_at attempt.stage) broken seen × MayLeave half script attempt.stage
 first_stands half script broken seen attempt is at = subst (λ (a : Attempt). IsIn (phase_at a.stage) broken seen × MayLeave half script a.stage) (sym is) (at, tt)
 
-over_may : (half : Bool) (script : List Action) (over : attempts.Outcome) (outcome : End) (txn : ℕ) (replies : List (Option ℕ)) → MayBeOver half script over → MayCome half script (outcome_by over outcome txn replies)
-over_may half script overs.Committed (ends.Answered (answers.Committed place)) txn replies may = tt
-over_may half script overs.Committed outcome txn replies may = tt
-over_may half script overs.Aborted outcome txn replies may = may
-over_may half script overs.Busy outcome txn replies may = tt
-over_may half script (overs.Refused refusal) outcome txn replies may = may
+over_may : (half : Bool) (script : List Action) (finish : Finish) (outcome : End) (heard : Heard) → MayBeOver half script finish → MayCome half script (outcome_by finish outcome heard)
+over_may half script finishes.Committed (ends.Answered (answers.Committed place)) heard may = tt
+over_may half script finishes.Committed outcome heard may = tt
+over_may half script finishes.Aborted outcome heard may = may
+over_may half script finishes.Busy outcome heard may = tt
+over_may half script (finishes.Refused refusal) outcome heard may = may
 
-pub told_may : (half : Bool) (script : List Action) (over : attempts.Outcome) (outcome : End) (txn : ℕ) (replies : List (Option ℕ)) (told : Outcome) → told ≡ outcome_by over outcome txn replies → MayBeOver half script over → MayCome half script told
-told_may half script over outcome txn replies told is may = subst (MayCome half script) (sym is) (over_may half script over outcome txn replies may)
+pub told_may : (half : Bool) (script : List Action) (finish : Finish) (outcome : End) (heard : Heard) (told : Outcome) → told ≡ outcome_by finish outcome heard → MayBeOver half script finish → MayCome half script told
+told_may half script finish outcome heard told is may = subst (MayCome half script) (sym is) (over_may half script finish outcome heard may)

@@ -15,19 +15,20 @@ use Rattle.txn_drive.specs.declared.call.Call.TheVariants as calls
 use Rattle.txn_drive.specs.declared.«end».End.{End}
 use Rattle.txn_drive.specs.declared.«end».End.TheVariants as ends
 use Rattle.txn_drive.specs.Made.{IsMade}
-use Rattle.script_worker.specs.declared.attempt.Attempt.{Attempt}
-use Rattle.script_worker.specs.declared.attempt.Outcome.TheVariants as overs
+use Rattle.script_worker.specs.declared.attempt.Finish.TheVariants as finishes
 use Rattle.script_worker.specs.declared.attempt.Progress.{Progress}
-use Rattle.script_worker.specs.Attempts.{call_at}
+use Rattle.script_worker.specs.declared.attempt.Progress.TheVariants.{Over}
+use Rattle.script_worker.specs.Attempts.{call_at, progress_of}
+use Rattle.script_worker.specs.Chunks.{Heard}
 use Rattle.locked_map.specs.Calls.{Ended, Failed, FellOut, refused_at}
 use Rattle.locked_map.specs.Holds.{CommitNothing, is_out}
 use Rattle.locked_map.specs.Tokens.{Token}
 use Rattle.script_worker.specs.Accounts as accounts
 use Rattle.script_worker.specs.Accounts.{Outcome}
-use Rattle.thread_runs.specs.Runs.{Adds, Grows, HasRunTo, IsIn}
+use Rattle.thread_runs.specs.Runs.{Adds, Grows, HasEnded, HasRunTo, IsIn, phase_at}
 use Rattle.script_worker.proofs.Attempting.{quiet-append}
-use Rattle.thread_runs.proofs.Ending.{Stands}
-use Rattle.thread_runs.proofs.Looping.{IsRunning, run_over}
+use Rattle.thread_runs.proofs.Ending.{MayLeave, Stands, call_stands}
+use Rattle.thread_runs.proofs.Looping.{IsRunning, RunsOn, run_call}
 
 -- A token that lets a call pass is not broken.
 sound_if_free : (half b : Bool) (seat : Option Seat) (call : Call) → refused_at half b seat call ≡ None → b ≡ false
@@ -56,16 +57,31 @@ grown_by words k last key (ends.Answered a) l done ended = helped_at words k key
 grown_by words k last key (ends.Busy x) l done ended = helped_at words k key (ends.Busy x) l refl ended
 grown_by words k last key ends.Helped l done ended = helped_at words k key ends.Helped l refl ended
 
-pub still_running : {S : Type 0} (c : ℕ) (script : List Action) (attempt : Attempt) (txn : ℕ) (replies : List (Option ℕ)) (base : List Entry) (last : End) (k l : Token S) → Grows k last true l
-    → IsRunning c script attempt txn replies base k.seen → IsRunning c script attempt txn replies base l.seen
-still_running c script attempt txn replies base last k l on running = subst (IsRunning c script attempt txn replies base) (sym on.0) running
+-- The loop over the calls of a script, before a call and after one, by its progress.
+abbrev pub IsBefore : ℕ → Bool → List Action → List Entry → Heard → Bool → List Entry → Type 0
+IsBefore c half script base heard broken seen = IsRunning c script heard base seen × (IsIn (phase_at heard.attempt.stage) broken seen × MayLeave half script heard.attempt.stage)
 
-pub still_told : {S : Type 0} (c tries : ℕ) (script : List Action) (outcome : Outcome) (base : List Entry) (last : End) (k l : Token S) → Grows k last true l → HasRunTo c tries script outcome base k.seen → HasRunTo c tries script outcome base l.seen
-still_told c tries script outcome base last k l on told = subst (HasRunTo c tries script outcome base) (sym on.0) told
+abbrev pub IsAfter : ℕ → Bool → ℕ → List Action → List Entry → Heard → End → Bool → List Entry → Progress → Type 0
+IsAfter c half tries script base heard end broken seen p = RunsOn c tries script heard end base seen p × Stands half script broken seen p
 
-pub still_stands : {S : Type 0} (half : Bool) (script : List Action) (p : Progress) (last : End) (k l : Token S) → Grows k last true l → Stands half script k.broken k.seen p → Stands half script l.broken l.seen p
-still_stands half script p last k l on stands =
-    subst (λ (b : Bool). Stands half script b l.seen p) (sym on.1) (subst (λ es. Stands half script k.broken es p) (sym on.0) stands)
+-- A call, and a help for growth that did not fall out of step.
+pub called : {S : Type 0} (c : ℕ) (half : Bool) (tries : ℕ) (script : List Action) (base : List Entry) (heard heard' : Heard) (j k l : Token S) (call : Call) (end : End) (p : Progress)
+    → j.number ≡ c → j.limits.half ≡ half → call ≡ call_at script heard.attempt.stage → heard' ≡ heard → p ≡ progress_of script tries heard'.attempt end
+    → Adds j.number call end j.seen k.seen → HasEnded j call end k → (k.broken ≡ false → is_some (seat_after k.seen) ≡ true) → Grows k end true l
+    → IsBefore c half script base heard j.broken j.seen → IsAfter c half tries script base heard' end l.broken l.seen p
+called {S} c half tries script base heard heard' j k l call end p mine halves call_is same p_is adds ended rows on before =
+    subst (λ (h : Heard). IsAfter c half tries script base h end l.broken l.seen p) (sym same)
+    (subst (λ (b : Bool). IsAfter c half tries script base heard end b l.seen p) (sym on.1)
+    (subst (λ (es : List Entry). IsAfter c half tries script base heard end k.broken es p) (sym on.0) (
+      run_call c tries script heard base j.seen k.seen end p adds_at (sym is) before.0,
+      call_stands half script tries heard.attempt j k call end p halves call_is is ended rows before.1,
+    )))
+  where
+    is : p ≡ progress_of script tries heard.attempt end
+    is = p_is ∙ ap (λ (h : Heard). progress_of script tries h.attempt end) same
+
+    adds_at : Adds c (call_at script heard.attempt.stage) end j.seen k.seen
+    adds_at = subst (λ (n : ℕ). Adds n (call_at script heard.attempt.stage) end j.seen k.seen) mine (subst (λ (x : Call). Adds j.number x end j.seen k.seen) call_is adds)
 
 -- Help that fell out of step: the token is broken now, and the entries that it has added commit
 -- nothing.
@@ -106,19 +122,18 @@ done_quiet c calls.Abort reply added made = absurd made
 done_quiet c (calls.Help k) reply added made = absurd made
 
 -- A script whose caller fell out of step by a call for help after a put.
-pub fell_out : {S : Type 0} (c c' tries : ℕ) (script : List Action) (attempt : Attempt) (txn : ℕ) (replies : List (Option ℕ)) (base seen : List Entry) (call : Call) (last : End) (k l : Token S) (told : Outcome)
-    → c' ≡ c → call ≡ call_at script attempt.stage → Adds c' call last seen k.seen → (k.broken ≡ false → is_some (seat_after k.seen) ≡ true) → Grows k last false l
-    → told ≡ accounts.Refused OutOfStep → IsRunning c script attempt txn replies base seen → HasRunTo c tries script told base l.seen × IsIn Closed l.broken l.seen
-fell_out c c' tries script attempt txn replies base seen call last k l told mine call_is adds rows (last_is, key, words, ended) told_is running =
+pub fell_out : {S : Type 0} (c c' tries : ℕ) (script : List Action) (heard : Heard) (base seen : List Entry) (call : Call) (last : End) (k l : Token S) (told : Outcome)
+    → c' ≡ c → Adds c' call last seen k.seen → (k.broken ≡ false → is_some (seat_after k.seen) ≡ true) → Grows k last false l
+    → told ≡ accounts.Refused OutOfStep → IsRunning c script heard base seen → HasRunTo c tries script told base l.seen × IsIn Closed l.broken l.seen
+fell_out c c' tries script heard base seen call last k l told mine adds rows (last_is, key, words, ended) told_is running =
     let fell : Fell k l = fell_by words k key l rows ended in
     let silent : CommitNothing adds.added = done_quiet c' call None adds.added (subst (λ (e : End). IsMade c' call e adds.added) last_is adds.made) in
-    let both : Adds c (call_at script attempt.stage) (ends.Refused OutOfStep) seen l.seen = record {
+    let both : Adds c (call_at script heard.attempt.stage) (ends.Refused OutOfStep) seen l.seen = record {
       added = adds.added ++ fell.added;
       entries = fell.entries ∙ ap (λ es. es ++ fell.added) adds.entries ∙ append_assoc seen adds.added fell.added;
       made = tt;
       quiet = λ whole. quiet-append adds.added fell.added silent (fell.quiet whole);
     } in (
-      subst (λ (o : Outcome). HasRunTo c tries script o base l.seen) (sym told_is)
-          (run_over c tries script attempt (overs.Refused OutOfStep) txn replies base seen l.seen (ends.Refused OutOfStep) both refl running),
+      subst (λ (o : Outcome). HasRunTo c tries script o base l.seen) (sym told_is) (run_call c tries script heard base seen l.seen (ends.Refused OutOfStep) (Over (finishes.Refused OutOfStep)) both refl running),
       inl fell.broken,
     )

@@ -25,12 +25,14 @@ use Rattle.locked_map.specs.Calls.{Ended}
 use Rattle.locked_map.specs.Holds.{IsQuiet}
 use Rattle.locked_map.specs.Suits.{may_refuse}
 use Rattle.locked_map.specs.Tokens.{Token}
+use Rattle.script_worker.specs.Chunks.{Heard, heard_at}
 use Rattle.script_worker.specs.Accounts as accounts
 use Rattle.script_worker.specs.Accounts.{Outcome, IsAccount, AreAccounts, AreAllTrue, every, tolds_of}
 use Rattle.thread_runs.specs.Possible.{MayCome}
 use Rattle.thread_runs.specs.declared.outcome.Outcome as codes
 use Rattle.thread_runs.specs.declared.outcome.Outcome.TheVariants as outcomes
 use Rattle.thread_runs.specs.declared.ran.Ran.{Ran}
+use Rattle.thread_runs.specs.declared.run_script.Heard as kept
 use Rattle.thread_runs.specs.declared.worker.WorkerReport.{WorkerReport}
 
 -- The phase of a caller's seat at a stage of an attempt.
@@ -76,6 +78,10 @@ HasRoomFor call room = Unit {0}
 abbrev pub HasRoomAt : End → ℕ → Type 0
 HasRoomAt (ends.Answered (answers.Done reply)) room = 0 < room
 HasRoomAt outcome room = Unit {0}
+
+-- An attempt with what its caller has been told, as accounts tell it.
+abbrev pub heard_of : kept.Heard → Heard
+heard_of heard = heard_at heard.attempt heard.txn heard.replies.items
 
 -- The outcome, as accounts tell it.
 abbrev pub told_of : codes.Outcome → Outcome

@@ -1,22 +1,23 @@
 //! The course of one script to its outcome: call after call on the shared map, by the rules of
 //! `Attempt` (`script_worker`). The loop keeps an account of the entries that the caller has added
 //! since the script began (`specs/Accounts.antt`).
-ghost use Rattle.std.specs.Prelude.{◌≡◌, ◌-◌, [], true, false, is_some, vec_len, vec_capacity};
+ghost use Rattle.std.specs.Prelude.{◌≡◌, ◌-◌, true, false, is_some, vec_len, vec_capacity};
 ghost use Rattle.txn_trace.specs.declared.refusal.Refusal.{Refusal};
 ghost use Rattle.txn_trace.specs.declared.seat.Phase.{Phase};
 ghost use Rattle.txn_trace.specs.Shape.{seat_after};
 ghost use Rattle.locked_map.specs.Suits.{may_refuse};
 ghost use Rattle.locked_map.specs.Tokens.{IsSameCaller};
 ghost use Rattle.thread_runs.specs.Possible.{MayCome};
-ghost use Rattle.script_worker.specs.Chunks.{outcome_by, replies_then, txn_then};
-ghost use Rattle.thread_runs.specs.Runs.{Adds, HasEnded, IsIn, HasRoomAt, HasRoomFor, HasRunTo, told_of};
+ghost use Rattle.script_worker.specs.Chunks.{first_heard, heard_then, outcome_by};
+ghost use Rattle.thread_runs.specs.Runs.{Adds, HasEnded, IsIn, HasRoomAt, HasRoomFor, HasRunTo};
+ghost use Rattle.thread_runs.specs.Runs.{heard_of, told_of};
 
 use crate::gate::Gate;
 use crate::growth::Growth;
 use crate::outcome::Outcome;
 use boost_core::{Call, End};
 use locked_map::{Caller, NoSide, OnRelease, SharedMap};
-use script_worker::{Attempt, Progress, Stage};
+use script_worker::{Attempt, Finish, Progress, Stage};
 use std::alloc::Global;
 use std::sync::Wait;
 use std::sync::ledger::Ledger;
@@ -36,20 +37,22 @@ impl<G: Gate> OnRelease for Freed<'_, G> {
     }
 }
 
-/// The answers to an attempt: its transaction's number, and the replies of its operations.
+/// An attempt at a script with what its caller has been told: the number of its transaction, and
+/// the replies of its operations.
 #[derive(Drop)]
-struct Heard {
+pub(crate) struct Heard {
+    attempt: Attempt,
     txn: u64,
     replies: Vec<Reply>,
 }
 
 impl Heard {
-    /// No answers yet.
+    /// The first attempt, before its first call.
     fn new(alloc: Global) -> Heard
-        ensures txn { result.txn ≡ 0 }
-        ensures replies { result.replies.items ≡ [] }
+        ensures { heard_of result ≡ first_heard }
     {
         Heard {
+            attempt: Attempt::first(),
             txn: 0,
             replies: Vec::new(alloc),
         }
@@ -57,8 +60,7 @@ impl Heard {
 
     /// Makes room for the reply of a call, if it has one, and says whether there is room.
     fn has_room(&mut self, call: Call) -> bool
-        ensures txn { self.new.txn ≡ self.old.txn }
-        ensures replies { self.new.replies.items ≡ self.old.replies.items }
+        ensures heard { heard_of self.new ≡ heard_of self.old }
         ensures is_op { result ≡ false → may_refuse call Refusal.NoMemory ≡ true }
         ensures room { result ≡ true
             → HasRoomFor call (vec_capacity self.new.replies - vec_len self.new.replies) }
@@ -69,12 +71,13 @@ impl Heard {
         }
     }
 
-    /// Notes the end of a call, for whose reply there is room.
-    fn note(&mut self, end: End)
+    /// Moves on to the next attempt, or the next stage of this one, after a call with this end, for
+    /// whose reply there is room.
+    fn go_on(&mut self, next: Attempt, end: End)
         requires { HasRoomAt end (vec_capacity self.old.replies - vec_len self.old.replies) }
-        ensures txn { self.new.txn ≡ txn_then self.old.txn end }
-        ensures replies { self.new.replies.items ≡ replies_then self.old.replies.items end }
+        ensures { heard_of self.new ≡ heard_then (heard_of self.old) end next }
     {
+        self.attempt = next;
         match end {
             End::Answered(Answer::Began(txn)) => {
                 self.txn = txn;
@@ -85,13 +88,13 @@ impl Heard {
         }
     }
 
-    /// The outcome of an attempt that is over, with this end of the last call.
-    fn outcome(self, over: script_worker::Outcome, end: End) -> Outcome
-        ensures { told_of result ≡ outcome_by over end self.txn self.replies.items }
+    /// The outcome of the script, which is over by the last call's end.
+    fn outcome(self, finish: Finish, end: End) -> Outcome
+        ensures { told_of result ≡ outcome_by finish end (heard_of self) }
     {
-        let Heard { txn, replies } = self;
-        match over {
-            script_worker::Outcome::Committed => match end {
+        let Heard { txn, replies, .. } = self;
+        match finish {
+            Finish::Committed => match end {
                 End::Answered(Answer::Committed(place)) => Outcome::Committed {
                     txn,
                     place,
@@ -99,13 +102,13 @@ impl Heard {
                 },
                 _ => Outcome::Refused(Refusal::OutOfStep),
             },
-            script_worker::Outcome::Aborted => Outcome::Aborted,
-            script_worker::Outcome::Busy => Outcome::Busy,
-            script_worker::Outcome::Refused(refusal) => Outcome::Refused(refusal),
+            Finish::Aborted => Outcome::Aborted,
+            Finish::Busy => Outcome::Busy,
+            Finish::Refused(refusal) => Outcome::Refused(refusal),
         }
     }
 
-    /// Makes a call, if there is room for its reply, and notes its end.
+    /// Makes a call, if there is room for its reply.
     #[tactic(auto, using(crate::proofs::Adding::adds_of, crate::proofs::Adding::room_at))]
     fn hear<L: Ledger, H: OnRelease, R: Wait>(
         &mut self,
@@ -119,15 +122,15 @@ impl Heard {
         ensures ended { HasEnded me.old call result me.new }
         ensures rows { me.new.broken ≡ false → is_some (seat_after me.new.seen) ≡ true }
         ensures same { IsSameCaller me.old me.new }
-        ensures txn { self.new.txn ≡ txn_then self.old.txn result }
-        ensures replies { self.new.replies.items ≡ replies_then self.old.replies.items result }
+        ensures heard { heard_of self.new ≡ heard_of self.old }
+        ensures room { HasRoomAt result
+            (vec_capacity self.new.replies - vec_len self.new.replies) }
     {
         if !self.has_room(call) {
             let _seen = me.seen();
             return End::Refused(Refusal::NoMemory);
         }
         let end = map.run(rt, me, call, hears);
-        self.note(end);
         // The entries of a token that is not broken have rows.
         let _seen = me.seen();
         end
@@ -165,20 +168,19 @@ pub(crate) fn run_script<L: Ledger, G: Gate, R: Wait>(
     let worker = me.number() as usize;
     let freed = Freed { gate, worker };
     let mut heard = Heard::new(alloc);
-    let mut attempt = Attempt::first();
     for _ in rt.forever() {
-        if let Stage::Acting(action) = attempt.stage {
+        if let Stage::Acting(action) = heard.attempt.stage {
             gate.before(worker, number, action);
         }
-        let call = attempt.call(script);
+        let call = heard.attempt.call(script);
         let end = heard.hear(rt, map, me, call, &freed);
         if !growth.grow(rt, map, me, call, end, &freed) {
             return Outcome::Refused(Refusal::OutOfStep);
         }
         give_way(end);
-        match attempt.progress(script, tries, end) {
-            Progress::Next(next) => attempt = next,
-            Progress::Over(over) => return heard.outcome(over, end),
+        match heard.attempt.progress(script, tries, end) {
+            Progress::Next(next) => heard.go_on(next, end),
+            Progress::Over(finish) => return heard.outcome(finish, end),
         }
     }
     unreachable!()
