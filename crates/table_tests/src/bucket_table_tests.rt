@@ -3,15 +3,15 @@ mod home;
 
 use bucket_table::{Double, InitLink, InitRefusal, InitSeek};
 use home::{Answer, Call, Home};
-use node_list::Kind;
+use node_list::{Kind, SpareFault};
 use std::alloc::Global;
 use std::process::Abort;
 use std::test::Fail;
 
 /// Makes calls in turn, and compares their answers.
 fn make_all(rt: &impl Abort, home: &mut Home, calls: &[(Call, Answer)]) {
-    for (call, wanted) in calls {
-        assert!(rt; home.make(*call) == *wanted, "to {call:?}");
+    for (row, (call, wanted)) in calls.iter().enumerate() {
+        assert!(rt; home.make(*call) == *wanted, "row {row}");
     }
 }
 
@@ -84,21 +84,20 @@ const DOUBLINGS: [(Call, Answer); 3] = [
     (Call::Double(4), Answer::Double(Double::Light)),
 ];
 
-/// A table of largest size 8 for two helpers, with keys 1 to 5 at size 4, or `None` if memory is
-/// refused again.
-fn five_keys(rt: &impl Abort, alloc: Global) -> Option<Home> {
-    let mut home = home_again(alloc, 8, 2)?;
-    if !has_put_all(rt, &mut home, &[1, 2, 3, 4]) {
-        help_few_keys(rt, &mut home);
-        return None;
+/// Puts keys 1 to 5, with a size of 4 then. If memory is refused again there are fewer, and the
+/// answer is false.
+fn has_five_keys(rt: &impl Abort, home: &mut Home) -> bool {
+    if !has_put_all(rt, home, &[1, 2, 3, 4]) {
+        help_few_keys(rt, home);
+        return false;
     }
     assert!(rt; home.make(Call::Double(2)) == Answer::Double(Double::Light));
-    if !has_put(rt, &mut home, 5) {
-        help_few_keys(rt, &mut home);
-        return None;
+    if !has_put(rt, home, 5) {
+        help_few_keys(rt, home);
+        return false;
     }
-    make_all(rt, &mut home, &DOUBLINGS);
-    Some(home)
+    make_all(rt, home, &DOUBLINGS);
+    true
 }
 
 /// Buckets 1 and 3 are initialised by two helpers in turn.
@@ -133,21 +132,35 @@ const INITIALISED: [(Call, Answer); 16] = [
     (Call::Seek(1, 3), Answer::Seek(Ok(InitSeek::Ready))),
 ];
 
-/// The five keys, with buckets 1 and 3 initialised, or `None` if memory is refused again.
-fn initialised(rt: &impl Abort, alloc: Global) -> Option<Home> {
-    let mut home = five_keys(rt, alloc)?;
-    make_all(rt, &mut home, &INITIALISED);
-    Some(home)
+/// The five keys, with buckets 1 and 3 initialised. If memory is refused again there are fewer, and
+/// the answer is false.
+fn is_initialised(rt: &impl Abort, home: &mut Home) -> bool {
+    if !has_five_keys(rt, home) {
+        return false;
+    }
+    make_all(rt, home, &INITIALISED);
+    assert!(rt; home.figures().0 == 4);
+    true
+}
+
+/// A table of largest size 8 for two helpers, if there is memory for one.
+fn home_for_two(alloc: Global) -> Option<Home> {
+    home_again(alloc, 8, 2)
+}
+
+/// Whether there is memory for a table, and for its keys and buckets.
+fn is_filled(rt: &impl Abort, alloc: Global) -> bool {
+    match home_for_two(alloc) {
+        Some(mut home) => is_initialised(rt, &mut home),
+        None => false,
+    }
 }
 
 /// Meant to be run with allocations refused: only if memory is refused again are there fewer keys,
 /// or no table.
 #[test]
 fn bucket_initialisation(rt: HostRuntime) {
-    match initialised(&rt, rt.alloc()) {
-        Some(home) => assert!(rt; home.figures().0 == 4),
-        None => assert!(rt; is_refused(rt.alloc())),
-    }
+    assert!(rt; is_filled(&rt, rt.alloc()) || is_refused(rt.alloc()));
 }
 
 /// The nodes after the initialisation.
@@ -163,15 +176,19 @@ const NODES: [Option<(u64, Kind, u64)>; 9] = [
     None,
 ];
 
-#[test]
-fn nodes_after_initialisation(rt: HostRuntime) -> Result<(), Fail> {
-    let home = initialised(&rt, rt.alloc()).ok_or("no table")?;
+/// Checks the nodes after the initialisation.
+fn nodes_are(rt: &impl Abort, home: &mut Home) {
+    assert!(rt; is_initialised(rt, home));
     for (rank, wanted) in NODES.iter().enumerate() {
         assert!(rt; home.node(rank) == *wanted, "node {rank}");
     }
     assert!(rt; home.nearest(2) == Some(0));
     assert!(rt; home.nearest(3) == Some(0xc000_0000_0000_0000));
-    Ok(())
+}
+
+#[test]
+fn nodes_after_initialisation(rt: HostRuntime) {
+    nodes_are(&rt, &mut home_for_two(rt.alloc()).expect(&rt, "a table"));
 }
 
 /// A list of which all stamps but one were given.
@@ -221,25 +238,23 @@ const WORDS: [(InitRefusal, &str); 6] = [
 ];
 
 /// Uses up the stamps.
-fn use_stamps_up(rt: &impl Abort, alloc: Global) -> Result<(), Fail> {
-    let mut home = Home::new(alloc, 18446744073709551614, 2, 1).ok_or("no table")?;
+fn use_stamps_up(rt: &impl Abort, alloc: Global) {
+    let mut home = Home::new(alloc, 18446744073709551614, 2, 1).expect(rt, "a table");
     make_all(rt, &mut home, &STAMPS_USED_UP);
     assert!(rt; home.nearest(1) == Some(0));
-    Ok(())
 }
 
 /// Doubles up to the limit.
-fn double_to_the_limit(rt: &impl Abort, alloc: Global) -> Result<(), Fail> {
-    let mut home = Home::new(alloc, 0, 2, 2).ok_or("no table")?;
+fn double_to_the_limit(rt: &impl Abort, alloc: Global) {
+    let mut home = Home::new(alloc, 0, 2, 2).expect(rt, "a table");
     make_all(rt, &mut home, &AT_LIMIT);
     assert!(rt; home.figures().0 == 2);
-    Ok(())
 }
 
 #[test]
 fn limits_and_refusals_in_words(rt: HostRuntime) -> Result<(), Fail> {
-    use_stamps_up(&rt, rt.alloc())?;
-    double_to_the_limit(&rt, rt.alloc())?;
+    use_stamps_up(&rt, rt.alloc());
+    double_to_the_limit(&rt, rt.alloc());
     for (refusal, wanted) in WORDS.iter() {
         let words = format!(in rt.alloc(); "{refusal}")?;
         assert!(rt; words.as_str() == *wanted, "{wanted}");
@@ -247,15 +262,14 @@ fn limits_and_refusals_in_words(rt: HostRuntime) -> Result<(), Fail> {
     Ok(())
 }
 
-/// Two buckets on a list that keeps the places of this number of spares.
-fn home_with_spares(alloc: Global, spares: u32) -> Result<Home, Fail> {
-    let mut home = home_again(alloc, 2, 1).ok_or("no table")?;
+/// Keeps the places of this number of spares in a list.
+fn keep_spares(home: &mut Home, spares: u32) -> Result<(), SpareFault> {
     for _ in 0..spares {
         if home.keep_spare().is_err() {
-            let _ = home.keep_spare()?;
+            home.keep_spare()?;
         }
     }
-    Ok(home)
+    Ok(())
 }
 
 /// Initialises bucket 1. If memory is refused to the link, buckets and list are unchanged, and it
@@ -281,10 +295,24 @@ fn initialise_1(rt: &impl Abort, home: &mut Home) -> Result<(), Fail> {
 #[test]
 fn refused_allocations(rt: HostRuntime) -> Result<(), Fail> {
     for spares in 0..9 {
-        let mut home = home_with_spares(rt.alloc(), spares)?;
-        assert!(rt; home.figures() == (2, 0, 0));
-        initialise_1(&rt, &mut home)?;
-        assert!(rt; home.nearest(1) == Some(0x8000_0000_0000_0000));
+        initialise_anew(&rt, rt.alloc(), spares)?;
     }
     Ok(())
+}
+
+/// Initialises bucket 1 of two on a list that keeps the places of this number of spares.
+fn initialise_with(rt: &impl Abort, home: &mut Home, spares: u32) -> Result<(), Fail> {
+    keep_spares(home, spares)?;
+    assert!(rt; home.figures() == (2, 0, 0));
+    initialise_1(rt, home)?;
+    assert!(rt; home.nearest(1) == Some(0x8000_0000_0000_0000));
+    Ok(())
+}
+
+/// The same on a new table.
+fn initialise_anew(rt: &impl Abort, alloc: Global, spares: u32) -> Result<(), Fail> {
+    match home_again(alloc, 2, 1) {
+        Some(mut home) => initialise_with(rt, &mut home, spares),
+        None => Err("no table".into()),
+    }
 }

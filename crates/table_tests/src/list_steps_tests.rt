@@ -12,6 +12,7 @@ use list_steps::{
 use node_list::{Kind, NodeList, NodeRef, Spare, SpareFault};
 use split_key::{Key, SortKey, bucket_at};
 use std::alloc::{AllocError, Global};
+use std::process::Abort;
 use std::test::Fail;
 
 /// The sort key of a key's node.
@@ -81,29 +82,35 @@ fn link_here(list: &mut NodeList, cursor: &Cursor, spare: Spare) -> Result<NodeR
     }
 }
 
+/// Begins with a new list.
+fn begin(alloc: Global, list: &mut NodeList) -> Result<Answer, Fail> {
+    *list = NodeList::new(alloc, 0)?;
+    Ok(Answer::Done)
+}
+
 /// Links the node of a key that is not there.
-fn put(list: &mut NodeList, number: u64, value: u64) -> Result<(), Fail> {
+fn put(list: &mut NodeList, number: u64, value: u64) -> Result<Answer, Fail> {
     let at = at(number);
     let spare = regular_spare(list, at, value)?;
     let cursor = seek_from_head(list, at);
     let _ = link_here(list, &cursor, spare)?;
-    Ok(())
+    Ok(Answer::Done)
 }
 
 /// Marks the node of a key that is there, and answers its value.
-fn take(list: &mut NodeList, number: u64) -> Result<u64, Fail> {
+fn take(list: &mut NodeList, number: u64) -> Result<Answer, Fail> {
     let at = at(number);
     let cursor = seek_from_head(list, at);
     let node = regular_there(list, &cursor)?;
-    Ok(mark_at(list, node))
+    Ok(Answer::Value(mark_at(list, node)))
 }
 
 /// Writes the value of a key that is there, and answers the one that it had.
-fn write(list: &mut NodeList, number: u64, value: u64) -> Result<u64, Fail> {
+fn write(list: &mut NodeList, number: u64, value: u64) -> Result<Answer, Fail> {
     let at = at(number);
     let cursor = seek_from_head(list, at);
     let node = regular_there(list, &cursor)?;
-    Ok(swap_at(list, node, value))
+    Ok(Answer::Value(swap_at(list, node, value)))
 }
 
 /// Whether a key is found to be absent, at a cursor that fits.
@@ -156,7 +163,7 @@ fn link_stale(
     at: SortKey,
     value: u64,
     last: NodeRef,
-) -> Result<(), Fail>
+) -> Result<Answer, Fail>
     requires placed { IsPlaced list.old cursor }
     requires at { at_of cursor ≡ at }
     requires first { IsBefore (dummy_at 0) at }
@@ -177,7 +184,7 @@ fn link_stale(
         return Err("not behind the last node".into());
     }
     let _ = link_here(list, &cursor, spare)?;
-    Ok(())
+    Ok(Answer::Done)
 }
 
 /// Whether there is a node behind this one.
@@ -189,7 +196,7 @@ fn is_followed(list: &NodeList, node: NodeRef) -> bool {
 
 /// Seeks keys 2 and 4 in a new list, and links key 4 first, so that the cursor of key 2 no longer
 /// fits.
-fn put_both(list: &mut NodeList) -> Result<(), Fail> {
+fn put_both(list: &mut NodeList) -> Result<Answer, Fail> {
     let (at_two, at_four) = (at(2), at(4));
     let early = seek_from_head(list, at_two);
     let late = seek_from_head(list, at_four);
@@ -198,18 +205,21 @@ fn put_both(list: &mut NodeList) -> Result<(), Fail> {
 }
 
 /// Marks the node of a key that is there, at a cursor, and answers its value.
-fn take_there(list: &mut NodeList, number: u64) -> Result<u64, Fail> {
+fn take_there(list: &mut NodeList, number: u64) -> Result<Answer, Fail> {
     let at = at(number);
     let cursor = seek_from_head(list, at);
     if !is_key_there(list, &cursor) {
         return Err("the key is not there".into());
     }
-    mark(list, cursor).map_err(|_| "the cursor does not fit".into())
+    match mark(list, cursor) {
+        Ok(value) => Ok(Answer::Value(value)),
+        Err(_) => Err("the cursor does not fit".into()),
+    }
 }
 
 /// Writes the value of a key that is there and marks its node, both at one cursor, which fits until
 /// then. Answers the value before, the one in between, and the one of the mark.
-fn write_and_take(list: &mut NodeList, number: u64, value: u64) -> Result<[u64; 3], Fail> {
+fn write_and_take(list: &mut NodeList, number: u64, value: u64) -> Result<Answer, Fail> {
     let at = at(number);
     let cursor = seek_from_head(list, at);
     if !is_key_there(list, &cursor) {
@@ -229,7 +239,7 @@ fn write_and_take(list: &mut NodeList, number: u64, value: u64) -> Result<[u64; 
     if look(list, &cursor) != Err(Again) {
         return Err("the cursor of a marked node fits".into());
     }
-    Ok([before, between, last])
+    Ok(Answer::Values(before, between, last))
 }
 
 /// The value of a node.
@@ -246,7 +256,7 @@ fn ends_at_the_head(list: &mut NodeList) -> bool {
 }
 
 /// A call on a list, by the key that it is about.
-#[derive(Clone, Copy, Debug)]
+#[derive(Clone, Copy)]
 enum Call {
     /// Makes a new list.
     Begin,
@@ -289,7 +299,7 @@ enum Answer {
 }
 
 /// The node of a rank.
-fn node_of_rank(alloc: Global, list: &NodeList, rank: usize) -> Result<Answer, AllocError> {
+fn node_of_rank(alloc: Global, list: &NodeList, rank: usize) -> Result<Answer, Fail> {
     Ok(match nodes(alloc, list)?.get(rank) {
         Some((Kind::Dummy, _, _)) => Answer::Dummy,
         Some((Kind::Regular, key, marked)) => Answer::Regular(*key, *marked),
@@ -299,32 +309,27 @@ fn node_of_rank(alloc: Global, list: &NodeList, rank: usize) -> Result<Answer, A
 
 /// Makes a call.
 fn make(alloc: Global, list: &mut NodeList, call: Call) -> Result<Answer, Fail> {
-    Ok(match call {
-        Call::Begin => {
-            *list = NodeList::new(alloc, 0)?;
-            Answer::Done
-        }
-        Call::Put(number, value) => {
-            put(list, number, value)?;
-            Answer::Done
-        }
-        Call::PutBoth => {
-            put_both(list)?;
-            Answer::Done
-        }
-        Call::Take(number) => Answer::Value(take(list, number)?),
-        Call::TakeThere(number) => Answer::Value(take_there(list, number)?),
-        Call::Write(number, value) => Answer::Value(write(list, number, value)?),
-        Call::WriteAndTake(number, value) => {
-            let [before, between, last] = write_and_take(list, number, value)?;
-            Answer::Values(before, between, last)
-        }
+    match call {
+        Call::Begin => begin(alloc, list),
+        Call::Put(number, value) => put(list, number, value),
+        Call::PutBoth => put_both(list),
+        Call::Take(number) => take(list, number),
+        Call::TakeThere(number) => take_there(list, number),
+        Call::Write(number, value) => write(list, number, value),
+        Call::WriteAndTake(number, value) => write_and_take(list, number, value),
+        Call::Node(rank) => node_of_rank(alloc, list, rank),
+        other => Ok(look_or_sweep(list, other)),
+    }
+}
+
+/// Makes a call that always succeeds.
+fn look_or_sweep(list: &mut NodeList, call: Call) -> Answer {
+    match call {
         Call::Look(number) => Answer::IsSo(is_absent(list, number)),
         Call::LookAtTheEnd => Answer::IsSo(ends_at_the_head(list)),
         Call::Sweep => Answer::Swept(sweep(list)),
-        Call::Node(rank) => node_of_rank(alloc, list, rank)?,
-        Call::Read => Answer::Figures(list.marked_count(), list.changes()),
-    })
+        _ => Answer::Figures(list.marked_count(), list.changes()),
+    }
 }
 
 const HALF: u64 = 1 << 63;
@@ -440,16 +445,23 @@ fn marks_begin(list: &NodeList) -> Option<u64> {
     list.marks_begin()
 }
 
+/// A list of no key.
+fn new_list(rt: &impl Abort, alloc: Global) -> NodeList {
+    NodeList::new(alloc, 0).expect(rt, "a list")
+}
+
+/// Makes the calls, and compares their answers.
+fn make_all(rt: &impl Abort, alloc: Global, list: &mut NodeList) -> Result<(), Fail> {
+    for (row, (call, answer, begin)) in CALLS.iter().enumerate() {
+        assert!(rt; make(alloc, list, *call)? == *answer, "row {row}");
+        assert!(rt; marks_begin(list) == *begin, "row {row}");
+    }
+    Ok(())
+}
+
 #[test]
 fn list_steps_in_order(rt: HostRuntime) -> Result<(), Fail> {
-    let mut list = NodeList::new(rt.alloc(), 0)?;
-    for (row, (call, answer, begin)) in CALLS.iter().enumerate() {
-        assert!(rt;
-            make(rt.alloc(), &mut list, *call)? == *answer,
-            "row {row}: {call:?}"
-        );
-        assert!(rt; marks_begin(&list) == *begin, "row {row}: {call:?}");
-    }
+    make_all(&rt, rt.alloc(), &mut new_list(&rt, rt.alloc()))?;
     let words = format!(in rt.alloc(); "{Again}")?;
     assert!(rt; words.as_str() == "the list is not as the cursor noted it");
     Ok(())
@@ -582,21 +594,35 @@ fn is_as_plain(alloc: Global, list: &NodeList, plain: &[Plain; 8]) -> Result<boo
     Ok(found.as_slice() == wanted.as_slice() && list.marks_begin() == plain_marks_begin(plain))
 }
 
-#[test]
-fn marks_and_sweeps_in_a_drawn_order(rt: HostRuntime) -> Result<(), Fail> {
-    let mut list = NodeList::new(rt.alloc(), 0)?;
-    let dummy = dummy_of_1(&mut list)?;
+/// Takes a drawn step on both, and compares them.
+fn compare_step(
+    rt: &impl Abort,
+    alloc: Global,
+    list: &mut NodeList,
+    plain: &mut [Plain; 8],
+    dummy: NodeRef,
+    drawn: u64,
+) -> Result<(), Fail> {
+    take_step(list, plain, dummy, drawn)?;
+    assert!(rt; is_as_plain(alloc, list, plain)?, "after {drawn}");
+    Ok(())
+}
+
+/// Takes 500 drawn steps.
+fn draw_steps(rt: &impl Abort, alloc: Global, list: &mut NodeList) -> Result<(), Fail> {
+    let dummy = dummy_of_1(list)?;
     let mut plain = [Plain::Absent; 8];
     let mut drawn: u64 = 1;
-    for step in 0..500 {
+    for _ in 0..500 {
         drawn = drawn
             .wrapping_mul(6_364_136_223_846_793_005)
             .wrapping_add(1_442_695_040_888_963_407);
-        take_step(&mut list, &mut plain, dummy, drawn)?;
-        assert!(rt;
-            is_as_plain(rt.alloc(), &list, &plain)?,
-            "after step {step}"
-        );
+        compare_step(rt, alloc, list, &mut plain, dummy, drawn)?;
     }
     Ok(())
+}
+
+#[test]
+fn marks_and_sweeps_in_a_drawn_order(rt: HostRuntime) -> Result<(), Fail> {
+    draw_steps(&rt, rt.alloc(), &mut new_list(&rt, rt.alloc()))
 }

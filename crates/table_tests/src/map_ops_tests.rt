@@ -23,19 +23,19 @@ fn small_table(alloc: Global) -> Result<Table, AllocError> {
 }
 
 /// Replaces the table by a new one.
-fn begin(alloc: Global, table: &mut Table) -> Result<(), AllocError> {
+fn begin(alloc: Global, table: &mut Table) -> Result<Answer, Fail> {
     *table = new_table(alloc)?;
-    Ok(())
+    Ok(Answer::Done)
 }
 
 /// Replaces the table by a new one of two buckets.
-fn begin_small(alloc: Global, table: &mut Table) -> Result<(), AllocError> {
+fn begin_small(alloc: Global, table: &mut Table) -> Result<Answer, Fail> {
     *table = small_table(alloc)?;
-    Ok(())
+    Ok(Answer::Done)
 }
 
 /// A step of a run.
-#[derive(Clone, Copy, Debug)]
+#[derive(Clone, Copy)]
 enum Step {
     /// Makes a new table.
     Begin,
@@ -129,35 +129,40 @@ fn there_and_back(table: &mut Table, op: Op) -> Result<Reply, Refusal> {
     Ok(reply)
 }
 
+/// The answer of a reply.
+fn replied(reply: Result<Reply, Refusal>) -> Result<Answer, Fail> {
+    Ok(Answer::Reply(reply?))
+}
+
 /// Does an operation, and takes it back at a cursor.
-fn back_at_a_cursor(table: &mut Table, op: Op) -> Result<Reply, Fail> {
+fn back_at_a_cursor(table: &mut Table, op: Op) -> Result<Answer, Fail> {
     let (reply, job) = apply(table, op)?;
     let Some(job) = job else {
         return Err("no job".into());
     };
     let cursor = table.place_job(&job);
     match table.undo(job, cursor) {
-        Undo::Undone => Ok(reply),
+        Undo::Undone => Ok(Answer::Reply(reply)),
         Undo::Again(_) => Err("the cursor does not fit".into()),
     }
 }
 
 /// Does an operation, and discards its job.
-fn discarded(table: &mut Table, op: Op) -> Result<Reply, Fail> {
+fn discarded(table: &mut Table, op: Op) -> Result<Answer, Fail> {
     let (reply, job) = apply(table, op)?;
     let Some(job) = job else {
         return Err("no job".into());
     };
     table.discard(job);
-    Ok(reply)
+    Ok(Answer::Reply(reply))
 }
 
 /// Prepares an operation and withdraws it. Answers the operation that was prepared, and its key.
-fn withdrawn(table: &mut Table, op: Op) -> Result<(Op, u64), Refusal> {
+fn withdrawn(table: &mut Table, op: Op) -> Result<Answer, Fail> {
     let pending = table.prepare(op)?;
-    let seen = (pending.op(), pending.key().number());
+    let (op, key) = (pending.op(), pending.key().number());
     table.withdraw(pending);
-    Ok(seen)
+    Ok(Answer::Withdrawn(op, key))
 }
 
 /// The pairs of a table, asked for once more if memory is refused.
@@ -176,17 +181,22 @@ fn content_of(alloc: Global, table: &Table) -> Result<BTreeMap<u64, u64>, AllocE
     }
 }
 
+/// Whether these are all pairs of a content.
+fn has_each(content: &BTreeMap<u64, u64>, wanted: &[(u64, u64)]) -> bool {
+    for (key, value) in wanted {
+        if content.get(key).copied() != Some(*value) {
+            return false;
+        }
+    }
+    content.len() == wanted.len()
+}
+
 /// Whether these are the pairs of a table, in their order, and its content, and their number its
 /// count.
 fn has_pairs(alloc: Global, table: &Table, wanted: &[(u64, u64)]) -> Result<bool, AllocError> {
-    let content = content_of(alloc, table)?;
-    for (key, value) in wanted {
-        if content.get(key).copied() != Some(*value) {
-            return Ok(false);
-        }
-    }
-    let is_whole = content.len() == wanted.len() && figures(table).1 == wanted.len() as u64;
-    Ok(is_whole && pairs_of(alloc, table)?.as_slice() == wanted)
+    let is_whole = has_each(&content_of(alloc, table)?, wanted);
+    let is_counted = figures(table).1 == wanted.len() as u64;
+    Ok(is_whole && is_counted && pairs_of(alloc, table)?.as_slice() == wanted)
 }
 
 /// The pair of a rank, if the content and the count agree with the list of pairs.
@@ -207,10 +217,10 @@ fn put_with_job(
     jobs: &mut Vec<MapJob>,
     key: u64,
     value: u64,
-) -> Result<Reply, Fail> {
+) -> Result<Answer, Fail> {
     let (reply, job) = table.apply(Op::Put(key, value))?;
     jobs.push(job.ok_or("no job")?)?;
-    Ok(reply)
+    Ok(Answer::Reply(reply))
 }
 
 /// Whether a job is due if its key has this value.
@@ -225,7 +235,7 @@ fn is_due(value: Reply, job: &MapJob) -> bool
 }
 
 /// Takes a change back, if it is due.
-fn take_back(table: &mut Table, job: MapJob) -> Result<(), Fail>
+fn take_back(table: &mut Table, job: MapJob) -> Result<Answer, Fail>
     requires { OwnsIf table.old (spare_of_job job) }
 {
     let (value, _) = table.apply(Op::Get(job.key().number()))?;
@@ -233,11 +243,11 @@ fn take_back(table: &mut Table, job: MapJob) -> Result<(), Fail>
         return Err("the job is not due".into());
     }
     table.take_back(job);
-    Ok(())
+    Ok(Answer::Done)
 }
 
 /// Takes back the newest of these puts.
-fn take_newest_back(table: &mut Table, jobs: &mut Vec<MapJob>) -> Result<(), Fail> {
+fn take_newest_back(table: &mut Table, jobs: &mut Vec<MapJob>) -> Result<Answer, Fail> {
     match jobs.pop().ok_or("no job")? {
         MapJob::Unput(key) => take_back(table, MapJob::Unput(key)),
         MapJob::Restore(key, old) => take_back(table, MapJob::Restore(key, old)),
@@ -355,39 +365,27 @@ fn take_step(
     jobs: &mut Vec<MapJob>,
     step: Step,
 ) -> Result<Answer, Fail> {
-    Ok(match step {
-        Step::Begin => {
-            begin(alloc, table)?;
-            Answer::Done
-        }
-        Step::BeginSmall => {
-            begin_small(alloc, table)?;
-            Answer::Done
-        }
-        Step::Do(op) => Answer::Reply(do_at_once(table, op)?),
-        Step::Return(op) => Answer::Reply(there_and_back(table, op)?),
-        Step::ReturnAt(op) => Answer::Reply(back_at_a_cursor(table, op)?),
-        Step::Discard(op) => Answer::Reply(discarded(table, op)?),
-        Step::Withdraw(op) => {
-            let (op, key) = withdrawn(table, op)?;
-            Answer::Withdrawn(op, key)
-        }
-        Step::Put(key, value) => Answer::Reply(put_with_job(table, jobs, key, value)?),
-        Step::TakeBack => {
-            take_newest_back(table, jobs)?;
-            Answer::Done
-        }
-        Step::TakeThereAndBack(key) => take_there_and_back(alloc, table, key)?,
-        Step::PutLate(key, value) => put_late(table, jobs, key, value)?,
-        Step::Newest => newest_of(jobs)?,
-        Step::Pair(rank) => pair_of_rank(alloc, table, rank)?,
-        other => take_bucket_step(table, other)?,
-    })
+    match step {
+        Step::Begin => begin(alloc, table),
+        Step::BeginSmall => begin_small(alloc, table),
+        Step::Do(op) => replied(do_at_once(table, op)),
+        Step::Return(op) => replied(there_and_back(table, op)),
+        Step::ReturnAt(op) => back_at_a_cursor(table, op),
+        Step::Discard(op) => discarded(table, op),
+        Step::Withdraw(op) => withdrawn(table, op),
+        Step::Put(key, value) => put_with_job(table, jobs, key, value),
+        Step::TakeBack => take_newest_back(table, jobs),
+        Step::TakeThereAndBack(key) => take_there_and_back(alloc, table, key),
+        Step::PutLate(key, value) => put_late(table, jobs, key, value),
+        Step::Newest => newest_of(jobs),
+        Step::Pair(rank) => pair_of_rank(alloc, table, rank),
+        other => take_bucket_step(table, other),
+    }
 }
 
 /// Compares the pairs of the table, its content and its count.
 fn shows(rt: &impl Abort, alloc: Global, table: &Table, wanted: &[(u64, u64)]) -> Result<(), Fail> {
-    assert!(rt; has_pairs(alloc, table, wanted)?, "not {wanted:?}");
+    assert!(rt; has_pairs(alloc, table, wanted)?, "other pairs");
     Ok(())
 }
 
@@ -575,15 +573,25 @@ const STALE_PENDING: [(Step, Answer); 11] = [
     (Step::Pair(0), Answer::End),
 ];
 
-/// Takes steps on a new table, and compares the answer to each.
-fn take_steps(rt: &impl Abort, alloc: Global, steps: &[(Step, Answer)]) -> Result<(), Fail> {
-    let mut table = new_table(alloc)?;
-    let mut jobs = Vec::new(alloc);
+/// Takes steps, and compares the answer to each.
+fn take_each(
+    rt: &impl Abort,
+    alloc: Global,
+    table: &mut Table,
+    jobs: &mut Vec<MapJob>,
+    steps: &[(Step, Answer)],
+) -> Result<(), Fail> {
     for (row, (step, answer)) in steps.iter().enumerate() {
-        let found = take_step(alloc, &mut table, &mut jobs, *step)?;
-        assert!(rt; found == *answer, "row {row}: {step:?}");
+        let found = take_step(alloc, table, jobs, *step)?;
+        assert!(rt; found == *answer, "row {row}");
     }
     Ok(())
+}
+
+/// Takes steps on a new table, and compares the answer to each.
+fn take_steps(rt: &impl Abort, alloc: Global, steps: &[(Step, Answer)]) -> Result<(), Fail> {
+    let mut table = new_table(alloc).expect(rt, "a table");
+    take_each(rt, alloc, &mut table, &mut Vec::new(alloc), steps)
 }
 
 #[test]
@@ -627,19 +635,23 @@ fn is_one_taken(table: &mut Table, key: u64) -> Result<bool, Refusal> {
     Ok(low_replies == [Some(key), None, None] && high_replies == [Some(value); 3])
 }
 
+/// Puts sixteen keys with the higher ones, and takes the lower ones.
+fn share_split_keys(rt: &impl Abort, table: &mut Table) -> Result<(), Fail> {
+    for key in 0..16 {
+        assert!(rt; are_put(table, key)?, "{key}");
+    }
+    for key in 0..16 {
+        assert!(rt; is_one_taken(table, key)?, "{key}");
+    }
+    assert!(rt; figures(table).1 == 16);
+    Ok(())
+}
+
 /// Two keys that differ by 2^63 have one split key and one bucket: neither is mistaken for the
 /// other.
 #[test]
 fn keys_that_share_a_split_key(rt: HostRuntime) -> Result<(), Fail> {
-    let mut table = new_table(rt.alloc())?;
-    for key in 0..16 {
-        assert!(rt; are_put(&mut table, key)?, "{key}");
-    }
-    for key in 0..16 {
-        assert!(rt; is_one_taken(&mut table, key)?, "{key}");
-    }
-    assert!(rt; figures(&table).1 == 16);
-    Ok(())
+    share_split_keys(&rt, &mut new_table(rt.alloc()).expect(&rt, "a table"))
 }
 
 /// Keys with their values, in the order of the list.
@@ -694,22 +706,63 @@ fn put_again(
     Ok(())
 }
 
-/// A table with these pairs, which were put in their order, each once more if it was refused
-/// memory.
-fn table_of(rt: &impl Abort, alloc: Global, pairs: &[(u64, u64)]) -> Result<Table, Fail> {
-    let mut table = table_again(alloc)?;
+/// Puts these pairs in their order, each once more if it was refused memory.
+fn put_all(
+    rt: &impl Abort,
+    alloc: Global,
+    table: &mut Table,
+    pairs: &[(u64, u64)],
+) -> Result<(), Fail> {
     for (done, pair) in pairs.iter().enumerate() {
         let before = pairs.get(..done).ok_or("no such pairs")?;
-        put_again(rt, alloc, &mut table, *pair, before)?;
+        put_again(rt, alloc, table, *pair, before)?;
     }
-    Ok(table)
+    Ok(())
+}
+
+/// What is refused memory after these pairs were put.
+#[derive(Clone, Copy)]
+enum Refused {
+    /// One of the puts.
+    Puts,
+    /// The preparation of a take, beside a prepared put.
+    Preparation,
+    /// The link of a dummy, beside a prepared put.
+    Link,
+}
+
+/// Puts pairs, does what may be refused memory, and compares the pairs that are left.
+fn play_refused(
+    rt: &impl Abort,
+    alloc: Global,
+    table: &mut Table,
+    pairs: &[(u64, u64)],
+    refused: Refused,
+) -> Result<(), Fail> {
+    put_all(rt, alloc, table, pairs)?;
+    let left = match refused {
+        Refused::Puts => &PAIRS,
+        Refused::Preparation => do_second(rt, alloc, table)?,
+        Refused::Link => link_beside_a_put(rt, alloc, table)?,
+    };
+    shows(rt, alloc, table, left)
+}
+
+/// The same on a new table.
+fn refuse(
+    rt: &impl Abort,
+    alloc: Global,
+    pairs: &[(u64, u64)],
+    refused: Refused,
+) -> Result<(), Fail> {
+    let mut table = table_again(alloc).expect(rt, "a table");
+    play_refused(rt, alloc, &mut table, pairs, refused)
 }
 
 /// This test and the next two are also run with each allocation refused in turn.
 #[test]
 fn refused_memory_for_puts(rt: HostRuntime) -> Result<(), Fail> {
-    let table = table_of(&rt, rt.alloc(), &PAIRS)?;
-    shows(&rt, rt.alloc(), &table, &PAIRS)
+    refuse(&rt, rt.alloc(), &PAIRS, Refused::Puts)
 }
 
 /// Prepares a put of key 6, and then a take of key 2, which is done. If memory is refused to the
@@ -738,9 +791,7 @@ fn do_second(
 /// An operation that was prepared before keeps its spare.
 #[test]
 fn refused_memory_for_a_preparation(rt: HostRuntime) -> Result<(), Fail> {
-    let mut table = table_of(&rt, rt.alloc(), first_pairs(2))?;
-    let pairs = do_second(&rt, rt.alloc(), &mut table)?;
-    shows(&rt, rt.alloc(), &table, pairs)
+    refuse(&rt, rt.alloc(), first_pairs(2), Refused::Preparation)
 }
 
 /// Prepares a put of key 4, and links the dummy of bucket 1 as helper 0. If memory is refused to
@@ -777,7 +828,5 @@ fn is_linked_and_stored(table: &mut Table) -> bool {
 /// An operation that was prepared before keeps its spare, and the helper its cursor.
 #[test]
 fn refused_memory_for_a_link(rt: HostRuntime) -> Result<(), Fail> {
-    let mut table = table_of(&rt, rt.alloc(), second_and_third())?;
-    let pairs = link_beside_a_put(&rt, rt.alloc(), &mut table)?;
-    shows(&rt, rt.alloc(), &table, pairs)
+    refuse(&rt, rt.alloc(), second_and_third(), Refused::Link)
 }

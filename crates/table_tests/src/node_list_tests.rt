@@ -2,16 +2,16 @@
 use node_list::{Kind, NodeList, NodeRef, SpareFault};
 use split_key::{Key, SortKey};
 use std::alloc::{AllocError, Global};
+use std::process::Abort;
 use std::test::Fail;
 
-/// A list whose first node has this stamp, asked for once more if memory is refused.
-fn list_again(alloc: Global, first_stamp: u64) -> Result<NodeList, Fail> {
-    if first_stamp == u64::MAX {
-        return Err("no stamp".into());
-    }
+/// A list whose first node has this stamp, which is not the last one, asked for once more if memory
+/// is refused.
+fn list_again(alloc: Global, first_stamp: u64) -> Result<NodeList, AllocError> {
+    let first_stamp = first_stamp % u64::MAX;
     match NodeList::new(alloc, first_stamp) {
         Ok(list) => Ok(list),
-        Err(AllocError) => Ok(NodeList::new(alloc, first_stamp)?),
+        Err(AllocError) => NodeList::new(alloc, first_stamp),
     }
 }
 
@@ -34,7 +34,7 @@ fn figures(list: &NodeList) -> (u64, u64, u64) {
 }
 
 /// A call on a list.
-#[derive(Clone, Copy, Debug)]
+#[derive(Clone, Copy)]
 enum Call {
     /// Links the node of a key, with this value, behind the first.
     Link(u64, u64),
@@ -246,26 +246,38 @@ const CALLS: [(Call, Seen); 4] = [
     ),
 ];
 
+/// Makes the calls, and compares the state after each.
+fn make_all(rt: &impl Abort, list: &mut NodeList) -> Result<(), Fail> {
+    for (row, (call, wanted)) in CALLS.iter().enumerate() {
+        make(list, *call)?;
+        assert!(rt; look(list) == *wanted, "row {row}");
+    }
+    assert!(rt; stamp_given_back(list)? == 8);
+    assert!(rt; stamp_of_spare(list)? == 9);
+    Ok(())
+}
+
 #[test]
 fn calls_in_turn(rt: HostRuntime) -> Result<(), Fail> {
-    let mut list = list_again(rt.alloc(), 6)?;
-    for (call, wanted) in CALLS.iter() {
-        make(&mut list, *call)?;
-        assert!(rt; look(&list) == *wanted, "after {call:?}");
-    }
-    assert!(rt; stamp_given_back(&mut list)? == 8);
-    assert!(rt; stamp_of_spare(&mut list)? == 9);
-    Ok(())
+    make_all(&rt, &mut list_again(rt.alloc(), 6).expect(&rt, "a list"))
 }
 
 /// The texts of the faults of a list.
 const FAULTS: &str = "the list has no stamp left for a spare; the list got no memory for a spare";
 
+/// Uses up the stamps of a list that has one left.
+fn use_stamps_up(rt: &impl Abort, list: &mut NodeList) {
+    assert!(rt; stamp_of_spare(list) == Ok(18446744073709551614));
+    assert!(rt; stamp_of_spare(list) == Err(SpareFault::Worn));
+}
+
 #[test]
 fn stamps_used_up(rt: HostRuntime) -> Result<(), Fail> {
-    let mut list = list_again(rt.alloc(), 18446744073709551613)?;
-    assert!(rt; stamp_of_spare(&mut list) == Ok(18446744073709551614));
-    assert!(rt; stamp_of_spare(&mut list) == Err(SpareFault::Worn));
+    let first = 18446744073709551613;
+    use_stamps_up(
+        &rt,
+        &mut list_again(rt.alloc(), first).expect(&rt, "a list"),
+    );
     let words = format!(in rt.alloc(); "{}; {}", SpareFault::Worn, SpareFault::NoMemory)?;
     assert!(rt; words.as_str() == FAULTS);
     Ok(())
@@ -275,14 +287,18 @@ fn stamps_used_up(rt: HostRuntime) -> Result<(), Fail> {
 /// at the next call.
 #[test]
 fn refused_allocations(rt: HostRuntime) -> Result<(), Fail> {
-    let mut list = list_again(rt.alloc(), 0)?;
+    keep_nine(&rt, &mut list_again(rt.alloc(), 0).expect(&rt, "a list"))
+}
+
+/// Keeps nine spares, and looks at their stamps.
+fn keep_nine(rt: &impl Abort, list: &mut NodeList) -> Result<(), Fail> {
     for wanted in 1..=9 {
-        let stamp = match stamp_of_spare(&mut list) {
+        let stamp = match stamp_of_spare(list) {
             Ok(stamp) => stamp,
             Err(fault) => {
                 assert!(rt; fault == SpareFault::NoMemory);
-                assert!(rt; figures(&list) == (0, 0, 0));
-                stamp_of_spare(&mut list)?
+                assert!(rt; figures(list) == (0, 0, 0));
+                stamp_of_spare(list)?
             }
         };
         assert!(rt; stamp == wanted, "{stamp}");

@@ -119,73 +119,140 @@ fn draw_key(draws: &mut Draws, keys: u64) -> u64 {
     }
 }
 
-fn run_drawn(rt: &impl Abort, alloc: Global, seed: u64, keys: u64, steps: u64) -> Result<(), Fail> {
-    let mut draws = Draws(seed);
-    let mut map = ProbeMap::new(alloc);
-    let mut plain = Vec::new(alloc);
-    for _ in 0..steps {
-        let key = draw_key(&mut draws, keys);
-        step_both(rt, &mut draws, key, &mut map, &mut plain)?;
+/// Makes 4,000 drawn calls on both, and compares them.
+fn step_often(
+    rt: &impl Abort,
+    alloc: Global,
+    draws: &mut Draws,
+    keys: u64,
+    map: &mut ProbeMap,
+    plain: &mut Vec<(u64, u64)>,
+) -> Result<(), Fail> {
+    for _ in 0..4_000 {
+        let key = draw_key(draws, keys);
+        step_both(rt, draws, key, map, plain)?;
     }
-    is_alike(rt, alloc, &map, &mut plain)
+    is_alike(rt, alloc, map, plain)
+}
+
+fn run_drawn(rt: &impl Abort, alloc: Global, seed: u64, keys: u64) -> Result<(), Fail> {
+    let mut map = ProbeMap::new(alloc);
+    step_often(
+        rt,
+        alloc,
+        &mut Draws(seed),
+        keys,
+        &mut map,
+        &mut Vec::new(alloc),
+    )
 }
 
 #[test]
 fn drawn_calls_beside_a_plain_list(rt: HostRuntime) -> Result<(), Fail> {
     for keys in [1, 4, 30, 200] {
         for seed in 0..4 {
-            run_drawn(&rt, rt.alloc(), seed, keys, 4_000)?;
+            run_drawn(&rt, rt.alloc(), seed, keys)?;
         }
     }
     Ok(())
 }
 
+/// Puts a key that is not there, replaces and takes it, and puts it again.
+fn put_anew(rt: &impl Abort, map: &mut ProbeMap, key: u64) -> Result<(), Fail> {
+    let first = put(rt, map, key, 7)?;
+    let second = put(rt, map, key, key)?;
+    let taken = take(map, key);
+    let absent = (map.get(key), take(map, key));
+    let again = put(rt, map, key, 9)?;
+    assert!(rt; first == None && second == Some(7) && taken == Some(key));
+    assert!(rt; absent == (None, None) && again == None);
+    Ok(())
+}
+
+/// Checks the pairs of a map, and their number.
+fn has_rows(
+    rt: &impl Abort,
+    alloc: Global,
+    map: &ProbeMap,
+    wanted: &[(u64, u64)],
+) -> Result<(), Fail> {
+    assert!(rt; map.len() == wanted.len());
+    assert!(rt; rows_of(alloc, map)?.as_slice() == wanted);
+    Ok(())
+}
+
+/// Puts the outermost keys.
+fn put_outermost(rt: &impl Abort, alloc: Global, map: &mut ProbeMap) -> Result<(), Fail> {
+    for (count, key) in [(1, 0), (2, 1 << 63), (3, u64::MAX)] {
+        put_anew(rt, map, key)?;
+        assert!(rt; map.len() == count);
+    }
+    let wanted = [(0, 9), (1 << 63, 9), (u64::MAX, 9)];
+    has_rows(rt, alloc, map, wanted.as_slice())
+}
+
 /// The first and the last key, and one in the middle: put, replaced, taken, and put again.
 #[test]
 fn outermost_keys(rt: HostRuntime) -> Result<(), Fail> {
-    let mut map = ProbeMap::new(rt.alloc());
-    for (count, key) in [(1, 0), (2, 1 << 63), (3, u64::MAX)] {
-        let first = put(&rt, &mut map, key, 7)?;
-        let second = put(&rt, &mut map, key, key)?;
-        let taken = take(&mut map, key);
-        let absent = (map.get(key), take(&mut map, key));
-        let again = put(&rt, &mut map, key, 9)?;
-        assert!(rt; first == None && second == Some(7) && taken == Some(key));
-        assert!(rt; absent == (None, None) && again == None && map.len() == count);
-    }
-    let rows = rows_of(rt.alloc(), &map)?;
-    assert!(rt; rows.as_slice() == [(0, 9), (1 << 63, 9), (u64::MAX, 9)].as_slice());
-    Ok(())
+    put_outermost(&rt, rt.alloc(), &mut ProbeMap::new(rt.alloc()))
+}
+
+/// Looks for keys that are not there.
+fn look_in_empty(rt: &impl Abort, alloc: Global, map: &mut ProbeMap) -> Result<(), Fail> {
+    let taken = take(map, 0);
+    assert!(rt; taken == None && map.get(u64::MAX) == None);
+    has_rows(rt, alloc, map, &[])
 }
 
 /// An empty map takes no memory, and has no key.
 #[test]
 fn empty(rt: HostRuntime) -> Result<(), Fail> {
-    let mut map = ProbeMap::new(rt.alloc());
-    let taken = take(&mut map, 0);
-    assert!(rt; taken == None && map.get(u64::MAX) == None && map.len() == 0);
-    let rows = rows_of(rt.alloc(), &map)?;
-    assert!(rt; rows.is_empty());
+    look_in_empty(&rt, rt.alloc(), &mut ProbeMap::new(rt.alloc()))
+}
+
+/// Puts a hundred keys and takes the first fifty.
+fn put_and_take(rt: &impl Abort, map: &mut ProbeMap) -> Result<(), Fail> {
+    for key in 0..100 {
+        let before = put(rt, map, key, key)?;
+        assert!(rt; before == None);
+    }
+    for key in 0..50 {
+        assert!(rt; take(map, key) == Some(key));
+    }
+    assert!(rt; map.len() == 50);
+    Ok(())
+}
+
+/// Checks that fifty pairs are those that are left.
+fn are_left(rt: &impl Abort, rows: &[(u64, u64)]) {
+    assert!(rt; rows.len() == 50);
+    for (place, pair) in rows.iter().enumerate() {
+        assert!(rt; pair.0 == 50 + place as u64 && pair.1 == pair.0);
+    }
+}
+
+fn put_and_look(rt: &impl Abort, alloc: Global, map: &mut ProbeMap) -> Result<(), Fail> {
+    put_and_take(rt, map)?;
+    are_left(rt, rows_of(alloc, map)?.as_slice());
     Ok(())
 }
 
 /// This test is also run with each allocation refused in turn.
 #[test]
 fn refused_memory(rt: HostRuntime) -> Result<(), Fail> {
-    let mut map = ProbeMap::new(rt.alloc());
-    for key in 0..100 {
-        let before = put(&rt, &mut map, key, key)?;
+    put_and_look(&rt, rt.alloc(), &mut ProbeMap::new(rt.alloc()))
+}
+
+/// Puts 100,000 keys, and takes each after ten more.
+fn put_and_remove(rt: &impl Abort, map: &mut ProbeMap) -> Result<(), Fail> {
+    for key in 0..100_000u64 {
+        let before = put_reserved(map, key, key)?;
         assert!(rt; before == None);
+        if let Some(oldest) = key.checked_sub(10) {
+            assert!(rt; take(map, oldest) == Some(oldest));
+        }
     }
-    for key in 0..50 {
-        let before = take(&mut map, key);
-        assert!(rt; before == Some(key));
-    }
-    let rows = rows_of(rt.alloc(), &map)?;
-    assert!(rt; rows.len() == 50 && map.len() == 50);
-    for (place, pair) in rows.iter().enumerate() {
-        assert!(rt; pair.0 == 50 + place as u64 && pair.1 == pair.0);
-    }
+    assert!(rt; map.len() == 10);
     Ok(())
 }
 
@@ -193,26 +260,13 @@ fn refused_memory(rt: HostRuntime) -> Result<(), Fail> {
 /// largest allocation is that of 32 slots, which docs/tests/refused.py looks at.
 #[test]
 fn removed_keys(rt: HostRuntime) -> Result<(), Fail> {
-    let mut map = ProbeMap::new(rt.alloc());
-    for key in 0..100_000u64 {
-        let before = put_reserved(&mut map, key, key)?;
-        assert!(rt; before == None);
-        if let Some(oldest) = key.checked_sub(10) {
-            let taken = take(&mut map, oldest);
-            assert!(rt; taken == Some(oldest));
-        }
-    }
-    assert!(rt; map.len() == 10);
-    Ok(())
+    put_and_remove(&rt, &mut ProbeMap::new(rt.alloc()))
 }
 
-/// The time of a test is enough for a million rising keys only if the map grows, and keys in a row
-/// have homes apart.
-#[test]
-fn rising_keys(rt: HostRuntime) -> Result<(), Fail> {
-    let mut map = ProbeMap::new(rt.alloc());
+/// Puts a million rising keys, and looks at them.
+fn put_rising(rt: &impl Abort, map: &mut ProbeMap) -> Result<(), Fail> {
     for key in 0..1_000_000 {
-        let before = put_reserved(&mut map, key, key)?;
+        let before = put_reserved(map, key, key)?;
         assert!(rt; before == None);
     }
     for key in 0..1_000_000 {
@@ -221,4 +275,11 @@ fn rising_keys(rt: HostRuntime) -> Result<(), Fail> {
     }
     assert!(rt; map.len() == 1_000_000);
     Ok(())
+}
+
+/// The time of a test is enough for a million rising keys only if the map grows, and keys in a row
+/// have homes apart.
+#[test]
+fn rising_keys(rt: HostRuntime) -> Result<(), Fail> {
+    put_rising(&rt, &mut ProbeMap::new(rt.alloc()))
 }

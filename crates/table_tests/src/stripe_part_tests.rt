@@ -121,15 +121,19 @@ fn pairs_of(alloc: Global, part: &Part) -> Result<Vec<(u64, u64)>, AllocError> {
     }
 }
 
-/// Checks that the part has the pairs of the plain map, and as many changes to take back.
-fn is_alike(rt: &impl Abort, alloc: Global, one: &Logged, plain: &Plain) -> Result<(), Fail> {
-    let pairs = pairs_of(alloc, &one.part)?;
-    assert!(rt; one.part.changes() == plain.log.len());
-    assert!(rt; one.part.len() == plain.map.len() as u64);
+/// Checks that these are the pairs of the plain map.
+fn are_plain(rt: &impl Abort, pairs: &[(u64, u64)], plain: &Plain) {
     assert!(rt; pairs.len() == plain.map.len());
-    for pair in &pairs {
+    for pair in pairs {
         assert!(rt; plain.map.get(&pair.0).copied() == Some(pair.1));
     }
+}
+
+/// Checks that the part has the pairs of the plain map, and as many changes to take back.
+fn is_alike(rt: &impl Abort, alloc: Global, one: &Logged, plain: &Plain) -> Result<(), Fail> {
+    assert!(rt; one.part.changes() == plain.log.len());
+    assert!(rt; one.part.len() == plain.map.len() as u64);
+    are_plain(rt, pairs_of(alloc, &one.part)?.as_slice(), plain);
     Ok(())
 }
 
@@ -177,27 +181,37 @@ fn step_both(
     Ok(())
 }
 
-/// Takes drawn steps on a new part and on a plain map, and then takes all changes back.
-fn run_drawn(
+/// A plain map of no key.
+fn fresh_plain(alloc: Global) -> Plain {
+    Plain {
+        map: BTreeMap::new(alloc),
+        log: Vec::new(alloc),
+    }
+}
+
+/// Takes 3,000 drawn steps on a part and on a plain map, and then takes all changes back.
+fn step_and_undo(
     rt: &impl Abort,
     alloc: Global,
     draws: &mut Draws,
     keys: u64,
-    steps: u64,
+    one: &mut Logged,
+    plain: &mut Plain,
 ) -> Result<(), Fail> {
+    for _ in 0..3_000 {
+        step_both(rt, alloc, draws, keys, one, plain)?;
+    }
+    is_alike(rt, alloc, one, plain)?;
+    for _ in 0..3_000 {
+        undo_both(one, plain)?;
+    }
+    is_alike(rt, alloc, one, plain)
+}
+
+/// The same on a new part and a new map.
+fn run_drawn(rt: &impl Abort, alloc: Global, draws: &mut Draws, keys: u64) -> Result<(), Fail> {
     let mut one = fresh(alloc);
-    let mut plain = Plain {
-        map: BTreeMap::new(alloc),
-        log: Vec::new(alloc),
-    };
-    for _ in 0..steps {
-        step_both(rt, alloc, draws, keys, &mut one, &mut plain)?;
-    }
-    is_alike(rt, alloc, &one, &plain)?;
-    for _ in 0..steps {
-        undo_both(&mut one, &mut plain)?;
-    }
-    is_alike(rt, alloc, &one, &plain)
+    step_and_undo(rt, alloc, draws, keys, &mut one, &mut fresh_plain(alloc))
 }
 
 #[test]
@@ -205,49 +219,101 @@ fn drawn_steps_beside_a_plain_map(rt: HostRuntime) -> Result<(), Fail> {
     let mut draws = Draws(1);
     for keys in [1, 4, 64, 4_000] {
         for _ in 0..4 {
-            run_drawn(&rt, rt.alloc(), &mut draws, keys, 3_000)?;
+            run_drawn(&rt, rt.alloc(), &mut draws, keys)?;
         }
     }
+    Ok(())
+}
+
+/// Puts the keys from 0 on.
+fn put_keys(rt: &impl Abort, alloc: Global, one: &mut Logged, keys: u64) -> Result<(), Fail> {
+    for key in 0..keys {
+        let reply = apply_again(rt, alloc, one, Op::Put(key, key))?;
+        assert!(rt; reply.is_none());
+    }
+    Ok(())
+}
+
+/// Takes the keys from one on.
+fn take_keys(
+    rt: &impl Abort,
+    alloc: Global,
+    one: &mut Logged,
+    first: u64,
+    end: u64,
+) -> Result<(), Fail> {
+    for key in first..end {
+        let reply = apply_again(rt, alloc, one, Op::Take(key))?;
+        assert!(rt; reply == Some(key));
+    }
+    Ok(())
+}
+
+/// Takes this number of changes back.
+fn undo_keys(one: &mut Logged, changes: u64) {
+    for _ in 0..changes {
+        undo_one(one);
+    }
+}
+
+/// Checks that these are the keys below 100.
+fn are_first(rt: &impl Abort, pairs: &[(u64, u64)]) {
+    assert!(rt; pairs.len() == 100);
+    for pair in pairs {
+        assert!(rt; pair.0 < 100 && pair.1 == pair.0);
+    }
+}
+
+/// Puts keys, takes some, and takes the takes and most puts back.
+fn put_take_and_undo(rt: &impl Abort, alloc: Global, one: &mut Logged) -> Result<(), Fail> {
+    put_keys(rt, alloc, one, 300)?;
+    take_keys(rt, alloc, one, 100, 200)?;
+    assert!(rt; one.part.len() == 200 && one.part.changes() == 400);
+    undo_keys(one, 300);
+    are_first(rt, pairs_of(alloc, &one.part)?.as_slice());
     Ok(())
 }
 
 /// This test is also run with each allocation refused in turn.
 #[test]
 fn refused_memory(rt: HostRuntime) -> Result<(), Fail> {
-    let alloc = rt.alloc();
-    let mut one = fresh(alloc);
-    for key in 0..300 {
-        let reply = apply_again(&rt, alloc, &mut one, Op::Put(key, key))?;
-        assert!(rt; reply.is_none());
+    put_take_and_undo(&rt, rt.alloc(), &mut fresh(rt.alloc()))
+}
+
+/// Does operations that change nothing.
+fn change_nothing(rt: &impl Abort, alloc: Global, part: &mut Part) -> Result<(), Fail> {
+    for op in [Op::Get(1), Op::Take(1), Op::PutIf(1, Some(2), 3)] {
+        let reply = part.apply(alloc, op);
+        assert!(rt; reply == Ok(None));
     }
-    for key in 100..200 {
-        let reply = apply_again(&rt, alloc, &mut one, Op::Take(key))?;
-        assert!(rt; reply == Some(key));
-    }
-    assert!(rt; one.part.len() == 200 && one.part.changes() == 400);
-    for _ in 0..300 {
-        undo_one(&mut one);
-    }
-    let pairs = pairs_of(alloc, &one.part)?;
-    assert!(rt; pairs.len() == 100);
-    for pair in &pairs {
-        assert!(rt; pair.0 < 100 && pair.1 == pair.0);
-    }
+    part.settle();
+    assert!(rt; part.len() == 0 && part.changes() == 0);
+    assert!(rt; pairs_of(alloc, part)?.is_empty());
     Ok(())
 }
 
 /// An empty part takes no memory, and neither does an operation that changes nothing.
 #[test]
 fn empty(rt: HostRuntime) -> Result<(), Fail> {
-    let alloc = rt.alloc();
-    let mut part = Part::new();
-    for op in [Op::Get(1), Op::Take(1), Op::PutIf(1, Some(2), 3)] {
-        let reply = part.apply(alloc, op);
+    change_nothing(&rt, rt.alloc(), &mut Part::new())
+}
+
+/// Puts rising keys, which are then settled.
+fn put_rising(rt: &impl Abort, alloc: Global, part: &mut Part, keys: u64) {
+    for key in 0..keys {
+        let reply = part.apply(alloc, Op::Put(key, key));
         assert!(rt; reply == Ok(None));
     }
     part.settle();
-    let pairs = pairs_of(alloc, &part)?;
-    assert!(rt; part.len() == 0 && part.changes() == 0 && pairs.is_empty());
+}
+
+/// Puts 100,000 keys, takes them, and takes the takes back.
+fn rise_and_fall(rt: &impl Abort, alloc: Global, one: &mut Logged) -> Result<(), Fail> {
+    put_rising(rt, alloc, &mut one.part, 100_000);
+    take_keys(rt, alloc, one, 0, 100_000)?;
+    assert!(rt; one.part.len() == 0 && one.part.changes() == 100_000);
+    undo_keys(one, 100_000);
+    assert!(rt; one.part.len() == 100_000);
     Ok(())
 }
 
@@ -255,21 +321,5 @@ fn empty(rt: HostRuntime) -> Result<(), Fail> {
 /// a test is enough only if the part grows.
 #[test]
 fn rising_keys(rt: HostRuntime) -> Result<(), Fail> {
-    let alloc = rt.alloc();
-    let mut one = fresh(alloc);
-    for key in 0..100_000 {
-        let reply = one.part.apply(alloc, Op::Put(key, key));
-        assert!(rt; reply == Ok(None));
-    }
-    one.part.settle();
-    for key in 0..100_000 {
-        let reply = apply_again(&rt, alloc, &mut one, Op::Take(key))?;
-        assert!(rt; reply == Some(key));
-    }
-    assert!(rt; one.part.len() == 0 && one.part.changes() == 100_000);
-    for _ in 0..100_000 {
-        undo_one(&mut one);
-    }
-    assert!(rt; one.part.len() == 100_000);
-    Ok(())
+    rise_and_fall(&rt, rt.alloc(), &mut fresh(rt.alloc()))
 }

@@ -105,14 +105,14 @@ fn figures(log: &UndoLog<Raised>) -> (usize, usize, bool) {
 /// Takes back this number of jobs, newest first, which are all that there are. Needs no memory.
 fn take_back(rt: &impl Abort, log: &mut UndoLog<Raised>, jobs: u64) -> Result<(), Fail> {
     assert!(rt; log.len() as u64 == jobs);
-    let mut count = jobs;
     for expected in [9, 8, 7, 6, 5, 4, 3, 2, 1] {
         if expected <= jobs {
-            assert!(rt; count == expected, "{count}");
-            count = run_newest(log, 0, count).ok_or("another job")?;
+            assert!(rt;
+                run_newest(log, 0, expected) == expected.checked_sub(1),
+                "{expected}"
+            );
         }
     }
-    assert!(rt; count == 0);
     assert!(rt; run_newest(log, 0, 0).is_none());
     cut(log, 0)?;
     assert!(rt; figures(log) == (0, 0, true));
@@ -143,12 +143,16 @@ fn log_of_eight(alloc: Global) -> UndoLog<Raised> {
 /// Also run with allocations refused, the first of which is that of the ninth job.
 #[test]
 fn nine_undone_newest_first(rt: HostRuntime) -> Result<(), Fail> {
-    let mut log = log_of_eight(rt.alloc());
-    if !is_pushed(&rt, &mut log, 9) {
-        assert!(rt; is_refused(rt.alloc()));
-        return take_back(&rt, &mut log, 8);
+    undo_nine(&rt, rt.alloc(), &mut log_of_eight(rt.alloc()))
+}
+
+/// Pushes the ninth job, if memory is not refused, and takes all back.
+fn undo_nine(rt: &impl Abort, alloc: Global, log: &mut UndoLog<Raised>) -> Result<(), Fail> {
+    if !is_pushed(rt, log, 9) {
+        assert!(rt; is_refused(alloc));
+        return take_back(rt, log, 8);
     }
-    take_back(&rt, &mut log, 9)
+    take_back(rt, log, 9)
 }
 
 /// An empty log.
@@ -186,13 +190,17 @@ fn return_to_1(rt: &impl Abort, log: &mut UndoLog<Raised>) -> Result<(), Fail> {
 /// Also run with allocations refused, which are those of the savepoints.
 #[test]
 fn a_savepoint_keeps_its_jobs(rt: HostRuntime) -> Result<(), Fail> {
-    let mut log = empty_log(rt.alloc());
-    assert!(rt; is_pushed(&rt, &mut log, 1));
-    if savepoints(&rt, rt.alloc(), &mut log) < 2 {
-        return take_back(&rt, &mut log, 1);
+    save_and_return(&rt, rt.alloc(), &mut empty_log(rt.alloc()))
+}
+
+/// Makes two savepoints, if memory is not refused, and returns to the first.
+fn save_and_return(rt: &impl Abort, alloc: Global, log: &mut UndoLog<Raised>) -> Result<(), Fail> {
+    assert!(rt; is_pushed(rt, log, 1));
+    if savepoints(rt, alloc, log) < 2 {
+        return take_back(rt, log, 1);
     }
-    assert!(rt; is_pushed(&rt, &mut log, 2));
-    return_to_1(&rt, &mut log)
+    assert!(rt; is_pushed(rt, log, 2));
+    return_to_1(rt, log)
 }
 
 /// The number of a savepoint that is made in reserved room, in a log with no job.
@@ -326,13 +334,17 @@ fn zeros(alloc: Global) -> SideValue<Register> {
 /// back.
 #[test]
 fn side_value_returns(rt: HostRuntime) {
-    let mut side = zeros(rt.alloc());
-    match words_there(&rt, &mut side) {
+    go_and_return(&rt, rt.alloc(), &mut zeros(rt.alloc()));
+}
+
+/// Makes the changes, if memory is not refused, and takes them back.
+fn go_and_return(rt: &impl Abort, alloc: Global, side: &mut SideValue<Register>) {
+    match words_there(rt, side) {
         Some(words) => assert!(rt; words == [[3, 0, 0, 0], [1, 0, 0, 0]]),
-        None => assert!(rt; is_refused(rt.alloc())),
+        None => assert!(rt; is_refused(alloc)),
     }
     assert!(rt; side.level() <= 1);
-    assert!(rt; words_back(&rt, &mut side, 0) == [0, 0, 0, 0]);
+    assert!(rt; words_back(rt, side, 0) == [0, 0, 0, 0]);
 }
 
 /// Whether a change to 1 in the first word is made, and a savepoint after it.
@@ -340,32 +352,34 @@ fn is_saved_at_1(rt: &impl Abort, side: &mut SideValue<Register>) -> bool {
     set(rt, side, [1, 0, 0, 0]).is_some() && save_side(rt, side).is_some()
 }
 
-/// The words after a change, a savepoint and a return to level 0, with or without a settling before
-/// it. If the change or the savepoint is refused memory, they are those at the beginning, and
-/// `None` is answered.
-fn words_after_return(rt: &impl Abort, alloc: Global, settles: bool) -> Option<[u64; 4]> {
-    let mut side = zeros(alloc);
-    let is_done = is_saved_at_1(rt, &mut side);
+/// Goes back to level 0 after a change and a savepoint, with or without a settling before it, which
+/// leaves these words. If the change or the savepoint is refused memory, the words at the beginning
+/// are left.
+fn return_to_0(
+    rt: &impl Abort,
+    alloc: Global,
+    side: &mut SideValue<Register>,
+    settles: bool,
+    left: [u64; 4],
+) {
+    let is_done = is_saved_at_1(rt, side);
     if is_done && settles {
         side.settle();
         assert!(rt; side.level() == 0);
     }
     assert!(rt; side.level() <= 1);
-    let words = words_back(rt, &mut side, 0);
+    let words = words_back(rt, side, 0);
     if is_done {
-        return Some(words);
+        assert!(rt; words == left);
+    } else {
+        assert!(rt; is_refused(alloc) && words == [0, 0, 0, 0]);
     }
-    assert!(rt; is_refused(alloc));
-    assert!(rt; words == [0, 0, 0, 0]);
-    None
 }
 
 /// Also run with allocations refused.
 #[test]
 fn a_settled_value_stays(rt: HostRuntime) {
-    for (settles, words) in [(false, [0, 0, 0, 0]), (true, [1, 0, 0, 0])] {
-        if let Some(found) = words_after_return(&rt, rt.alloc(), settles) {
-            assert!(rt; found == words, "{settles}");
-        }
-    }
+    let alloc = rt.alloc();
+    return_to_0(&rt, alloc, &mut zeros(alloc), false, [0, 0, 0, 0]);
+    return_to_0(&rt, alloc, &mut zeros(alloc), true, [1, 0, 0, 0]);
 }

@@ -31,7 +31,7 @@ impl Model for Home {
 }
 
 /// One call on the buckets.
-#[derive(Clone, Copy, Debug)]
+#[derive(Clone, Copy)]
 pub enum Call {
     /// A seek by a helper for a bucket.
     Seek(u64, u64),
