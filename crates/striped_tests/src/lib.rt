@@ -21,3 +21,5 @@ mod refused;
 mod runs;
 #[cfg(test)]
 mod transfers;
+#[cfg(test)]
+mod values;
