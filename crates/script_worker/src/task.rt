@@ -41,34 +41,39 @@ impl Task {
         }
     }
 
-    /// The worker's task after this end of the call, and how the script is over, if it is.
+    /// Moves on after this end of the call: the worker's task is the next one. Answers how the
+    /// script is over, if it is.
     fn go_on(
         self,
+        task: &mut Option<Task>,
         worker: usize,
         limits: Limits,
         scripts: &[Script],
         tries: u64,
         end: End,
-    ) -> (Option<Task>, Option<Finish>)
-        ensures task { result.0 ≡ progressed scripts.now tries worker limits self end }
-        ensures finish { result.1 ≡ finish_at scripts.now tries self end }
+    ) -> Option<Finish>
+        ensures task { task.new ≡ progressed scripts.now tries worker limits self end }
+        ensures finish { result ≡ finish_at scripts.now tries self end }
     {
         let Some(script) = scripts.get(self.script) else {
-            return (None, None);
+            *task = None;
+            return None;
         };
         match self.attempt.progress(script.actions(), tries, end) {
             Progress::Next(attempt) => {
                 let call = attempt.call(script.actions());
-                let next = Task {
-                    script: self.script,
+                let drive = Drive::new(worker as u64, call, limits);
+                *task = Some(Task {
                     attempt,
-                    drive: Drive::new(worker as u64, call, limits),
-                };
-                (Some(next), None)
+                    drive,
+                    ..self
+                });
+                None
             }
             Progress::Over(finish) => {
                 let next = self.script.saturating_add(limits.callers() as usize);
-                (Task::start(worker, limits, scripts, next), Some(finish))
+                *task = Task::start(worker, limits, scripts, next);
+                Some(finish)
             }
         }
     }
@@ -92,9 +97,7 @@ fn settle(
     let Some(end) = now.drive.ended() else {
         return None;
     };
-    let (next, finish) = now.go_on(worker, limits, scripts, tries, end);
-    *task = next;
-    finish
+    now.go_on(task, worker, limits, scripts, tries, end)
 }
 
 /// Tells the worker's task the answer to its step and finds its next step. Answers how its script
