@@ -27,8 +27,8 @@
 //! - A transaction that is dropped is aborted: at every `?` and every early return its changes are
 //!   taken back and its stripes given back (`IsTakenBack`). `commit` and `abort` take it by value,
 //!   so it cannot be used afterwards.
-//! - The table grows by itself, by a bounded number of steps with each new key, and no growth
-//!   changes the history. If memory is refused to it, the table stays as it is.
+//! - The table grows by itself, by at most a bucket with each new key, and no growth changes the
+//!   history. If memory is refused to it, the table stays as it is.
 //!
 //! One definition, `Keeps`, says what every call of a work keeps: it is still the same transaction,
 //! and it went on. `proofs/Calls.antt` has `keeps_stay` and `keeps_on`, by which the check joins

@@ -18,6 +18,14 @@ use map_answers::Stop;
 use std::alloc::Global;
 use txn_trace::{Answer, Limits, Op, Refusal, Reply, Step};
 
+/// Up to this number of initialised buckets there is one for every two keys, so that operations on
+/// a small table walk past few nodes.
+const FEW_BUCKETS: u64 = 4096;
+
+/// How many keys there are for each initialised bucket of a large table. With fewer, the puts of
+/// new keys would initialise more buckets; with more, operations would walk past more nodes.
+const KEYS_A_BUCKET: u64 = 8;
+
 /// A transactional map from `u64` to `u64` with one owner, who makes every call, for any of its
 /// callers. Contracts see its core.
 #[derive(Drop)]
@@ -101,7 +109,7 @@ impl OwnedMap {
         }
     }
 
-    /// Does an operation, and grows the table by a step if it put a new key.
+    /// Does an operation, and grows the table if the key was not there and that is due.
     #[tactic(auto, using(crate::proofs::Savepoints::keeps_operated, crate::proofs::Savepoints::keeps_grown))]
     pub(crate) fn operate(&mut self, caller: u64, op: Op) -> Result<Reply, Stop>
         ensures goes_on { GoesOn caller self.old.core self.new.core }
@@ -192,21 +200,31 @@ impl OwnedMap {
         self.core.abort(caller);
     }
 
-    /// Grows the table by a step: doubles it if it has more than two keys a bucket, and
-    /// initialises the next bucket, if there is one.
+    /// How many buckets are to be initialised for the keys that there are.
+    fn wanted(&self) -> u64 {
+        let keys = self.core.count();
+        let few = FEW_BUCKETS.min(keys / 2);
+        let most = u64::from(self.core.limits().buckets());
+        most.min(few.max(keys / KEYS_A_BUCKET))
+    }
+
+    /// Grows the table by a bucket if it has too few: doubles it if all are initialised, and
+    /// initialises the next one.
     pub(crate) fn grow(&mut self, caller: u64)
         ensures { IsGrown self.old.core self.new.core }
     {
+        let bucket = self.grown;
+        if bucket >= self.wanted() {
+            return;
+        }
         let buckets = u64::from(self.core.size());
-        if self.core.count() / 2 > buckets {
+        if bucket >= buckets {
             self.serve(Step::Double(buckets));
         }
-        if self.grown < u64::from(self.core.size()) {
-            self.serve(Step::InitSeek(caller, self.grown));
-            self.serve(Step::InitLink(caller));
-            if let Answer::Stored = self.serve(Step::InitStore(caller)) {
-                self.grown = self.grown.saturating_add(1);
-            }
+        self.serve(Step::InitSeek(caller, bucket));
+        self.serve(Step::InitLink(caller));
+        if let Answer::Stored = self.serve(Step::InitStore(caller)) {
+            self.grown = bucket + 1;
         }
     }
 

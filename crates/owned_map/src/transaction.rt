@@ -71,7 +71,7 @@ impl Transaction<'_> {
     }
 
     /// Puts a value at a key, and answers the value before. If the key is new, the table grows by a
-    /// step, if that is due.
+    /// bucket, if that is due.
     ///
     /// # Errors
     ///
