@@ -14,11 +14,11 @@ use boost_core::Core;
 use std::alloc::Global;
 use std::process::Abort;
 use std::test::Fail;
-use txn_trace::{Answer, Entry, Limits, Op, Refusal, Step};
+use txn_trace::{Answer, Entry, Op, Refusal, Step};
 
 /// A step, by `step` or by `run`, or a plain call. A call for help that succeeds has the answer
 /// `Ready` here, like the step that finds the bucket initialised.
-#[derive(Clone, Copy, Debug)]
+#[derive(Clone, Copy)]
 enum Call {
     Step(Step),
     Run(Step),
@@ -42,16 +42,17 @@ fn make_call(alloc: Global, core: &mut Core, call: Call) -> Result<Answer, Fail>
     }
 }
 
-/// Makes a call, which must have this answer.
+/// Makes the call of a row, which must have this answer.
 fn call_is(
     rt: &impl Abort,
     alloc: Global,
     core: &mut Core,
     call: Call,
     wanted: Answer,
+    row: usize,
 ) -> Result<(), Fail> {
     let answer = make_call(alloc, core, call)?;
-    assert_eq!(rt; answer, wanted, "at {call:?}");
+    assert_eq!(rt; answer, wanted, "row {row}");
     Ok(())
 }
 
@@ -61,8 +62,8 @@ fn play_calls(
     core: &mut Core,
     lines: &[(Call, Answer)],
 ) -> Result<(), Fail> {
-    for (call, wanted) in lines {
-        call_is(rt, alloc, core, *call, *wanted)?;
+    for (row, (call, wanted)) in lines.iter().enumerate() {
+        call_is(rt, alloc, core, *call, *wanted, row)?;
     }
     Ok(())
 }
@@ -376,14 +377,14 @@ static RUNS: [Run; 7] = [
 ];
 
 /// The core of a run.
-fn core_in(alloc: Global, run: &Run) -> Result<Core, Fail> {
-    let every = limits_of(run.callers, 8, 8)?;
+fn core_in(rt: &impl Abort, alloc: Global, run: &Run) -> Core {
+    let every = limits_of(rt, run.callers, 8, 8);
     let limits = if run.takes_half_keys {
         every.half_keys()
     } else {
         every
     };
-    core_with(alloc, limits)
+    core_with(rt, alloc, limits)
 }
 
 /// Checks that the history is this one, if it is compared.
@@ -401,8 +402,7 @@ fn play_run(rt: &impl Abort, alloc: Global, core: &mut Core, run: &Run) -> Resul
 
 /// Plays a run on a new core.
 fn play_alone(rt: &impl Abort, alloc: Global, run: &Run) -> Result<(), Fail> {
-    let mut core = core_in(alloc, run)?;
-    play_run(rt, alloc, &mut core, run)
+    play_run(rt, alloc, &mut core_in(rt, alloc, run), run)
 }
 
 fn play_runs(rt: &impl Abort, alloc: Global, runs: &[Run]) -> Result<(), Fail> {
@@ -417,11 +417,19 @@ fn worked_runs(rt: HostRuntime) -> Result<(), Fail> {
     play_runs(&rt, rt.alloc(), &RUNS)
 }
 
-/// A core of one caller, which has begun a transaction.
-fn begun_core(rt: &impl Abort, alloc: Global, limits: Limits) -> Result<Core, Fail> {
-    let mut core = core_with(alloc, limits)?;
-    step_is(rt, &mut core, Step::Begin(0), Answer::Began(1))?;
-    Ok(core)
+/// Caller 0 begins the first transaction.
+fn begin(rt: &impl Abort, core: &mut Core) -> Result<(), Fail> {
+    step_is(rt, core, Step::Begin(0), Answer::Began(1))
+}
+
+/// A core of one caller, with 8 stripes and at most 8 buckets.
+fn small_core(rt: &impl Abort, alloc: Global) -> Core {
+    core_of(rt, alloc, 1)
+}
+
+/// A core of one caller, with 64 stripes and at most 65,536 buckets.
+fn large_core(rt: &impl Abort, alloc: Global) -> Core {
+    core_with(rt, alloc, limits_of(rt, 1, 64, 65_536))
 }
 
 /// Caller 0 takes back the newest of this number of changes, each of a key of its number: those
@@ -459,8 +467,9 @@ fn put_nine(rt: &impl Abort, core: &mut Core) -> Result<(), Fail> {
     Ok(())
 }
 
-/// Caller 0 puts nine keys and aborts.
+/// Caller 0 begins, puts nine keys and aborts.
 fn put_and_undo_nine(rt: &impl Abort, alloc: Global, core: &mut Core) -> Result<(), Fail> {
+    begin(rt, core)?;
     put_nine(rt, core)?;
     step_is(rt, core, Step::Abort(0), Answer::Leaving)?;
     undo_nine(rt, alloc, core)?;
@@ -472,8 +481,8 @@ fn put_and_undo_nine(rt: &impl Abort, alloc: Global, core: &mut Core) -> Result<
 /// back takes the newest key out, and leaves those before it.
 #[test]
 fn nine_undone_newest_first(rt: HostRuntime) -> Result<(), Fail> {
-    let mut core = begun_core(&rt, rt.alloc(), limits_of(1, 8, 8)?)?;
-    put_and_undo_nine(&rt, rt.alloc(), &mut core)
+    let alloc = rt.alloc();
+    put_and_undo_nine(&rt, alloc, &mut small_core(&rt, alloc))
 }
 
 /// Steps, each with the number of entries owed after it: two for an open transaction and one for
@@ -508,7 +517,7 @@ fn owed_are(rt: &impl Abort, core: &mut Core, rows: &[(Step, usize)]) -> Result<
 
 #[test]
 fn owed_entries(rt: HostRuntime) -> Result<(), Fail> {
-    owed_are(&rt, &mut core_of(rt.alloc(), 2)?, &OWED)
+    owed_are(&rt, &mut core_of(&rt, rt.alloc(), 2), &OWED)
 }
 
 /// A call for help doubles a table with more than two keys for each bucket, and initialises the
@@ -536,8 +545,9 @@ fn help_is(
     assert_eq!(rt; helped, wanted, "for {caller_and_key:?}");
 }
 
-/// Caller 0 puts keys and helps after each; there is no helper 1.
+/// Caller 0 begins, puts keys and helps after each; there is no helper 1.
 fn helped_are(rt: &impl Abort, core: &mut Core, rows: &[(u64, u32, u64)]) -> Result<(), Fail> {
+    begin(rt, core)?;
     for (key, size, bucket) in rows {
         put(rt, core, *key)?;
         help_is(rt, core, (0, *key), Ok(()));
@@ -560,6 +570,7 @@ fn put_helped(rt: &impl Abort, core: &mut Core, keys: u64) -> Result<(), Fail> {
 /// 30,000 keys with help before each put, each sought from its bucket: without help each seek would
 /// walk over all keys.
 fn helped_table_stays_fast(rt: &impl Abort, core: &mut Core) -> Result<(), Fail> {
+    begin(rt, core)?;
     put_helped(rt, core, 30_000)?;
     step_is(rt, core, Step::Commit(0), Answer::Committed(1))?;
     assert_eq!(rt; sizes_of(core), (16_384, 30_000));
@@ -568,13 +579,11 @@ fn helped_table_stays_fast(rt: &impl Abort, core: &mut Core) -> Result<(), Fail>
 
 /// A core of few buckets that grows with help.
 fn grow_with_help(rt: &impl Abort, alloc: Global) -> Result<(), Fail> {
-    let mut core = begun_core(rt, alloc, limits_of(1, 8, 8)?)?;
-    helped_are(rt, &mut core, &HELPED)
+    helped_are(rt, &mut small_core(rt, alloc), &HELPED)
 }
 
 #[test]
 fn helps_to_grow(rt: HostRuntime) -> Result<(), Fail> {
     grow_with_help(&rt, rt.alloc())?;
-    let mut core = begun_core(&rt, rt.alloc(), limits_of(1, 64, 65_536)?)?;
-    helped_table_stays_fast(&rt, &mut core)
+    helped_table_stays_fast(&rt, &mut large_core(&rt, rt.alloc()))
 }

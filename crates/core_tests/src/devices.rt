@@ -7,18 +7,18 @@ use std::test::Fail;
 use txn_trace::{Answer, Entry, Limits, Op, Refusal, SmallEntry, Step, Unpacked};
 
 /// Limits of these numbers that take every key.
-pub(crate) fn limits_of(callers: u64, stripes: u64, buckets: u64) -> Result<Limits, Fail> {
-    Ok(Limits::new(callers, stripes, buckets)?)
+pub(crate) fn limits_of(rt: &impl Abort, callers: u64, stripes: u64, buckets: u64) -> Limits {
+    Limits::new(callers, stripes, buckets).expect(rt, "limits in range")
 }
 
 /// A core of this number of callers, with 8 stripes and at most 8 buckets.
-pub(crate) fn core_of(alloc: Global, callers: u64) -> Result<Core, Fail> {
-    core_with(alloc, limits_of(callers, 8, 8)?)
+pub(crate) fn core_of(rt: &impl Abort, alloc: Global, callers: u64) -> Core {
+    core_with(rt, alloc, limits_of(rt, callers, 8, 8))
 }
 
 /// A core of these limits.
-pub(crate) fn core_with(alloc: Global, limits: Limits) -> Result<Core, Fail> {
-    Ok(core_if_made(alloc, limits).ok_or("no core")?)
+pub(crate) fn core_with(rt: &impl Abort, alloc: Global, limits: Limits) -> Core {
+    core_if_made(alloc, limits).expect(rt, "a core")
 }
 
 /// A core of these limits. Tries twice if memory is refused once; `None` if it is refused again.

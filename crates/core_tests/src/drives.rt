@@ -24,7 +24,7 @@ fn tell(drive: &mut Drive, answer: Answer) {
 }
 
 /// Turns of a drive, and the answers that it is told.
-#[derive(Clone, Copy, Debug)]
+#[derive(Clone, Copy)]
 enum Turns {
     /// A turn of this step, which has this answer.
     One(Step, Answer),

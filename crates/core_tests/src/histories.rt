@@ -51,7 +51,7 @@ fn plain_at(entries: &[Entry], place: usize, bad: Option<(usize, Rule)>) -> Verd
     }
 }
 
-/// Checks that this is the verdict on the first entries.
+/// Checks that this is the verdict on the first of these entries.
 fn says(rt: &impl Abort, said: Verdict, wanted: Verdict, entries: &[Entry], count: usize) {
     assert_eq!(rt; said, wanted, "of the first {count} of {entries:?}");
 }
@@ -59,21 +59,31 @@ fn says(rt: &impl Abort, said: Verdict, wanted: Verdict, entries: &[Entry], coun
 /// Checks that a checker that is fed entry by entry agrees with the plain program.
 fn feed_each(
     rt: &impl Abort,
-    mut checker: Checker,
+    checker: &mut Checker,
     entries: &[Entry],
     bad: Option<(usize, Rule)>,
 ) -> Result<(), AllocError> {
     for (i, entry) in entries.iter().enumerate() {
-        feed(rt, &mut checker, entry)?;
-        says(
-            rt,
-            verdict_so_far(&checker),
-            plain_at(entries, i, bad),
-            entries,
-            i + 1,
-        );
+        feed(rt, checker, entry)?;
+        let wanted = plain_at(entries, i, bad);
+        says(rt, verdict_so_far(checker), wanted, entries, i + 1);
     }
     Ok(())
+}
+
+/// The same with a new checker.
+fn feed_new(
+    rt: &impl Abort,
+    alloc: Global,
+    entries: &[Entry],
+    bad: Option<(usize, Rule)>,
+    stripes: u64,
+    holder: Holder,
+) -> Result<(), AllocError> {
+    match checker_of(rt, alloc, stripes, holder) {
+        Ok(mut checker) => feed_each(rt, &mut checker, entries, bad),
+        Err(AllocError) => Err(AllocError),
+    }
 }
 
 /// The verdict of the plain program, with which `check` and a checker that is fed entry by entry
@@ -89,7 +99,7 @@ fn judge_once(
     let expected = plain::verdict(entries, bad);
     let whole = checked(rt, alloc, entries, stripes, holder)?;
     says(rt, whole, expected, entries, entries.len());
-    feed_each(rt, checker_of(rt, alloc, stripes, holder)?, entries, bad)?;
+    feed_new(rt, alloc, entries, bad, stripes, holder)?;
     Ok(expected)
 }
 
@@ -476,21 +486,32 @@ static BY_HOLDERS_THAT_HAVE_BEGUN: [Row; 5] = [
     ),
 ];
 
+/// Replaces an entry of a history.
+fn replace(entries: &mut [Entry], change: Option<(usize, Entry)>) {
+    if let Some((place, entry)) = change {
+        if let Some(changed) = entries.get_mut(place) {
+            *changed = entry;
+        }
+    }
+}
+
+fn judge_row(rt: &impl Abort, alloc: Global, holder: Holder, row: &Row) -> Result<(), AllocError> {
+    let (history, change, stripes, wanted) = *row;
+    let mut entries = history.to_vec(alloc)?;
+    replace(entries.as_mut_slice(), change);
+    let verdict = judge(rt, alloc, &entries, stripes, holder)?;
+    says(rt, verdict, wanted, &entries, entries.len());
+    Ok(())
+}
+
 fn judge_rows(
     rt: &impl Abort,
     alloc: Global,
     holder: Holder,
     rows: &[Row],
 ) -> Result<(), AllocError> {
-    for (history, change, stripes, wanted) in rows {
-        let mut entries = history.to_vec(alloc)?;
-        if let Some((place, entry)) = *change {
-            if let Some(changed) = entries.get_mut(place) {
-                *changed = entry;
-            }
-        }
-        let verdict = judge(rt, alloc, &entries, *stripes, holder)?;
-        assert_eq!(rt; verdict, *wanted, "{entries:?} by {stripes} stripes");
+    for row in rows {
+        judge_row(rt, alloc, holder, row)?;
     }
     Ok(())
 }
@@ -585,16 +606,26 @@ fn verdict_at(rows: &[(usize, Verdict)], place: usize) -> Option<Verdict> {
 }
 
 /// Feeds a checker, once more if it is refused memory, and compares its verdict after each entry.
-fn feed_all(rt: &impl Abort, alloc: Global, entries: &[Entry], rows: &[(usize, Verdict)]) {
-    let Some(mut checker) = start_checker(rt, alloc) else {
-        return;
-    };
+fn feed_rows(
+    rt: &impl Abort,
+    alloc: Global,
+    checker: &mut Checker,
+    entries: &[Entry],
+    rows: &[(usize, Verdict)],
+) {
     for (i, entry) in entries.iter().enumerate() {
-        if !is_fed(rt, &mut checker, entry) {
-            return end_refused(rt, alloc, &mut checker, i);
+        if !is_fed(rt, checker, entry) {
+            return end_refused(rt, alloc, checker, i);
         }
-        let verdict = Some(verdict_so_far(&checker));
-        assert_eq!(rt; verdict, verdict_at(rows, i), "after entry {i}");
+        let verdict = Some(verdict_so_far(checker));
+        assert!(rt; verdict == verdict_at(rows, i), "after entry {i}");
+    }
+}
+
+/// The same with a new checker, if there is memory for one.
+fn feed_all(rt: &impl Abort, alloc: Global, entries: &[Entry], rows: &[(usize, Verdict)]) {
+    if let Some(mut checker) = start_checker(rt, alloc) {
+        feed_rows(rt, alloc, &mut checker, entries, rows);
     }
 }
 
@@ -699,8 +730,22 @@ impl Tally {
     }
 }
 
-/// Draws a legal history from the seed, which must be judged legal, and answers the verdict on it
-/// with one fault.
+/// Judges a drawn history, which must be legal, and answers the verdict on it with one fault.
+fn judge_history(
+    rt: &impl Abort,
+    alloc: Global,
+    draws: &mut Draws,
+    history: &mut Vec<Entry>,
+    stripes: u64,
+    holder: Holder,
+) -> Result<Verdict, AllocError> {
+    let verdict = judge_once(rt, alloc, history, stripes, holder)?;
+    assert!(rt; matches!(verdict, Verdict::Legal { .. }), "{history:?}");
+    generated::spoil(draws, history)?;
+    judge_once(rt, alloc, history, stripes, holder)
+}
+
+/// The same with a history drawn from the seed.
 fn judge_seed(
     rt: &impl Abort,
     alloc: Global,
@@ -711,10 +756,7 @@ fn judge_seed(
     let stripes = draws.below(4).wrapping_add(1);
     let length = draws.below(31);
     let mut history = generated::legal_history(alloc, &mut draws, stripes, length, holder)?;
-    let verdict = judge_once(rt, alloc, &history, stripes, holder)?;
-    assert!(rt; matches!(verdict, Verdict::Legal { .. }), "{history:?}");
-    generated::spoil(&mut draws, &mut history)?;
-    judge_once(rt, alloc, &history, stripes, holder)
+    judge_history(rt, alloc, &mut draws, &mut history, stripes, holder)
 }
 
 /// Judges the history of a seed, once more if memory is refused.

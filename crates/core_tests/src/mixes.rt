@@ -125,8 +125,30 @@ fn mixed_history(alloc: Global, seed: u64, scripts: &str) -> Result<Vec<Entry>, 
     Ok(Unpacked::new(trace.as_slice()).collect(alloc)?)
 }
 
-/// Mixes scripts by a seed, and checks that the drawn workers take their turns, by rising place
-/// among those that have one left, until none has.
+/// Checks that the workers, drawn by the generator, take their turns, by rising place among those
+/// that have one left, until none has, and that they add these entries.
+fn take_turns(
+    rt: &impl Abort,
+    history: &[Entry],
+    words: &mut Pcg32,
+    live: &mut Vec<(u64, Turns)>,
+) -> Result<(), Fail> {
+    let mut entries = history.iter();
+    for _turn in 0..20 {
+        if live.is_empty() {
+            break;
+        }
+        let (worker, name) = take_turn(words, live)?;
+        if let Some(name) = name {
+            let entry = entries.next().ok_or("a short history")?;
+            assert!(rt; caller_and_name(entry) == (worker, name), "{entry:?}");
+        }
+    }
+    assert!(rt; live.is_empty() && entries.next().is_none());
+    Ok(())
+}
+
+/// Mixes scripts by a seed, and checks the turns of the workers.
 fn mixes_so(
     rt: &impl Abort,
     alloc: Global,
@@ -135,24 +157,8 @@ fn mixes_so(
     workers: &[(u64, Turns)],
 ) -> Result<(), Fail> {
     let history = mixed_history(alloc, seed, scripts)?;
-    let mut entries = history.iter();
-    let mut words = generator_of(seed);
     let mut live = workers.to_vec(alloc)?;
-    for _turn in 0..20 {
-        if live.is_empty() {
-            break;
-        }
-        let (worker, name) = take_turn(&mut words, &mut live)?;
-        if let Some(name) = name {
-            let entry = entries.next().ok_or("a short history")?;
-            assert_eq!(rt; caller_and_name(entry), (worker, name), "by seed {seed}");
-        }
-    }
-    assert!(rt;
-        live.is_empty() && entries.next().is_none(),
-        "by seed {seed}"
-    );
-    Ok(())
+    take_turns(rt, &history, &mut generator_of(seed), &mut live)
 }
 
 /// Scripts, the number of seeds by which they are mixed, and each worker with its turns.

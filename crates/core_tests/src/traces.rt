@@ -268,14 +268,18 @@ fn save(rt: &impl Abort, seat: &mut Seat) -> Result<(), AllocError> {
 /// when asked once more.
 #[test]
 fn savepoints_without_memory(rt: HostRuntime) -> Result<(), Fail> {
-    let mut seat = open_seat(&rt, rt.alloc());
+    save_nine(&rt, &mut open_seat(&rt, rt.alloc()))
+}
+
+/// Sets nine savepoints.
+fn save_nine(rt: &impl Abort, seat: &mut Seat) -> Result<(), Fail> {
     for level in 0..9 {
-        assert_eq!(rt; levels_of(&seat), level);
-        if save(&rt, &mut seat).is_err() {
-            assert_eq!(rt; levels_of(&seat), level, "no memory, no savepoint");
-            save(&rt, &mut seat)?;
+        assert_eq!(rt; levels_of(seat), level);
+        if save(rt, seat).is_err() {
+            assert_eq!(rt; levels_of(seat), level, "no memory, no savepoint");
+            save(rt, seat)?;
         }
     }
-    assert_eq!(rt; levels_of(&seat), 9);
+    assert_eq!(rt; levels_of(seat), 9);
     Ok(())
 }

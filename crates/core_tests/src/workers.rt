@@ -124,15 +124,26 @@ fn takes(rt: &impl Abort, worker: &mut Worker, scripts: &[Script], row: &Row, by
     assert_eq!(rt; script_at(worker), script, "after {step:?}");
 }
 
-/// The worker of a case takes its steps, and has a turn left if it is at a script then.
+/// A worker takes the steps of a case, and has a turn left if it is at a script then.
+fn takes_all(
+    rt: &impl Abort,
+    worker: &mut Worker,
+    scripts: &[Script],
+    case: &Case,
+    by_take_turn: bool,
+) {
+    assert_eq!(rt; script_at(worker), case.first);
+    for row in case.rows {
+        takes(rt, worker, scripts, row, by_take_turn);
+    }
+    assert_eq!(rt; has_turn(worker), script_at(worker).is_some());
+}
+
+/// The worker of a case takes its steps.
 fn play(rt: &impl Abort, alloc: Global, case: &Case, by_take_turn: bool) -> Result<(), Fail> {
     let scripts = scripts_of(alloc, case.scripts)?;
     let mut worker = worker_in(case, &scripts)?;
-    assert_eq!(rt; script_at(&worker), case.first);
-    for row in case.rows {
-        takes(rt, &mut worker, &scripts, row, by_take_turn);
-    }
-    assert_eq!(rt; has_turn(&mut worker), script_at(&worker).is_some());
+    takes_all(rt, &mut worker, &scripts, case, by_take_turn);
     Ok(())
 }
 

@@ -159,9 +159,9 @@ fn judge(rt: &impl Abort, alloc: Global, row: &Row) -> Result<(), AllocError> {
     let (entries, by_locks, by_commits) = *row;
     assert!(rt; entries.iter().all(|entry| entry.caller() < 64));
     let found = history_check::check(alloc, entries, 8, Holder::Now)?;
-    assert_eq!(rt; found, by_locks, "by locks: {entries:?}");
+    assert!(rt; found == by_locks, "by locks: {entries:?}");
     let found = serial_check::check(alloc, entries)?;
-    assert_eq!(rt; found, by_commits, "by commits: {entries:?}");
+    assert!(rt; found == by_commits, "by commits: {entries:?}");
     Ok(())
 }
 
@@ -177,26 +177,45 @@ fn feed(rt: &impl Abort, checker: &mut Checker, entry: &Entry) -> Result<(), All
 /// Checks the verdict on each beginning of the history, by a checker that is fed entry by entry:
 /// legal up to the first bad entry, and from there on that entry.
 fn feed_each(rt: &impl Abort, alloc: Global, row: &Row) -> Result<(), AllocError> {
-    let (entries, _, wanted) = *row;
-    let mut checker = match Checker::new(alloc) {
-        Ok(checker) => checker,
-        Err(_) => Checker::new(alloc)?,
-    };
-    for (i, entry) in entries.iter().enumerate() {
-        feed(rt, &mut checker, entry)?;
-        let found = checker.verdict();
-        match wanted {
-            Verdict::Illegal { entry, .. } if entry <= i as u64 => {
-                assert_eq!(rt; found, wanted, "at {i} of {entries:?}");
-            }
-            _ => {
-                let is_legal = matches!(found, Verdict::Legal { .. });
-                assert!(rt; is_legal, "at {i} of {entries:?}");
-            }
-        }
+    match checker_again(alloc) {
+        Ok(mut checker) => feed_to(rt, &mut checker, row.0, row.2),
+        Err(AllocError) => Err(AllocError),
     }
-    assert_eq!(rt; checker.verdict(), wanted, "{entries:?}");
+}
+
+/// A checker, asked for once more if memory is refused.
+fn checker_again(alloc: Global) -> Result<Checker, AllocError> {
+    match Checker::new(alloc) {
+        Ok(checker) => Ok(checker),
+        Err(_) => Checker::new(alloc),
+    }
+}
+
+/// Feeds a checker entry by entry, and looks at its verdict after each.
+fn feed_to(
+    rt: &impl Abort,
+    checker: &mut Checker,
+    entries: &[Entry],
+    wanted: Verdict,
+) -> Result<(), AllocError> {
+    for (i, entry) in entries.iter().enumerate() {
+        feed(rt, checker, entry)?;
+        assert!(rt;
+            may_be(checker.verdict(), i, wanted),
+            "at {i} of {entries:?}"
+        );
+    }
+    assert!(rt; checker.verdict() == wanted, "{entries:?}");
     Ok(())
+}
+
+/// Whether a verdict may be found after the entry of a place, where the last one is wanted: legal
+/// up to the first bad entry, and from there on that entry.
+fn may_be(found: Verdict, place: usize, wanted: Verdict) -> bool {
+    match wanted {
+        Verdict::Illegal { entry, .. } if entry <= place as u64 => found == wanted,
+        _ => matches!(found, Verdict::Legal { .. }),
+    }
 }
 
 /// The worked histories.

@@ -1,11 +1,14 @@
-//! The texts of a verdict and of a rule, and both as errors.
+//! The texts of a verdict and of a rule, and both as errors; and as errors also the reasons why a
+//! call on a map stopped.
 
 use anyhow::Result;
 use history_check::{Rule, Verdict};
+use map_answers::Stop;
 use std::alloc::{AllocError, Global};
 use std::fmt::Display;
 use std::process::Abort;
 use std::test::Fail;
+use txn_trace::Refusal;
 
 /// Checks that a value has this text.
 fn prints(
@@ -74,5 +77,34 @@ fn are_those_of_errors(rt: HostRuntime) -> Result<(), Fail> {
     };
     fails(&rt, alloc, only_legal(illegal), "illegal entry 7 rule 3")?;
     fails(&rt, alloc, broken(Rule::Locks), "rule 2")?;
+    Ok(())
+}
+
+/// A refusal, as the error of a call.
+fn refused(refusal: Refusal) -> Result<(), Stop> {
+    Err(refusal)?;
+    Ok(())
+}
+
+/// Refused memory, as the error of a call.
+fn lacks_memory() -> Result<(), Stop> {
+    Err(AllocError)?;
+    Ok(())
+}
+
+/// The error of a call, as any error.
+fn stopped(outcome: Result<(), Stop>) -> Result<()> {
+    outcome?;
+    Ok(())
+}
+
+#[test]
+fn stops_are_errors(rt: HostRuntime) -> Result<(), Fail> {
+    let alloc = rt.alloc();
+    let busy = stopped(Err(Stop::Busy { holder: 10 }));
+    fails(&rt, alloc, busy, "caller 10 held the stripe of the key")?;
+    let closed = stopped(refused(Refusal::NotOpen));
+    fails(&rt, alloc, closed, "the caller has no open transaction")?;
+    fails(&rt, alloc, stopped(lacks_memory()), "memory was refused")?;
     Ok(())
 }

@@ -7,16 +7,14 @@ use boost_core::Core;
 use owned_map::{OwnedMap, Stop, Transaction};
 use std::alloc::Global;
 use std::process::Abort;
-use std::test::Fail;
 use txn_trace::{Limits, Refusal, Reply};
 
 /// How many keys are put: 0, 3, 6 and so on.
 const KEYS: u64 = 40;
 
 /// A map of two callers, if there is memory for it.
-fn map_of(alloc: Global) -> Result<Option<OwnedMap>, Fail> {
-    let limits = Limits::new(2, 8, 64)?;
-    Ok(OwnedMap::new(alloc, limits).ok())
+fn map_of(rt: &impl Abort, alloc: Global) -> Option<OwnedMap> {
+    OwnedMap::new(alloc, Limits::new(2, 8, 64).expect(rt, "limits in range")).ok()
 }
 
 fn put(t: &mut Transaction<'_>, key: u64, value: u64) -> Result<Reply, Stop>
@@ -25,18 +23,11 @@ fn put(t: &mut Transaction<'_>, key: u64, value: u64) -> Result<Reply, Stop>
     t.put(key, value)
 }
 
-fn put_in(map: &mut OwnedMap, key: u64, value: u64) -> Result<Reply, Stop> {
-    map.transact(0, |t: &mut Transaction<'_>| put(t, key, value))
-}
-
-fn contains(t: &mut Transaction<'_>, key: u64) -> Result<bool, Stop>
+/// Answers 1 if a key is there.
+fn contains(t: &mut Transaction<'_>, key: u64) -> Result<Reply, Stop>
     ensures { Keeps t.old t.new }
 {
-    t.contains_key(key)
-}
-
-fn contains_in(map: &mut OwnedMap, key: u64) -> Result<bool, Stop> {
-    map.transact(1, |t: &mut Transaction<'_>| contains(t, key))
+    Ok(t.contains_key(key)?.then_some(1))
 }
 
 /// Puts 1 at a key, and sets a savepoint.
@@ -58,15 +49,12 @@ fn put_and_back(t: &mut Transaction<'_>, key: u64, level: u64) -> Result<(), Sto
 
 /// Puts 1 at a key, then 2, and goes back to the savepoint between.
 #[tactic(auto, using(owned_map::proofs::Calls::keeps_on))]
-fn put_and_go_back(t: &mut Transaction<'_>, key: u64) -> Result<(), Stop>
+fn put_and_go_back(t: &mut Transaction<'_>, key: u64) -> Result<Reply, Stop>
     ensures { Keeps t.old t.new }
 {
     let level = put_and_save(t, key)?;
-    put_and_back(t, key, level)
-}
-
-fn go_back_in(map: &mut OwnedMap, key: u64) -> Result<(), Stop> {
-    map.transact(0, |t: &mut Transaction<'_>| put_and_go_back(t, key))
+    put_and_back(t, key, level)?;
+    Ok(None)
 }
 
 fn get(t: &mut Transaction<'_>, key: u64) -> Result<Reply, Stop>
@@ -75,12 +63,46 @@ fn get(t: &mut Transaction<'_>, key: u64) -> Result<Reply, Stop>
     t.get(key)
 }
 
-fn get_in(map: &mut OwnedMap, key: u64) -> Result<Reply, Stop> {
-    map.transact(0, |t: &mut Transaction<'_>| get(t, key))
+/// A transaction's work.
+#[derive(Clone, Copy)]
+enum Work {
+    /// Puts a value at a key.
+    Put(u64, u64),
+    /// Answers 1 if a key is there.
+    Contains(u64),
+    /// Puts 1 at a key, then 2, and goes back to the savepoint between.
+    GoBack(u64),
+    /// Answers the value of a key.
+    Get(u64),
 }
 
-fn trim(alloc: Global, map: &mut OwnedMap) -> Result<Core, Refusal> {
-    map.trim(alloc)
+fn do_work(t: &mut Transaction<'_>, work: Work) -> Result<Reply, Stop>
+    ensures { Keeps t.old t.new }
+{
+    match work {
+        Work::Put(key, value) => put(t, key, value),
+        Work::Contains(key) => contains(t, key),
+        Work::GoBack(key) => put_and_go_back(t, key),
+        Work::Get(key) => get(t, key),
+    }
+}
+
+/// Does a work in a transaction of a caller.
+fn work_in(map: &mut OwnedMap, caller: u64, work: Work) -> Result<Reply, Stop> {
+    map.transact(caller, |t: &mut Transaction<'_>| do_work(t, work))
+}
+
+/// Cuts the history off, and answers the number of entries of the one that is cut off.
+fn trim(alloc: Global, map: &mut OwnedMap) -> Result<u64, Refusal> {
+    match map.trim(alloc) {
+        Ok(old) => Ok(length_of(&old)),
+        Err(refusal) => Err(refusal),
+    }
+}
+
+/// The number of entries of a core's history.
+fn length_of(core: &Core) -> u64 {
+    core.trace().len() as u64
 }
 
 /// The numbers of keys and of buckets, and whether there is no key.
@@ -90,18 +112,18 @@ fn counts_of(map: &OwnedMap) -> (u64, u32, bool) {
 
 /// The number of entries of the history.
 fn entries_in(map: &OwnedMap) -> u64 {
-    map.core().trace().len() as u64
+    length_of(map.core())
 }
 
 /// The pairs in the order of the list, if there is memory for them.
-fn pairs_of(alloc: Global, map: &OwnedMap) -> Option<Vec<(u64, u64)>> {
+fn pairs_of(alloc: Global, map: &OwnedMap) -> Pairs {
     map.core().regular_list(alloc).ok()
 }
 
 /// Puts the keys, up to the first that is refused memory, and answers how many are there.
 fn fill(rt: &impl Abort, map: &mut OwnedMap) -> u64 {
     for done in 0..KEYS {
-        match put_in(map, done.wrapping_mul(3), done) {
+        match work_in(map, 0, Work::Put(done.wrapping_mul(3), done)) {
             Ok(reply) => assert_eq!(rt; reply, None),
             Err(stop) => {
                 assert_eq!(rt; stop, Stop::Refused(Refusal::NoMemory));
@@ -117,27 +139,30 @@ fn fill(rt: &impl Abort, map: &mut OwnedMap) -> u64 {
 fn has_keys(rt: &impl Abort, map: &mut OwnedMap, count: u64) {
     for key in 0..KEYS.wrapping_mul(3) {
         let is_there = key % 3 == 0 && key / 3 < count;
-        match contains_in(map, key) {
-            Ok(found) => assert_eq!(rt; found, is_there, "at {key}"),
+        match work_in(map, 1, Work::Contains(key)) {
+            Ok(found) => assert_eq!(rt; found, is_there.then_some(1), "at {key}"),
             Err(stop) => assert_eq!(rt; stop, Stop::Refused(Refusal::NoMemory)),
         }
     }
     assert_eq!(rt; counts_of(map).0, count);
 }
 
-#[test]
-fn the_table_grows_by_itself(rt: HostRuntime) -> Result<(), Fail> {
-    let Some(mut map) = map_of(rt.alloc())? else {
-        return Ok(());
-    };
-    assert_eq!(&rt; counts_of(&map), (0, 2, true));
-    let count = fill(&rt, &mut map);
+/// Fills a map.
+fn grow(rt: &impl Abort, map: &mut OwnedMap) {
+    assert_eq!(rt; counts_of(map), (0, 2, true));
+    let count = fill(rt, map);
     if count == KEYS {
         // It doubles where there are more than two keys a bucket: at 6, 10, 18 and 34.
-        assert_eq!(&rt; counts_of(&map), (40, 32, false));
+        assert_eq!(rt; counts_of(map), (40, 32, false));
     }
-    has_keys(&rt, &mut map, count);
-    Ok(())
+    has_keys(rt, map, count);
+}
+
+#[test]
+fn the_table_grows_by_itself(rt: HostRuntime) {
+    if let Some(mut map) = map_of(&rt, rt.alloc()) {
+        grow(&rt, &mut map);
+    }
 }
 
 /// Cuts the history off. If memory is refused, nothing has changed.
@@ -146,7 +171,7 @@ fn trim_in(rt: &impl Abort, alloc: Global, map: &mut OwnedMap) {
     let count = counts_of(map).0;
     match trim(alloc, map) {
         Ok(old) => {
-            assert_eq!(rt; old.trace().len() as u64, entries);
+            assert_eq!(rt; old, entries);
             // A begin and a commit, and two entries for each pair.
             assert_eq!(rt; entries_in(map), count.wrapping_mul(2).wrapping_add(2));
         }
@@ -157,39 +182,56 @@ fn trim_in(rt: &impl Abort, alloc: Global, map: &mut OwnedMap) {
     }
 }
 
-#[test]
-fn a_history_is_cut_off(rt: HostRuntime) -> Result<(), Fail> {
-    let alloc = rt.alloc();
-    let Some(mut map) = map_of(alloc)? else {
-        return Ok(());
-    };
-    let count = fill(&rt, &mut map);
-    let before = pairs_of(alloc, &map);
-    trim_in(&rt, alloc, &mut map);
-    let after = pairs_of(alloc, &map);
-    if let (Some(before), Some(after)) = (&before, &after) {
-        assert_eq!(&rt; after.as_slice(), before.as_slice());
+/// The pairs of a map, if there is memory for their list.
+type Pairs = Option<Vec<(u64, u64)>>;
+
+/// Checks that these are the same pairs, if there was memory for both lists.
+fn are_same(rt: &impl Abort, before: &Pairs, after: &Pairs) {
+    if let (Some(before), Some(after)) = (before, after) {
+        assert!(rt; after.as_slice() == before.as_slice());
     }
-    has_keys(&rt, &mut map, count);
-    Ok(())
+}
+
+/// Cuts the history off, which leaves the pairs.
+fn trim_beside(rt: &impl Abort, alloc: Global, map: &mut OwnedMap) {
+    let before = pairs_of(alloc, map);
+    trim_in(rt, alloc, map);
+    are_same(rt, &before, &pairs_of(alloc, map));
+}
+
+/// Fills a map, and cuts its history off.
+fn fill_and_trim(rt: &impl Abort, alloc: Global, map: &mut OwnedMap) {
+    let count = fill(rt, map);
+    trim_beside(rt, alloc, map);
+    has_keys(rt, map, count);
 }
 
 #[test]
-fn a_savepoint_is_gone_back_to(rt: HostRuntime) -> Result<(), Fail> {
-    let Some(mut map) = map_of(rt.alloc())? else {
-        return Ok(());
-    };
-    let is_back = match go_back_in(&mut map, 7) {
-        Ok(()) => true,
+fn a_history_is_cut_off(rt: HostRuntime) {
+    if let Some(mut map) = map_of(&rt, rt.alloc()) {
+        fill_and_trim(&rt, rt.alloc(), &mut map);
+    }
+}
+
+/// Goes back to a savepoint, and looks at the key and at the number of keys.
+fn go_back(rt: &impl Abort, map: &mut OwnedMap) {
+    let is_back = match work_in(map, 0, Work::GoBack(7)) {
+        Ok(_) => true,
         Err(stop) => {
-            assert_eq!(&rt; stop, Stop::Refused(Refusal::NoMemory));
+            assert_eq!(rt; stop, Stop::Refused(Refusal::NoMemory));
             false
         }
     };
-    match get_in(&mut map, 7) {
-        Ok(reply) => assert_eq!(&rt; reply, is_back.then_some(1)),
-        Err(stop) => assert_eq!(&rt; stop, Stop::Refused(Refusal::NoMemory)),
+    match work_in(map, 0, Work::Get(7)) {
+        Ok(reply) => assert_eq!(rt; reply, is_back.then_some(1)),
+        Err(stop) => assert_eq!(rt; stop, Stop::Refused(Refusal::NoMemory)),
     }
-    assert_eq!(&rt; counts_of(&map).0, u64::from(is_back));
-    Ok(())
+    assert_eq!(rt; counts_of(map).0, u64::from(is_back));
+}
+
+#[test]
+fn a_savepoint_is_gone_back_to(rt: HostRuntime) {
+    if let Some(mut map) = map_of(&rt, rt.alloc()) {
+        go_back(&rt, &mut map);
+    }
 }

@@ -4,7 +4,6 @@
 ghost use Rattle.std.specs.Prelude.{◌≡◌};
 ghost use Rattle.shared_transactions.specs.Keeps.{Keeps};
 
-use crate::errors::prints;
 use boost_core::Core;
 use locked_map::{Caller, Closed, NoSide, Pass, SharedMap, Stop};
 use shared_transactions::{
@@ -32,6 +31,42 @@ fn put<L: Ledger, R: Wait>(
     t.put(key, value)
 }
 
+/// Answers 1 if a key is there.
+fn contains<L: Ledger, R: Wait>(t: &mut Transaction<'_, L, R>, key: u64) -> Result<Reply, Stop>
+    ensures { Keeps t.old.me t.new.me }
+{
+    Ok(t.contains_key(key)?.then_some(1))
+}
+
+/// A transaction's work.
+#[derive(Clone, Copy)]
+enum Work {
+    /// Puts a value at a key.
+    Put(u64, u64),
+    /// Answers 1 if a key is there.
+    Contains(u64),
+}
+
+fn do_work<L: Ledger, R: Wait>(t: &mut Transaction<'_, L, R>, work: Work) -> Result<Reply, Stop>
+    ensures { Keeps t.old.me t.new.me }
+{
+    match work {
+        Work::Put(key, value) => put(t, key, value),
+        Work::Contains(key) => contains(t, key),
+    }
+}
+
+/// Does a work in a transaction of its own.
+fn work_by<L: Ledger, R: Wait>(
+    t: &mut Transaction<'_, L, R>,
+    retry: Retry,
+    work: Work,
+) -> Result<Reply, Stop> {
+    let works = |t: &mut Transaction<'_, L, R>| do_work(t, work);
+    let (reply, _) = transact(&mut *t, retry, works)?;
+    Ok(reply)
+}
+
 /// Puts in a transaction of its own, tried again a few times with the shortest sleeps.
 fn put_by<L: Ledger, R: Wait>(
     t: &mut Transaction<'_, L, R>,
@@ -39,21 +74,7 @@ fn put_by<L: Ledger, R: Wait>(
     value: u64,
 ) -> Result<Reply, Stop> {
     let retry = Retry::times_at_most(8).sleeping_at_most(Duration::from_micros(1));
-    let puts = |t: &mut Transaction<'_, L, R>| put(t, key, value);
-    let (reply, _) = transact(&mut *t, retry, puts)?;
-    Ok(reply)
-}
-
-fn contains<L: Ledger, R: Wait>(t: &mut Transaction<'_, L, R>, key: u64) -> Result<bool, Stop>
-    ensures { Keeps t.old.me t.new.me }
-{
-    t.contains_key(key)
-}
-
-fn contains_by<L: Ledger, R: Wait>(t: &mut Transaction<'_, L, R>, key: u64) -> Result<bool, Stop> {
-    let looks = |t: &mut Transaction<'_, L, R>| contains(t, key);
-    let (found, _) = transact(&mut *t, Retry::FOREVER, looks)?;
-    Ok(found)
+    work_by(t, retry, Work::Put(key, value))
 }
 
 fn open<'a, L: Ledger, R: Wait>(
@@ -104,8 +125,8 @@ fn fill<L: Ledger, R: Wait + Abort>(rt: &R, t: &mut Transaction<'_, L, R>) -> u6
 fn has_keys<L: Ledger, R: Wait + Abort>(rt: &R, t: &mut Transaction<'_, L, R>, count: u64) {
     for key in 0..KEYS.wrapping_mul(3) {
         let is_there = key % 3 == 0 && key / 3 < count;
-        match contains_by(t, key) {
-            Ok(found) => assert_eq!(rt; found, is_there, "at {key}"),
+        match work_by(t, Retry::FOREVER, Work::Contains(key)) {
+            Ok(found) => assert_eq!(rt; found, is_there.then_some(1), "at {key}"),
             Err(stop) => assert_eq!(rt; stop, Stop::Refused(Refusal::NoMemory)),
         }
     }
@@ -165,14 +186,26 @@ impl<R: Wait + Abort> Session<R> for Works {
         let Ok(mut callers) = callers_of(alloc, passes) else {
             return Ok(());
         };
-        let count = work_on(rt, &shared, callers.as_mut_slice())?;
-        let core = close(shared, callers)?;
-        if count == KEYS {
-            // It doubles where there are more than two keys a bucket: at 5, 9 and 17.
-            assert_eq!(rt; core.size(), 16);
+        let count = work_on(rt, &shared, callers.as_mut_slice());
+        match close(shared, callers) {
+            Ok(core) => grown_goes_on(rt, alloc, &core, count),
+            Err(fail) => Err(fail),
         }
-        go_on(rt, alloc, &core)
     }
+}
+
+/// Sees that the core with this number of puts has grown, and goes on from it.
+fn grown_goes_on<R: Wait + Abort>(
+    rt: &R,
+    alloc: Global,
+    core: &Core,
+    count: u64,
+) -> Result<(), Fail> {
+    if count == KEYS {
+        // It doubles where there are more than two keys a bucket: at 5, 9 and 17.
+        assert_eq!(rt; core.size(), 16);
+    }
+    go_on(rt, alloc, core)
 }
 
 /// The core of a map that closes.
@@ -189,14 +222,14 @@ fn work_on<L: Ledger, R: Wait + Abort>(
     rt: &R,
     map: &SharedMap<L>,
     callers: &mut [Caller<L, NoSide>],
-) -> Result<u64, Fail> {
+) -> u64 {
     let [me, other] = callers else {
-        return Err("two callers".into());
+        panic!(rt; "two callers");
     };
     let count = fill(rt, &mut open(rt, map, me));
     has_keys(rt, &mut open(rt, map, me), count);
     try_again(rt, map, me, other);
-    Ok(count)
+    count
 }
 
 /// A new map goes on from a closed one.
@@ -237,17 +270,47 @@ fn goes_on<L: Ledger, R: Abort>(
     let Restarted { map, first, passes } = restarted;
     let entries = seen_by(&first).len() as u64;
     assert_eq!(rt; entries, old.count().wrapping_mul(2).wrapping_add(2));
-    let Ok(mut callers) = callers_of(alloc, passes) else {
-        return Ok(());
-    };
-    if callers.push(first).is_err() {
-        return Ok(());
+    match all_of(alloc, first, passes) {
+        Some(callers) => closes_as(rt, alloc, map, callers, old),
+        None => Ok(()),
     }
-    let new = close(map, callers)?;
+}
+
+/// The callers of a map, the first of which was made before, if there is memory for their list.
+fn all_of<L: Ledger>(
+    alloc: Global,
+    first: Caller<L, NoSide>,
+    passes: Vec<Pass<L>>,
+) -> Option<Vec<Caller<L, NoSide>>> {
+    let mut callers = callers_of(alloc, passes).ok()?;
+    callers.push(first).ok()?;
+    Some(callers)
+}
+
+/// Closes a map, and sees that it has the pairs of an old one.
+fn closes_as<L: Ledger, R: Abort>(
+    rt: &R,
+    alloc: Global,
+    map: SharedMap<L>,
+    callers: Vec<Caller<L, NoSide>>,
+    old: &Core,
+) -> Result<(), Fail>
+    requires { map.limits.callers ≡ L.parts }
+{
+    match close(map, callers) {
+        Ok(new) => {
+            have_same_pairs(rt, alloc, old, &new);
+            Ok(())
+        }
+        Err(fail) => Err(fail),
+    }
+}
+
+/// Checks that two cores have the same pairs, if there is memory for their lists.
+fn have_same_pairs(rt: &impl Abort, alloc: Global, old: &Core, new: &Core) {
     if let (Ok(old), Ok(new)) = (old.regular_list(alloc), new.regular_list(alloc)) {
-        assert_eq!(rt; new.as_slice(), old.as_slice());
+        assert!(rt; new.as_slice() == old.as_slice());
     }
-    Ok(())
 }
 
 #[test]
@@ -283,8 +346,9 @@ impl<R: Abort> Session<R> for ClosesAlone {
         match shared.close(callers) {
             Ok(_) => panic!(rt; "it was closed"),
             Err(why) => {
+                let text = why.to_string(alloc)?;
                 let wanted = "a caller of the map is missing or was handed in twice";
-                prints(rt, alloc, why, wanted)?;
+                assert!(rt; text.as_str() == wanted);
             }
         }
         Ok(())

@@ -1,12 +1,12 @@
 //! Cores at their limits. Memory may be refused to any call that takes some, so a body that gives
 //! up at a limit would be proved; with enough memory these calls have the same answers as
 //! elsewhere.
-use super::{Call, begun_core, call_is, help_is, play_calls, put, put_helped};
+use super::{Call, begin, help_is, large_core, play_calls, put, put_helped, small_core};
 use crate::devices::{
     abort, back, core_with, has_map, limits_of, operate, pairs_of, run_steps, sizes_of, step_is,
 };
 use boost_core::Core;
-use std::alloc::Global;
+use std::alloc::{AllocError, Global};
 use std::process::Abort;
 use std::test::Fail;
 use txn_trace::{Answer, Op, Refusal, Step};
@@ -77,10 +77,15 @@ fn callers_work(rt: &impl Abort, core: &mut Core, callers: u64) -> Result<(), Fa
     Ok(())
 }
 
+/// The callers of a core of this size work.
+fn size_works(rt: &impl Abort, alloc: Global, size: (u64, u64, u64)) -> Result<(), Fail> {
+    let limits = limits_of(rt, size.0, size.1, size.2);
+    callers_work(rt, &mut core_with(rt, alloc, limits), size.0)
+}
+
 fn sizes_work(rt: &impl Abort, alloc: Global, rows: &[(u64, u64, u64)]) -> Result<(), Fail> {
-    for (callers, stripes, buckets) in rows {
-        let limits = limits_of(*callers, *stripes, *buckets)?;
-        callers_work(rt, &mut core_with(alloc, limits)?, *callers)?;
+    for size in rows {
+        size_works(rt, alloc, *size)?;
     }
     Ok(())
 }
@@ -105,7 +110,8 @@ const LAST_STRIPE: [(Call, Answer); 8] = [
 
 #[test]
 fn last_stripe(rt: HostRuntime) -> Result<(), Fail> {
-    let mut core = core_with(rt.alloc(), limits_of(64, 4_096, 8)?)?;
+    let limits = limits_of(&rt, 64, 4_096, 8);
+    let mut core = core_with(&rt, rt.alloc(), limits);
     play_calls(&rt, rt.alloc(), &mut core, &LAST_STRIPE)
 }
 
@@ -123,22 +129,22 @@ fn save_all(rt: &impl Abort, core: &mut Core, levels: u64) -> Result<(), Fail> {
 /// Levels to go back to, one after the other: as many keys are left.
 static LEVELS: [u64; 7] = [1_000, 999, 500, 11, 10, 1, 0];
 
-fn levels_are(rt: &impl Abort, core: &mut Core, levels: &[u64]) {
+fn levels_are(rt: &impl Abort, core: &mut Core, levels: &[u64]) -> Result<(), Fail> {
+    begin(rt, core)?;
+    save_all(rt, core, 1_000)?;
     for level in levels {
         let above = Answer::Refused(Refusal::NoSuchLevel);
         assert_eq!(rt; back(core, 0, level.wrapping_add(1_000)), above);
         assert_eq!(rt; back(core, 0, *level), Answer::Returned(*level));
         assert_eq!(rt; sizes_of(core).1, *level);
     }
+    Ok(())
 }
 
 /// A thousand savepoints.
 #[test]
 fn levels_to_a_thousand(rt: HostRuntime) -> Result<(), Fail> {
-    let mut core = begun_core(&rt, rt.alloc(), limits_of(1, 8, 8)?)?;
-    save_all(&rt, &mut core, 1_000)?;
-    levels_are(&rt, &mut core, &LEVELS);
-    Ok(())
+    levels_are(&rt, &mut small_core(&rt, rt.alloc()), &LEVELS)
 }
 
 /// Caller 0 changes a key this number of times, from 0 on, each time to one more.
@@ -166,7 +172,8 @@ fn jobs_are(rt: &impl Abort, core: &mut Core, times: u64) -> Result<(), Fail> {
     Ok(())
 }
 
-fn logs_are(rt: &impl Abort, core: &mut Core, rows: &[u64]) -> Result<(), Fail> {
+fn logs_are(rt: &impl Abort, alloc: Global, core: &mut Core, rows: &[u64]) -> Result<(), Fail> {
+    play_calls(rt, alloc, core, &FIRST_VALUE)?;
     for times in rows {
         jobs_are(rt, core, *times)?;
     }
@@ -176,7 +183,8 @@ fn logs_are(rt: &impl Abort, core: &mut Core, rows: &[u64]) -> Result<(), Fail> 
 }
 
 /// A key that is 0, and a savepoint.
-const FIRST_VALUE: [(Call, Answer); 2] = [
+const FIRST_VALUE: [(Call, Answer); 3] = [
+    (Call::Step(Step::Begin(0)), Answer::Began(1)),
     (Call::Op(0, Op::Put(5, 0)), Answer::Done(None)),
     (Call::Step(Step::Save(0)), Answer::Saved(1)),
 ];
@@ -184,21 +192,31 @@ const FIRST_VALUE: [(Call, Answer); 2] = [
 /// Logs of up to 100,000 jobs.
 #[test]
 fn logs_to_100_000_jobs(rt: HostRuntime) -> Result<(), Fail> {
-    let mut core = begun_core(&rt, rt.alloc(), limits_of(1, 8, 8)?)?;
-    play_calls(&rt, rt.alloc(), &mut core, &FIRST_VALUE)?;
-    logs_are(&rt, &mut core, &JOBS)
+    let alloc = rt.alloc();
+    logs_are(&rt, alloc, &mut small_core(&rt, alloc), &JOBS)
+}
+
+/// Adds this number of sweeps.
+fn add_sweeps(steps: &mut Vec<Step>, count: usize) -> Result<(), AllocError> {
+    for _ in 0..count {
+        steps.push(Step::Sweep)?;
+    }
+    Ok(())
+}
+
+/// Takes steps by one call, which are sweeps that find no marked node.
+fn run_sweeps(rt: &impl Abort, alloc: Global, core: &mut Core, steps: &[Step]) -> Result<(), Fail> {
+    let answers = run_steps(alloc, core, steps)?;
+    assert_eq!(rt; answers.len(), steps.len());
+    assert!(rt; answers.iter().all(|answer| *answer == Answer::Clean));
+    Ok(())
 }
 
 /// This number of sweeps by one call, none of which finds a marked node.
 fn run_many(rt: &impl Abort, alloc: Global, core: &mut Core, count: usize) -> Result<(), Fail> {
     let mut steps = Vec::new(alloc);
-    for _ in 0..count {
-        steps.push(Step::Sweep)?;
-    }
-    let answers = run_steps(alloc, core, &steps)?;
-    assert_eq!(rt; answers.len(), count);
-    assert!(rt; answers.iter().all(|answer| *answer == Answer::Clean));
-    Ok(())
+    add_sweeps(&mut steps, count)?;
+    run_sweeps(rt, alloc, core, &steps)
 }
 
 /// Checks that list and map have this number of pairs.
@@ -209,7 +227,9 @@ fn has_many(rt: &impl Abort, alloc: Global, core: &Core, count: usize) -> Result
 }
 
 /// Bucket 63 is the last of its segment.
-const LAST_PLACE: [(Call, Answer); 5] = [
+const LAST_PLACE: [(Call, Answer); 7] = [
+    (Call::Help(0, 63), Answer::Ready),
+    (Call::Help(0, 65_535), Answer::Ready),
     (Call::Step(Step::InitSeek(0, 63)), Answer::Ready),
     (Call::Step(Step::InitSeek(0, 65_535)), Answer::Ready),
     (
@@ -220,20 +240,20 @@ const LAST_PLACE: [(Call, Answer); 5] = [
     (Call::Run(Step::Commit(0)), Answer::Committed(1)),
 ];
 
-/// A table of 65,536 buckets, each initialised by help, with 65,538 keys.
-fn fill(rt: &impl Abort, alloc: Global, core: &mut Core) -> Result<(), Fail> {
+/// A table of 65,536 buckets, each initialised by help, with 65,538 keys, and a run of more than
+/// 100,000 steps on it.
+fn fill_and_run(rt: &impl Abort, alloc: Global, core: &mut Core) -> Result<(), Fail> {
+    begin(rt, core)?;
     put_helped(rt, core, 65_538)?;
-    call_is(rt, alloc, core, Call::Help(0, 63), Answer::Ready)?;
-    call_is(rt, alloc, core, Call::Help(0, 65_535), Answer::Ready)?;
     play_calls(rt, alloc, core, &LAST_PLACE)?;
     assert_eq!(rt; sizes_of(core), (65_536, 65_538));
-    has_many(rt, alloc, core, 65_538)
+    has_many(rt, alloc, core, 65_538)?;
+    run_many(rt, alloc, core, 100_001)
 }
 
 /// The largest table, and a run of more than 100,000 steps on it.
 #[test]
 fn largest_table(rt: HostRuntime) -> Result<(), Fail> {
-    let mut core = begun_core(&rt, rt.alloc(), limits_of(1, 64, 65_536)?)?;
-    fill(&rt, rt.alloc(), &mut core)?;
-    run_many(&rt, rt.alloc(), &mut core, 100_001)
+    let alloc = rt.alloc();
+    fill_and_run(&rt, alloc, &mut large_core(&rt, alloc))
 }

@@ -15,7 +15,7 @@ const PAIRS: u64 = 24;
 const ORDERS: u32 = 1 << 14;
 
 /// The operations of a caller on its own key, or on both keys of the pair.
-#[derive(Clone, Copy, Debug)]
+#[derive(Clone, Copy)]
 enum Plan {
     PutAborted,
     TakeAborted,
@@ -301,8 +301,8 @@ fn try_beside(rt: &impl Abort, alloc: Global, core: &mut Core, case: &Case) -> R
 
 /// Tries a case on a new core.
 fn try_case(rt: &impl Abort, alloc: Global, case: &Case) -> Result<(), Fail> {
-    let mut core = core_with(alloc, limits_of(2, case.0, 32)?)?;
-    try_beside(rt, alloc, &mut core, case)
+    let limits = limits_of(rt, 2, case.0, 32);
+    try_beside(rt, alloc, &mut core_with(rt, alloc, limits), case)
 }
 
 /// With 7 stripes the two keys of a pair have different stripes, so that both callers work; with 8

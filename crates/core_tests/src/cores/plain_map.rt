@@ -5,7 +5,7 @@ use std::collections::BTreeMap;
 use txn_trace::{Answer, Op, Refusal, Step};
 
 /// The stage of a caller.
-#[derive(Clone, Copy, Debug, PartialEq, Eq)]
+#[derive(Clone, Copy, PartialEq, Eq)]
 pub(super) enum Stage {
     Closed,
     Open,

@@ -4,7 +4,7 @@ use crate::devices::{
     abort, core_if_made, limits_of, owed_by, pairs_of, sizes_of, step_is, take_step, trace_of,
 };
 use boost_core::Core;
-use std::alloc::Global;
+use std::alloc::{AllocError, Global};
 use std::process::Abort;
 use std::test::Fail;
 use txn_trace::{Answer, Op, Refusal, Reply, Step};
@@ -12,6 +12,37 @@ use txn_trace::{Answer, Op, Refusal, Reply, Step};
 /// The numbers of entries, buckets and keys, and of the entries owed, which take no memory to read.
 fn figures(core: &Core) -> (usize, (u32, u64), usize) {
     (trace_of(core).len(), sizes_of(core), owed_by(core))
+}
+
+/// The pairs of a core, if there is memory for their list.
+type Pairs = Result<Vec<(u64, u64)>, AllocError>;
+
+/// Checks that these are the same pairs, if there was memory for both lists.
+fn are_same(rt: &impl Abort, before: &Pairs, after: &Pairs) {
+    if let (Ok(after), Ok(before)) = (after, before) {
+        assert!(rt; after.as_slice() == before.as_slice());
+    }
+}
+
+/// Takes a step of a core with these pairs. If it is refused memory, nothing has changed, and the
+/// answer is false.
+fn try_beside(
+    rt: &impl Abort,
+    alloc: Global,
+    core: &mut Core,
+    pairs: &Pairs,
+    step: Step,
+    wanted: Answer,
+) -> Result<bool, Fail> {
+    let before = figures(core);
+    let answer = take_step(core, step)?;
+    if answer != Answer::Refused(Refusal::NoMemory) {
+        assert_eq!(rt; answer, wanted, "at {step:?}");
+        return Ok(true);
+    }
+    assert!(rt; figures(core) == before);
+    are_same(rt, pairs, &pairs_of(alloc, core));
+    Ok(false)
 }
 
 /// Takes a step. If it is refused memory, nothing has changed, and the answer is false. The pairs
@@ -24,18 +55,7 @@ fn try_step(
     wanted: Answer,
 ) -> Result<bool, Fail> {
     let pairs = pairs_of(alloc, core);
-    let before = figures(core);
-    let answer = take_step(core, step)?;
-    if answer != Answer::Refused(Refusal::NoMemory) {
-        assert_eq!(rt; answer, wanted, "at {step:?}");
-        return Ok(true);
-    }
-    assert_eq!(rt; figures(core), before);
-    let after = pairs_of(alloc, core);
-    if let (Ok(after), Ok(pairs)) = (&after, &pairs) {
-        assert_eq!(rt; after.as_slice(), pairs.as_slice());
-    }
-    Ok(false)
+    try_beside(rt, alloc, core, &pairs, step, wanted)
 }
 
 /// Takes steps up to one that is refused memory, which changes nothing: then the answer is false.
@@ -186,11 +206,10 @@ fn play_five(rt: &impl Abort, alloc: Global, core: &mut Core) -> Result<(), Fail
 /// show.
 #[test]
 fn five_callers_undone(rt: HostRuntime) -> Result<(), Fail> {
-    let limits = limits_of(5, 8, 8)?;
-    let Some(mut core) = core_if_made(rt.alloc(), limits) else {
-        return Ok(());
-    };
-    play_five(&rt, rt.alloc(), &mut core)
+    match core_if_made(rt.alloc(), limits_of(&rt, 5, 8, 8)) {
+        Some(mut core) => play_five(&rt, rt.alloc(), &mut core),
+        None => Ok(()),
+    }
 }
 
 /// Takes steps, and each once more if it is refused memory; false if one is refused again.
@@ -259,9 +278,8 @@ fn fill_segments(rt: &impl Abort, alloc: Global, core: &mut Core) -> Result<(), 
 /// may be taken again, and if it is refused again the caller aborts, which needs no memory.
 #[test]
 fn segments(rt: HostRuntime) -> Result<(), Fail> {
-    let limits = limits_of(1, 8, 128)?;
-    let Some(mut core) = core_if_made(rt.alloc(), limits) else {
-        return Ok(());
-    };
-    fill_segments(&rt, rt.alloc(), &mut core)
+    match core_if_made(rt.alloc(), limits_of(&rt, 1, 8, 128)) {
+        Some(mut core) => fill_segments(&rt, rt.alloc(), &mut core),
+        None => Ok(()),
+    }
 }

@@ -8,8 +8,8 @@ use std::test::Fail;
 use txn_trace::{Answer, Entry, Op, Refusal, Step};
 
 /// A core of 3 callers whose stripes, 8 of them, are words.
-fn core_with_words(alloc: Global) -> Result<Core, Fail> {
-    Ok(Core::with_words(alloc, limits_of(3, 8, 8)?)?)
+fn core_with_words(rt: &impl Abort, alloc: Global) -> Core {
+    Core::with_words(alloc, limits_of(rt, 3, 8, 8)).expect(rt, "a core")
 }
 
 /// Whether stripes are words.
@@ -41,7 +41,7 @@ fn ask_by_word(core: &mut Core, caller: u64, op: Op, word: u64) -> Result<Answer
 
 /// A step, or an operation that is asked for with the right to its stripe or with the stripe's
 /// word.
-#[derive(Clone, Copy, Debug)]
+#[derive(Clone, Copy)]
 enum Ask {
     Step(Step),
     Right(u64, Op),
@@ -97,9 +97,9 @@ fn asks_are(
     right: &StripeRight,
     rows: &[(Ask, Answer)],
 ) -> Result<(), Fail> {
-    for (ask, wanted) in rows {
+    for (row, (ask, wanted)) in rows.iter().enumerate() {
         let answer = answer(core, right, *ask)?;
-        assert_eq!(rt; answer, *wanted, "at {ask:?}");
+        assert_eq!(rt; answer, *wanted, "row {row}");
     }
     Ok(())
 }
@@ -123,15 +123,13 @@ fn play(rt: &impl Abort, alloc: Global, core: &mut Core) -> Result<(), Fail> {
 }
 
 /// A core has stripes that are not words, unless it is made with words.
-fn is_ordinary(rt: &impl Abort, alloc: Global) -> Result<(), Fail> {
-    let core = core_of(alloc, 3)?;
-    assert!(rt; !has_words(&core));
-    Ok(())
+fn is_ordinary(rt: &impl Abort, alloc: Global) {
+    assert!(rt; !has_words(&core_of(rt, alloc, 3)));
 }
 
 #[test]
 fn rights_and_words(rt: HostRuntime) -> Result<(), Fail> {
-    is_ordinary(&rt, rt.alloc())?;
-    let mut core = core_with_words(rt.alloc())?;
-    play(&rt, rt.alloc(), &mut core)
+    let alloc = rt.alloc();
+    is_ordinary(&rt, alloc);
+    play(&rt, alloc, &mut core_with_words(&rt, alloc))
 }

@@ -54,11 +54,24 @@ pub(super) fn legal_history(
     let callers = draws.below(4).wrapping_add(1);
     let mut history = Vec::new(alloc);
     for _ in 0..length {
-        let caller = draws.caller(callers);
-        let entry = next_entry(alloc, draws, &history, caller, stripes, holder)?;
-        history.push(entry)?;
+        add_entry(alloc, draws, &mut history, callers, stripes, holder)?;
     }
     Ok(history)
+}
+
+/// Adds an entry that one of this number of callers may add.
+fn add_entry(
+    alloc: Global,
+    draws: &mut Draws,
+    history: &mut Vec<Entry>,
+    callers: u64,
+    stripes: u64,
+    holder: Holder,
+) -> Result<(), AllocError> {
+    let caller = draws.caller(callers);
+    let entry = next_entry(alloc, draws, history, caller, stripes, holder)?;
+    history.push(entry)?;
+    Ok(())
 }
 
 /// An entry that the caller may add.

@@ -13,7 +13,7 @@ use txn_trace::{Entry, Holder, Op, Reply};
 type Values = BTreeMap<u64, u64>;
 
 /// The state of a caller in the state table.
-#[derive(Clone, Copy, Debug, PartialEq, Eq)]
+#[derive(Clone, Copy, PartialEq, Eq)]
 pub(super) enum Place {
     Closed,
     Open,
@@ -131,14 +131,19 @@ pub(super) fn counts_of(history: &[Entry]) -> Counts {
 fn has_shape(alloc: Global, history: &[Entry], entry: &Entry) -> Result<bool, AllocError> {
     let entries = last_of(alloc, entry.caller(), history)?;
     let kept = standing_at_levels(alloc, &entries)?;
-    let standing = count_standing(&entries);
-    let counts = counts_of(history);
-    Ok(match place_after(&entries) {
+    Ok(may_come(entry, counts_of(history), &entries, &kept))
+}
+
+/// Whether an entry may come after the entries of its caller's transaction, with these numbers of
+/// changes at its levels.
+fn may_come(entry: &Entry, counts: Counts, entries: &[Entry], kept: &[usize]) -> bool {
+    let standing = count_standing(entries);
+    match place_after(entries) {
         Place::Closed => match *entry {
             Entry::Began(_, txn) => txn.checked_sub(1) == Some(counts.began),
             _ => false,
         },
-        Place::Open => may_come_in_open(entry, &kept, counts.committed),
+        Place::Open => may_come_in_open(entry, kept, counts.committed),
         Place::Asked => matches!(*entry, Entry::Did(..) | Entry::Leave(_, None)),
         Place::LeavingTo(level) => match kept.get(level as usize) {
             Some(kept) => may_come_on_the_way(entry, level, *kept, standing),
@@ -149,7 +154,7 @@ fn has_shape(alloc: Global, history: &[Entry], entry: &Entry) -> Result<bool, Al
             Entry::Aborted(_) => standing == 0,
             _ => false,
         },
-    })
+    }
 }
 
 /// Whether an entry may come in an open transaction with nothing unfinished.
@@ -282,6 +287,16 @@ impl Running {
         })
     }
 
+    /// Lets entries act; answers the last map, or `None` if one of them may not.
+    fn act_all(&mut self, entries: &[Entry]) -> Result<Option<Values>, AllocError> {
+        for entry in entries {
+            if !self.act(entry)? {
+                return Ok(None);
+            }
+        }
+        Ok(self.maps.pop())
+    }
+
     /// Lets an entry act; answers whether it may.
     fn act(&mut self, entry: &Entry) -> Result<bool, AllocError> {
         match *entry {
@@ -325,12 +340,7 @@ fn run_alone(
     alloc: Global,
 ) -> Result<Option<Values>, AllocError> {
     let mut run = Running::new(alloc, start)?;
-    for entry in entries {
-        if !run.act(entry)? {
-            return Ok(None);
-        }
-    }
-    Ok(run.maps.pop())
+    run.act_all(entries)
 }
 
 /// The reply that the operation a caller waits for has if its transaction runs alone.
@@ -347,32 +357,67 @@ pub(super) fn reply_alone(
     })
 }
 
-/// The map that the committed transactions leave, one after another in commit order.
-fn serial_map(alloc: Global, history: &[Entry]) -> Result<Values, AllocError> {
-    let mut values = BTreeMap::new(alloc);
+/// Runs a caller's last transaction of a history alone on these values.
+fn run_last(
+    alloc: Global,
+    caller: u64,
+    history: &[Entry],
+    values: &mut Values,
+) -> Result<(), AllocError> {
+    let entries = last_of(alloc, caller, history)?;
+    if let Some(left) = run_alone(values, &entries, alloc)? {
+        *values = left;
+    }
+    Ok(())
+}
+
+/// Runs the committed transactions on these values, one after another in commit order.
+fn run_committed(alloc: Global, history: &[Entry], values: &mut Values) -> Result<(), AllocError> {
     for (i, entry) in history.iter().enumerate() {
         if let Entry::Committed(caller, _) = *entry {
-            let entries = last_of(alloc, caller, &history[..i])?;
-            if let Some(left) = run_alone(&values, &entries, alloc)? {
-                values = left;
-            }
+            run_last(alloc, caller, &history[..i], values)?;
         }
     }
+    Ok(())
+}
+
+/// The map that the committed transactions leave.
+fn serial_map(alloc: Global, history: &[Entry]) -> Result<Values, AllocError> {
+    let mut values = BTreeMap::new(alloc);
+    run_committed(alloc, history, &mut values)?;
     Ok(values)
 }
 
-/// Whether each open transaction has the replies of running alone after the committed ones. If an
-/// entry is a caller's last Began, its transaction's entries are the caller's from there on.
-fn replies_hold(alloc: Global, history: &[Entry]) -> Result<bool, AllocError> {
-    let settled = serial_map(alloc, history)?;
+/// Whether the transaction that begins with an entry, if it is open, has the replies of running
+/// alone on these values. If an entry is a caller's last Began, its transaction's entries are the
+/// caller's from there on.
+fn reply_holds(
+    alloc: Global,
+    history: &[Entry],
+    settled: &Values,
+    entry: &Entry,
+) -> Result<bool, AllocError> {
+    let entries = last_of(alloc, entry.caller(), history)?;
+    if entries.first() != Some(entry) || place_after(&entries) == Place::Closed {
+        return Ok(true);
+    }
+    Ok(run_alone(settled, &entries, alloc)?.is_some())
+}
+
+/// Whether each open transaction has the replies of running alone on these values.
+fn replies_hold_on(alloc: Global, history: &[Entry], settled: &Values) -> Result<bool, AllocError> {
     for entry in history {
-        let entries = last_of(alloc, entry.caller(), history)?;
-        let is_open = entries.first() == Some(entry) && place_after(&entries) != Place::Closed;
-        if is_open && run_alone(&settled, &entries, alloc)?.is_none() {
+        if !reply_holds(alloc, history, settled, entry)? {
             return Ok(false);
         }
     }
     Ok(true)
+}
+
+/// Whether each open transaction has the replies of running alone after the committed ones.
+fn replies_hold(alloc: Global, history: &[Entry]) -> Result<bool, AllocError> {
+    let settled = serial_map(alloc, history)?;
+    replies_hold_on(alloc, history, &settled)
 }
 
 /// The rule that the last entry of a prefix breaks.
