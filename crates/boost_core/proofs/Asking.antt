@@ -1,6 +1,6 @@
 -- An operation that is asked for.
 use Rattle.std.proofs.Common.{◌≡◌, ℕ, ◌+◌, ◌-◌, ◌^◌, ◌<◌, ◌==◌, ◌||◌, true, false, cond, List, [], ◌∷◌, ◌++◌, length, Option, Some, None, refl, sym, ap, subst, ◌∙◌, arith}
-use Rattle.std.specs.Prelude.{slice_get, slice_set, map, reverse, nat_eq, not}
+use Rattle.std.specs.Prelude.{slice_get, slice_set, map, nat_eq, not}
 use Rattle.std.specs.Option.{option_eq, option_map}
 use Rattle.std.proofs.lemmas.Bool.{false≢true, cases_eq, eq-eqb, ne_eqb, and_from, or_right}
 use Rattle.std.proofs.lemmas.List.{append-nil}
@@ -30,7 +30,6 @@ use Rattle.txn_trace.specs.Shape.{RoomySeat}
 use Rattle.txn_trace.proofs.Next.{Next}
 use Rattle.txn_trace.proofs.Entries as laws
 use Rattle.key_locks.specs.Locks.{holder_of as held_by}
-use Rattle.map_ops.specs.declared.job.MapJob.{MapJob}
 use Rattle.map_ops.specs.Jobs.{PendingAt}
 use Rattle.map_ops.specs.TableAt.{TableAt, Cursor, cursor_changes, map_of}
 use Rattle.boost_core.specs.declared.session.Session.{Session}
@@ -41,12 +40,12 @@ use Rattle.boost_core.specs.Core.{World, Tells, IsFresh, state_of, session_chang
 use Rattle.boost_core.proofs.Numbers.{no_more}
 use Rattle.boost_core.proofs.Moves.{Runs, state_is, changes_same, gaps_same}
 use Rattle.boost_core.proofs.Grow.{Stays, world_after, seated_as, set_cases}
-use Rattle.boost_core.proofs.Outcomes.{Comes, Called, CalledBy, move_is, same_times, same_world}
+use Rattle.boost_core.proofs.Outcomes.{Comes, Called, CalledBy, move_is, same_world}
 use Rattle.boost_core.specs.Refusals.{has_stamp_for, MayLack}
 use Rattle.boost_core.specs.Answers.{may_stand}
 use Rattle.boost_core.specs.Machine.{Move}
 use Rattle.boost_core.specs.Words.{Claim, Lock, Goes}
-use Rattle.boost_core.specs.Sessions.{target_in, IsSoughtAt, KeepsPlaced, Waits, spare_if, times_kept, changes_of, AreDue, StaysIn, AsksIn, MeetsIn}
+use Rattle.boost_core.specs.Sessions.{Side, side_of, target_in, IsSoughtAt, KeepsPlaced, Waits, spare_if, times_kept, StaysIn, AsksIn, MeetsIn}
 use Rattle.boost_core.proofs.Moves.{lacks}
 use Rattle.boost_core.proofs.Spares.{spent}
 use Rattle.boost_core.proofs.Refused.{seat_free, ask_open, save_open}
@@ -60,20 +59,19 @@ module _ (w : World) (tells : Tells w) (c : ℕ) (x : Session) (at : slice_get w
     still_fresh seat' None fresh = tt
     still_fresh seat' (Some (Helper d)) fresh = fresh
     still_fresh seat' (Some (Caller d)) fresh = λ s cursor at_d had. elim (set_cases w.sessions c d (seated_as y seat') s (slice_get_within w.sessions c x at) at_d) [
-      | inl mine ↦ fresh x cursor (ap (slice_get w.sessions) mine.0 ∙ at) (sym stays.cursor ∙ ap (λ (q : Session). q.cursor) (sym mine.1) ∙ had)
+      | inl mine ↦ fresh x cursor (ap (slice_get w.sessions) mine.0 ∙ at) (ap (λ (s : Side). s.cursor) (sym stays.becomes) ∙ ap (λ (q : Session). q.cursor) (sym mine.1) ∙ had)
       | inr other ↦ fresh s cursor other.1 had
     ]
 
     pub lacking_stays : Stays w c x y w.table w.locks w.counts
     lacking_stays = record {
-      same_seat = stays.seat;
-      jobs = stays.jobs;
-      kept = stays.kept;
-      waits = subst (λ (q : Phase). Waits q y.pending y.log.room) (sym opened) (subst (λ (o : Option PendingAt). Waits Opened o y.log.room) (sym (stays.waits ∙ nothing_waits w tells c x at Opened opened refl)) tt);
+      cursor = x.cursor;
+      becomes = stays.becomes;
+      waits = subst (λ (q : Phase). Waits q x.pending y.log.room) (sym opened) (subst (λ (o : Option PendingAt). Waits Opened o y.log.room) (sym (nothing_waits w tells c x at Opened opened refl)) tt);
       content = refl;
       placed = record { placed = λ cursor key is. is; sound = λ sound. sound };
-      sought = subst (λ (o : Option Cursor). IsSoughtAt w.table o (target_in x.seat.seat.phase y.log)) (sym (stays.cursor ∙ idle_cursor w tells c x at Opened opened refl)) tt;
-      spares = same_times w.table x y stays.waits stays.jobs;
+      sought = subst (λ (o : Option Cursor). IsSoughtAt w.table o (target_in x.seat.seat.phase y.log)) (sym (idle_cursor w tells c x at Opened opened refl)) tt;
+      spares = λ others covered. covered;
       largest = refl;
       helpers = refl;
       same_locks = refl;
@@ -82,8 +80,8 @@ module _ (w : World) (tells : Tells w) (c : ℕ) (x : Session) (at : slice_get w
 
     lacking_goes : (seat' : RoomySeat) → Goes claim (state_of w) step (answers.Refused refusal) (state_of (world_after w c (seated_as y seat') w.history w.counts w.table w.locks w.placed))
     lacking_goes seat' =
-        let cursors = sym (changes_same w.sessions c x (seated_as y seat') at (ap (option_map cursor_changes) stays.cursor)) in
-        let gaps = sym (gaps_same w.table w.sessions c x (seated_as y seat') at (ap (gap_if w.table) stays.cursor)) in
+        let cursors = sym (changes_same w.sessions c x (seated_as y seat') at (ap (λ (s : Side). option_map cursor_changes s.cursor) stays.becomes)) in
+        let gaps = sym (gaps_same w.table w.sessions c x (seated_as y seat') at (ap (λ (s : Side). gap_if w.table s.cursor) stays.becomes)) in
         subst (Goes claim (state_of w) step (answers.Refused refusal)) (λ i. record (state_of w) { cursors = cursors i; gaps = gaps i }) goes
 
     pub lacking_called : entries_of step (answers.Refused refusal) ≡ [] → CalledBy claim w c x step (answers.Refused refusal) y w.table w.locks
@@ -127,7 +125,7 @@ module _ (w : World) (tells : Tells w) (c : ℕ) (x : Session) (at : slice_get w
     stripe = stripe_of w.limits.stripes (key_of op)
 
     -- The spares of the log stay covered beside the spare of the operation.
-    spares_before : (t' : TableAt) (pending : PendingAt) → Prepares w.table t' op pending → (others : ℕ → ℕ → ℕ) → IsCovered (λ place stamp. others place stamp + times_kept x place stamp) w.table
+    spares_before : (t' : TableAt) (pending : PendingAt) → Prepares w.table t' op pending → (others : ℕ → ℕ → ℕ) → IsCovered (λ place stamp. others place stamp + times_kept (side_of x) place stamp) w.table
         → IsCovered (λ place stamp. others place stamp + times_in x.log.jobs place stamp + times_of pending.spare place stamp) t'
     spares_before t' pending prepares others covered =
         prepared_covered w.table t' (takes_node op) pending.spare prepares.given (λ p s. others p s + times_in x.log.jobs p s) (λ p s.
@@ -165,15 +163,16 @@ module _ (w : World) (tells : Tells w) (c : ℕ) (x : Session) (at : slice_get w
             ∙ sym (ap (λ e. cond e (Some c) (holder_of w.limits.stripes s w.history)) (ne_eqb stripe s (λ e. other (sym e))))
       ]
 
-      asked_covered : (others : ℕ → ℕ → ℕ) → IsCovered (λ place stamp. others place stamp + times_kept x place stamp) w.table → IsCovered (λ place stamp. others place stamp + times_kept y place stamp) t'
+      abbrev asked_side : Side
+      asked_side = record (side_of x) { pending = Some asks.pending }
+
+      asked_covered : (others : ℕ → ℕ → ℕ) → IsCovered (λ place stamp. others place stamp + times_kept (side_of x) place stamp) w.table → IsCovered (λ place stamp. others place stamp + times_kept asked_side place stamp) t'
       asked_covered others covered place stamp =
           let after : others place stamp + times_in x.log.jobs place stamp + times_of asks.pending.spare place stamp ≡ times_out t' place stamp = spares_before t' asks.pending asks.prepares others covered place stamp in
-          let same : times_in y.log.jobs place stamp ≡ times_in x.log.jobs place stamp = ap (λ (js : List MapJob). times_in js place stamp) asks.jobs in
-          let mine : times_of (spare_if y.pending) place stamp ≡ times_of asks.pending.spare place stamp = ap (λ (o : Option PendingAt). times_of (spare_if o) place stamp) asks.waits in
-          regroup (others place stamp) (times_in x.log.jobs place stamp) (times_of asks.pending.spare place stamp) (times_of (spare_if y.pending) place stamp) (times_in y.log.jobs place stamp) (times_out t' place stamp) same mine after
+          regroup (others place stamp) (times_in x.log.jobs place stamp) (times_of asks.pending.spare place stamp) (times_out t' place stamp) after
         where
-          regroup : (a j s p k n : ℕ) → k ≡ j → p ≡ s → a + j + s ≡ n → a + (p + k) ≡ n
-          regroup a j s p k n same mine exact = omega arith
+          regroup : (a j s n : ℕ) → a + j + s ≡ n → a + (s + j) ≡ n
+          regroup a j s n exact = omega arith
 
       pub asked_called : Called w c x (steps.Ask c op) answers.Asked y t' locks'
       asked_called = record {
@@ -182,19 +181,18 @@ module _ (w : World) (tells : Tells w) (c : ℕ) (x : Session) (at : slice_get w
           committed = serial w.history;
           current = now w.history;
           holder = holder;
+          side = asked_side;
+          becomes = asks.becomes ∙ (λ i. record asked_side { cursor = no_cursor_there i });
           next = subst (λ l. Next (holder_by w.words) w.limits.stripes w.history (entry.Asked c op) (record { phase = Waiting op; standing = x.seat.seat.standing; kept = x.seat.seat.kept }) l (serial w.history) (now w.history) holder)
-              ((tells.seated c x at).log ∙ ap changes_of (sym asks.jobs)) (laws.asked w.limits.stripes w.history tells.legal c op x.seat.seat (tells.seated c x at).seat opened locked);
+              (tells.seated c x at).log (laws.asked w.limits.stripes w.history tells.legal c op x.seat.seat (tells.seated c x at).seat opened locked);
           mine = refl;
-          same_seat = asks.seat;
           saved = λ is. absurd (false≢true is);
-          kept = (tells.seated c x at).agrees.kept ∙ ap (λ ks. 0 ∷ ks) (sym asks.kept);
-          waits = subst (λ (o : Option PendingAt). Waits (Waiting op) o y.log.room) (sym asks.waits)
-              (asks.prepares.op_is, asks.room, given_spare w.table t' (takes_node op) asks.pending.spare asks.prepares.given);
-          due = subst (λ (js : List MapJob). AreDue (now w.history) (reverse js)) (sym asks.jobs) (tells.seated c x at).due;
+          kept = (tells.seated c x at).agrees.kept;
+          waits = (asks.prepares.op_is, asks.room, given_spare w.table t' (takes_node op) asks.pending.spare asks.prepares.given);
+          due = (tells.seated c x at).due;
           content = ap map_of asks.prepares.nodes.regular ∙ tells.content;
           apart = λ d other k held. refl;
           placed = keeps;
-          sought = subst (λ (o : Option Cursor). IsSoughtAt t' o (Some (key_of op))) (sym (asks.cursor ∙ no_cursor_there)) tt;
           spares = asked_covered;
           largest = asks.prepares.nodes.buckets.largest;
           helpers = ap length asks.prepares.nodes.buckets.helps;
@@ -206,7 +204,7 @@ module _ (w : World) (tells : Tells w) (c : ℕ) (x : Session) (at : slice_get w
         move = λ seat'. move_is w (world_after w c (seated_as y seat') (w.history ++ entry.Asked c op ∷ []) w.counts t' locks' None) (steps.Ask c op) answers.Asked
             (none, and_from (has_stamp_for (state_of w) op) (may_stand (state_of w) (entry.Asked c op)) (stamped w.table t' (takes_node op) asks.pending.spare asks.prepares.given) locked)
             (state_is w (w.history ++ entry.Asked c op ∷ []) (w.history ++ entry.Asked c op ∷ []) w.counts t' (map session_changes w.sessions) (slice_set w.sessions c (seated_as y seat')) locks' None (prepared_runs t' asks.pending asks.prepares) refl
-            (changes_same w.sessions c x (seated_as y seat') at (ap (option_map cursor_changes) asks.cursor)))
+            (changes_same w.sessions c x (seated_as y seat') at (ap (λ (s : Side). option_map cursor_changes s.cursor) asks.becomes)))
             (prepared_runs t' asks.pending asks.prepares) (λ kept. asks.prepares.nodes.changes);
         fresh = λ seat'. tt;
       }
@@ -238,15 +236,14 @@ module _ (w : World) (tells : Tells w) (c : ℕ) (x : Session) (at : slice_get w
             one_last = let same = meets.back.last in let before = was.one_last in omega arith;
           }
 
-      pub busy_covered : (others : ℕ → ℕ → ℕ) → IsCovered (λ place stamp. others place stamp + times_kept x place stamp) w.table → IsCovered (λ place stamp. others place stamp + times_kept y place stamp) t'
+      pub busy_covered : (others : ℕ → ℕ → ℕ) → IsCovered (λ place stamp. others place stamp + times_kept (side_of x) place stamp) w.table → IsCovered (λ place stamp. others place stamp + times_kept (side_of x) place stamp) t'
       busy_covered others covered place stamp =
           let exact : others place stamp + times_in x.log.jobs place stamp ≡ times_out t' place stamp = spent meets.between t' meets.pending.spare (λ p s. others p s + times_in x.log.jobs p s) meets.back.spares (spares_before meets.between meets.pending meets.prepares others covered) place stamp in
-          let same : times_in y.log.jobs place stamp ≡ times_in x.log.jobs place stamp = ap (λ (js : List MapJob). times_in js place stamp) meets.jobs in
-          let none : times_of (spare_if y.pending) place stamp ≡ 0 = ap (λ (o : Option PendingAt). times_of (spare_if o) place stamp) (meets.waits ∙ nothing) in
-          regroup (others place stamp) (times_in x.log.jobs place stamp) (times_of (spare_if y.pending) place stamp) (times_in y.log.jobs place stamp) (times_out t' place stamp) same none exact
+          let none : times_of (spare_if x.pending) place stamp ≡ 0 = ap (λ (o : Option PendingAt). times_of (spare_if o) place stamp) nothing in
+          regroup (others place stamp) (times_in x.log.jobs place stamp) (times_of (spare_if x.pending) place stamp) (times_out t' place stamp) none exact
         where
-          regroup : (a j p k n : ℕ) → k ≡ j → p ≡ 0 → a + j ≡ n → a + (p + k) ≡ n
-          regroup a j p k n same none exact = omega arith
+          regroup : (a j p n : ℕ) → p ≡ 0 → a + j ≡ n → a + (p + j) ≡ n
+          regroup a j p n none exact = omega arith
 
       pub busy_called : w.words ≡ false → Called w c x (steps.Ask c op) (answers.Busy holder) y t' locks'
       busy_called words = record {
@@ -255,18 +252,18 @@ module _ (w : World) (tells : Tells w) (c : ℕ) (x : Session) (at : slice_get w
           committed = serial w.history;
           current = now w.history;
           holder = λ s. holder_of w.limits.stripes s w.history;
+          side = side_of x;
+          becomes = meets.becomes ∙ (λ i. record (side_of x) { cursor = no_cursor_there i });
           next = subst (λ l. Next (holder_by w.words) w.limits.stripes w.history (entry.Busy c op holder) (record { phase = LeavingToEnd; standing = x.seat.seat.standing; kept = x.seat.seat.kept }) l (serial w.history) (now w.history) (λ s. holder_of w.limits.stripes s w.history))
-              ((tells.seated c x at).log ∙ ap changes_of (sym meets.jobs)) (laws.busy w.limits.stripes w.history tells.legal c op holder x.seat.seat (tells.seated c x at).seat opened (stands words));
+              (tells.seated c x at).log (laws.busy w.limits.stripes w.history tells.legal c op holder x.seat.seat (tells.seated c x at).seat opened (stands words));
           mine = refl;
-          same_seat = meets.seat;
           saved = λ is. absurd (false≢true is);
-          kept = (tells.seated c x at).agrees.kept ∙ ap (λ ks. 0 ∷ ks) (sym meets.kept);
-          waits = subst (λ (o : Option PendingAt). Waits LeavingToEnd o y.log.room) (sym (meets.waits ∙ nothing)) tt;
-          due = subst (λ (js : List MapJob). AreDue (now w.history) (reverse js)) (sym meets.jobs) (tells.seated c x at).due;
+          kept = (tells.seated c x at).agrees.kept;
+          waits = subst (λ (o : Option PendingAt). Waits LeavingToEnd o y.log.room) (sym nothing) tt;
+          due = (tells.seated c x at).due;
           content = ap map_of (meets.back.nodes.regular ∙ meets.prepares.nodes.regular) ∙ tells.content;
           apart = λ d other k held. refl;
           placed = keeps;
-          sought = subst (λ (o : Option Cursor). IsSoughtAt t' o (target_in LeavingToEnd y.log)) (sym (meets.cursor ∙ no_cursor_there)) tt;
           spares = busy_covered;
           largest = meets.back.nodes.buckets.largest ∙ meets.prepares.nodes.buckets.largest;
           helpers = ap length (meets.back.nodes.buckets.helps ∙ meets.prepares.nodes.buckets.helps);
@@ -278,7 +275,7 @@ module _ (w : World) (tells : Tells w) (c : ℕ) (x : Session) (at : slice_get w
         move = λ seat'. move_is w (world_after w c (seated_as y seat') (w.history ++ entry.Busy c op holder ∷ []) w.counts t' locks' None) (steps.Ask c op) (answers.Busy holder)
             (none, and_from (w.words || has_stamp_for (state_of w) op) (may_stand (state_of w) (entry.Busy c op holder)) (or_right w.words (has_stamp_for (state_of w) op) busy_stamped) (stands words))
             (state_is w (w.history ++ entry.Busy c op holder ∷ []) (w.history ++ entry.Busy c op holder ∷ []) w.counts t' (map session_changes w.sessions) (slice_set w.sessions c (seated_as y seat')) locks' None busy_runs refl
-            (changes_same w.sessions c x (seated_as y seat') at (ap (option_map cursor_changes) meets.cursor)))
+            (changes_same w.sessions c x (seated_as y seat') at (ap (λ (s : Side). option_map cursor_changes s.cursor) meets.becomes)))
             busy_runs (λ kept. meets.back.nodes.changes ∙ meets.prepares.nodes.changes);
         fresh = λ seat'. tt;
       }

@@ -24,7 +24,7 @@ use Rattle.txn_trace.specs.Map.{key_of}
 use Rattle.txn_trace.specs.declared.op.Op.{Op}
 use Rattle.txn_trace.specs.Locks.{stripe_of}
 use Rattle.boost_core.specs.Refusals.{owner_of}
-use Rattle.boost_core.specs.Sessions.{Does, ActsIn, ReturnsIn, Saves, IsAsked, AsksBy, unless_busy, KeepsPlaced, Takes, AreDue, spare_if, times_kept}
+use Rattle.boost_core.specs.Sessions.{side_of, Does, ActsIn, ReturnsIn, Saves, IsAsked, AsksBy, unless_busy, KeepsPlaced, Takes, AreDue, spare_if, times_kept}
 use Rattle.boost_core.proofs.Spares.{owns_if}
 use Rattle.boost_core.proofs.Grow.{one_of_sum}
 use Rattle.boost_core.proofs.Refused.{index_at, free, seat_free, cursor_free, le_false_lt}
@@ -149,12 +149,12 @@ takes w tells c x at step owner none callers some began done = record {
     sought = tells.sought c x at;
     due = subst (λ m. AreDue m (reverse x.log.jobs)) (sym tells.content) (tells.seated c x at).due;
     withdraws = owns_if w.table (spare_if x.pending) (all_times w.sessions) (λ place stamp.
-        let most : times_kept x place stamp ≤ all_times w.sessions place stamp = one_of_sum (λ s. times_kept s place stamp) w.sessions c x at in
+        let most : times_kept (side_of x) place stamp ≤ all_times w.sessions place stamp = one_of_sum (λ s. times_kept (side_of s) place stamp) w.sessions c x at in
         fewer (times_in x.log.jobs place stamp) (times_of (spare_if x.pending) place stamp) (all_times w.sessions place stamp) most) tells.spares;
     settles = (
       λ place stamp. all_times w.sessions place stamp - times_in x.log.jobs place stamp,
       λ place stamp.
-          let most : times_kept x place stamp ≤ all_times w.sessions place stamp = one_of_sum (λ s. times_kept s place stamp) w.sessions c x at in
+          let most : times_kept (side_of x) place stamp ≤ all_times w.sessions place stamp = one_of_sum (λ s. times_kept (side_of s) place stamp) w.sessions c x at in
           rejoin (times_in x.log.jobs place stamp) (times_of (spare_if x.pending) place stamp) (all_times w.sessions place stamp) (times_out w.table place stamp) most (tells.spares place stamp),
     );
   };

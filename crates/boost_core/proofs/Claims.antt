@@ -32,13 +32,13 @@ use Rattle.boost_core.specs.State.{State, Owner, Caller, Helper, holder_by}
 use Rattle.boost_core.specs.Refusals.{refusal_of, has_stamp_for}
 use Rattle.boost_core.specs.Answers.{may_stand}
 use Rattle.boost_core.specs.Words.{Right, Held, Stale, is_taken}
-use Rattle.boost_core.specs.Sessions.{target_in, IsSoughtAt, KeepsPlaced, Waits, StaysIn, MeetsIn}
+use Rattle.boost_core.specs.Sessions.{Side, target_in, IsSoughtAt, KeepsPlaced, Waits, MeetsIn}
 use Rattle.boost_core.specs.Core.{World, Tells, IsFresh, state_of, session_changes, nodes_at, gap_by, gap_at, gap_if, helper_gaps_of}
 use Rattle.boost_core.proofs.Numbers.{no_more}
 use Rattle.boost_core.proofs.Moves.{runs_same, state_is, changes_same}
 use Rattle.boost_core.proofs.Grow.{Stays, world_after, seated_as, set_cases}
 use Rattle.boost_core.proofs.Outcomes.{CalledBy, move_is}
-use Rattle.boost_core.proofs.Quiet.{quiet, log_is}
+use Rattle.boost_core.proofs.Quiet.{quiet}
 use Rattle.boost_core.proofs.HelperGaps.{fits_if, fits_by, cursors_stay}
 use Rattle.boost_core.proofs.Asking.{opened, nothing, no_cursor_there, busy_runs, busy_covered, busy_stamped, lacking_called}
 
@@ -79,13 +79,12 @@ module _ (w : World) (tells : Tells w) (c : ℕ) (x : Session) (at : slice_get w
 
     stale_stays : Stays w c x y t' locks' w.counts
     stale_stays = record {
-      same_seat = meets.seat;
-      jobs = meets.jobs;
-      kept = meets.kept;
-      waits = subst (λ (q : Phase). Waits q y.pending y.log.room) (sym (opened w tells c x at op none)) (subst (λ (o : Option PendingAt). Waits Opened o y.log.room) (sym (meets.waits ∙ nothing w tells c x at op none)) tt);
+      cursor = x.cursor;
+      becomes = meets.becomes;
+      waits = subst (λ (q : Phase). Waits q x.pending y.log.room) (sym (opened w tells c x at op none)) (subst (λ (o : Option PendingAt). Waits Opened o y.log.room) (sym (nothing w tells c x at op none)) tt);
       content = ap map_of (meets.back.nodes.regular ∙ meets.prepares.nodes.regular);
       placed = keeps;
-      sought = subst (λ (o : Option Cursor). IsSoughtAt t' o (target_in x.seat.seat.phase y.log)) (sym (meets.cursor ∙ no_cursor_there w tells c x at op none)) tt;
+      sought = subst (λ (o : Option Cursor). IsSoughtAt t' o (target_in x.seat.seat.phase y.log)) (sym (no_cursor_there w tells c x at op none)) tt;
       spares = busy_covered w tells c x at op none holder y t' locks' meets keeps within;
       largest = meets.back.nodes.buckets.largest ∙ meets.prepares.nodes.buckets.largest;
       helpers = ap length (meets.back.nodes.buckets.helps ∙ meets.prepares.nodes.buckets.helps);
@@ -97,7 +96,7 @@ module _ (w : World) (tells : Tells w) (c : ℕ) (x : Session) (at : slice_get w
     stale_fresh seat' None fresh = tt
     stale_fresh seat' (Some (Helper d)) fresh = same_helper w.table t' d same_nodes same_buckets ∙ fresh
     stale_fresh seat' (Some (Caller d)) fresh = λ s cursor at_d had. same_fits w.table t' cursor same_nodes ∙ (elim (set_cases w.sessions c d (seated_as y seat') s (slice_get_within w.sessions c x at) at_d) [
-      | inl mine ↦ fresh x cursor (ap (slice_get w.sessions) mine.0 ∙ at) (sym meets.cursor ∙ ap (λ (q : Session). q.cursor) (sym mine.1) ∙ had)
+      | inl mine ↦ fresh x cursor (ap (slice_get w.sessions) mine.0 ∙ at) (ap (λ (s : Side). s.cursor) (sym meets.becomes) ∙ ap (λ (q : Session). q.cursor) (sym mine.1) ∙ had)
       | inr other ↦ fresh s cursor other.1 had
     ])
 
@@ -106,7 +105,7 @@ module _ (w : World) (tells : Tells w) (c : ℕ) (x : Session) (at : slice_get w
         ≡ record (state_of w) { stamp = last_of t'; nodes = nodes_at t'; gaps = map (gap_by t') (slice_set w.sessions c (seated_as y seat')); helper_gaps = helper_gaps_of t' }
     stale_state seat' =
         state_is w (w.history ++ []) w.history w.counts t' (map session_changes w.sessions) (slice_set w.sessions c (seated_as y seat')) locks' w.placed (busy_runs w tells c x at op none holder y t' locks' meets keeps within) (append-nil w.history)
-        (changes_same w.sessions c x (seated_as y seat') at (ap (option_map cursor_changes) meets.cursor))
+        (changes_same w.sessions c x (seated_as y seat') at (ap (λ (s : Side). option_map cursor_changes s.cursor) meets.becomes))
         ∙ ap (λ (noted : ℕ). record (state_of w) { changes = noted; stamp = last_of t'; nodes = nodes_at t'; gaps = map (gap_by t') (slice_set w.sessions c (seated_as y seat')); helper_gaps = helper_gaps_of t' }) (meets.back.nodes.changes ∙ meets.prepares.nodes.changes)
 
     pub stale_called : CalledBy Right w c x (steps.Ask c op) (answers.Refused StaleWord) y t' locks'
@@ -126,9 +125,9 @@ module _ (w : World) (tells : Tells w) (c : ℕ) (x : Session) (at : slice_get w
   -- A word that names a caller that may hold the stripe: the caller leaves to the end.
   pub held_called : (named : ℕ) → w.words ≡ true → may_stand (state_of w) (entry.Busy c op named) ≡ true → CalledBy (Held named) w c x (steps.Ask c op) (answers.Busy named) x w.table w.locks
   held_called named words stands = record {
-    comes = quiet w tells c x at (entry.Busy c op named) x (record { phase = LeavingToEnd; standing = x.seat.seat.standing; kept = x.seat.seat.kept }) (log_of c w.history) (serial w.history) (λ s. holder_of w.limits.stripes s w.history) w.locks w.counts
-        (laws.busy w.limits.stripes w.history tells.legal c op named x.seat.seat (tells.seated c x at).seat (opened w tells c x at op none) stands) (log_is w tells c x at x refl)
-        refl refl (λ is. absurd (false≢true is)) (tells.seated c x at).agrees.kept refl (nothing w tells c x at op none) refl refl (no_cursor_there w tells c x at op none)
+    comes = quiet w tells c x at (entry.Busy c op named) x (record { phase = LeavingToEnd; standing = x.seat.seat.standing; kept = x.seat.seat.kept }) x.log.kept (log_of c w.history) (serial w.history) (λ s. holder_of w.limits.stripes s w.history) w.locks w.counts
+        (laws.busy w.limits.stripes w.history tells.legal c op named x.seat.seat (tells.seated c x at).seat (opened w tells c x at op none) stands) (tells.seated c x at).log
+        refl (λ is. absurd (false≢true is)) (tells.seated c x at).agrees.kept refl (nothing w tells c x at op none) (no_cursor_there w tells c x at op none) refl
         (no_more w.counts.began) (no_more w.counts.committed) refl tells.holders;
     move = λ seat'. inr (
       eq-eqb named named refl,
@@ -145,4 +144,4 @@ module _ (w : World) (tells : Tells w) (c : ℕ) (x : Session) (at : slice_get w
   pub word_stale_called : CalledBy Stale w c x (steps.Ask c op) (answers.Refused StaleWord) x w.table w.locks
   word_stale_called = lacking_called w tells c x at Stale (steps.Ask c op) StaleWord
       (inl (record { refused = refl; free = none; stale = refl; state = refl; stamp = omega arith; one_stamp = omega arith }))
-      (opened w tells c x at op none) x (record { seat = refl; waits = refl; cursor = refl; jobs = refl; kept = refl }) refl
+      (opened w tells c x at op none) x (record { becomes = refl }) refl

@@ -9,18 +9,16 @@ use Rattle.map_ops.specs.TableAt.{fits}
 use Rattle.txn_trace.specs.declared.step.Step.TheVariants as steps
 use Rattle.txn_trace.specs.declared.answer.Answer.TheVariants as answers
 use Rattle.txn_trace.specs.Seats.{has_target}
-use Rattle.map_ops.specs.Jobs.{PendingAt}
 use Rattle.map_ops.specs.TableAt.{TableAt, Cursor, cursor_changes, map_of, table_changes, IsPlaced}
 use Rattle.boost_core.specs.declared.session.Session.{Session}
 use Rattle.boost_core.specs.State.{Owner, Caller, Helper, seat_in, caller_changes}
 use Rattle.boost_core.specs.Refusals.{refusal_of}
-use Rattle.boost_core.specs.Spares.{IsCovered}
 use Rattle.boost_core.specs.Core.{World, Tells, IsFresh, state_of, session_changes}
 use Rattle.boost_core.proofs.Moves.{runs_same, state_is, changes_set}
 use Rattle.boost_core.proofs.Grow.{world_after, seated_as, set_cases}
-use Rattle.boost_core.proofs.Outcomes.{Called, move_is, same_times}
+use Rattle.boost_core.proofs.Outcomes.{Called, move_is}
 use Rattle.boost_core.specs.Answers.{is_just_placed, may_be_stale}
-use Rattle.boost_core.specs.Sessions.{target_in, target_of, IsPlacedFor, IsSoughtAt, KeepsPlaced, Waits, times_kept, SeeksIn, Drops}
+use Rattle.boost_core.specs.Sessions.{side_of, target_in, target_of, IsPlacedFor, IsSoughtAt, KeepsPlaced, Waits, times_kept, SeeksIn, Drops}
 use Rattle.boost_core.proofs.Spares.{still_covered}
 use Rattle.boost_core.proofs.Refused.{seat_here, changes_here}
 use Rattle.boost_core.proofs.Working.{keeps_runs}
@@ -35,14 +33,13 @@ module _ (w : World) (tells : Tells w) (c : ℕ) (x : Session) (at : slice_get w
       let runs = keeps_runs w.table t' seeks.places.keeps rises in
       record {
         comes = record {
-          same_seat = ap (λ (s : Session). s.seat.seat) seeks.becomes;
-          jobs = ap (λ (s : Session). s.log.jobs) seeks.becomes;
-          kept = ap (λ (s : Session). s.log.kept) seeks.becomes;
-          waits = subst (λ (s : Session). Waits x.seat.seat.phase s.pending s.log.room) (sym seeks.becomes) (tells.seated c x at).agrees.waits;
+          cursor = Some seeks.cursor;
+          becomes = ap side_of seeks.becomes;
+          waits = subst (λ (s : Session). Waits x.seat.seat.phase x.pending s.log.room) (sym seeks.becomes) (tells.seated c x at).agrees.waits;
           content = ap map_of seeks.places.keeps.regular;
           placed = keeps;
-          sought = subst (λ (s : Session). IsSoughtAt t' s.cursor (target_in x.seat.seat.phase s.log)) (sym seeks.becomes) (subst (IsPlacedFor t' seeks.cursor) (sym seeks.target) seeks.places.placed);
-          spares = λ others covered. subst (λ (s : Session). IsCovered (λ p q. others p q + times_kept s p q) t') (sym seeks.becomes) (still_covered w.table t' (λ p q. others p q + times_kept x p q) seeks.places.spares covered);
+          sought = subst (λ (s : Session). IsPlacedFor t' seeks.cursor (target_in x.seat.seat.phase s.log)) (sym seeks.becomes) (subst (IsPlacedFor t' seeks.cursor) (sym seeks.target) seeks.places.placed);
+          spares = λ others covered. still_covered w.table t' (λ p q. others p q + times_kept (side_of x) p q) seeks.places.spares covered;
           largest = seeks.places.keeps.buckets.largest;
           helpers = ap length seeks.places.keeps.buckets.helps;
           same_locks = refl;
@@ -98,14 +95,13 @@ module _ (w : World) (tells : Tells w) (c : ℕ) (x : Session) (at : slice_get w
     again : Called w c x (steps.Act c) answers.Again y w.table w.locks
     again = record {
       comes = record {
-        same_seat = drops.seat;
-        jobs = drops.jobs;
-        kept = drops.kept;
-        waits = subst (λ (o : Option PendingAt). Waits x.seat.seat.phase o y.log.room) (sym drops.waits) (subst (Waits x.seat.seat.phase x.pending) (sym drops.room) (tells.seated c x at).agrees.waits);
+        cursor = None;
+        becomes = ap side_of drops.becomes;
+        waits = subst (λ (s : Session). Waits x.seat.seat.phase x.pending s.log.room) (sym drops.becomes) (tells.seated c x at).agrees.waits;
         content = refl;
         placed = record { placed = λ cursor key is. is; sound = λ sound. sound };
-        sought = subst (λ (o : Option Cursor). IsSoughtAt w.table o (target_in x.seat.seat.phase y.log)) (sym drops.dropped) tt;
-        spares = same_times w.table x y drops.waits drops.jobs;
+        sought = tt;
+        spares = λ others covered. covered;
         largest = refl;
         helpers = refl;
         same_locks = refl;
@@ -114,7 +110,7 @@ module _ (w : World) (tells : Tells w) (c : ℕ) (x : Session) (at : slice_get w
       move = λ seat'. move_is w (world_after w c (seated_as y seat') (w.history ++ []) w.counts w.table w.locks None) (steps.Act c) answers.Again
           (none, and_from (has_target (seat_in w.history c)) (may_be_stale (state_of w) (Caller c)) (ap has_target here ∙ target) stale)
           (state_is w (w.history ++ []) (w.history ++ []) w.counts w.table (slice_set (map session_changes w.sessions) c None) (slice_set w.sessions c (seated_as y seat')) w.locks None (runs_same w.table) refl
-          (changes_set w.sessions c (seated_as y seat') None (ap (option_map cursor_changes) drops.dropped)))
+          (changes_set w.sessions c (seated_as y seat') None (ap session_changes drops.becomes)))
           (runs_same w.table) (λ kept. refl);
       fresh = λ seat'. tt;
     }

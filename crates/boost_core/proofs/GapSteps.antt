@@ -21,7 +21,7 @@ use Rattle.boost_core.specs.State.{State, Gap, Caller, Helper, gap_in, gap_for}
 use Rattle.boost_core.specs.Refusals.{owner_of}
 use Rattle.boost_core.specs.Words.{Claim, Lock, Right, Held, Stale}
 use Rattle.boost_core.specs.Nodes.{AreNeighbours, Cursors, Fits, KeepsGaps, StandsAt, mover_of, next_key}
-use Rattle.boost_core.specs.Sessions.{Does, ActsIn, SeeksIn, IsAsked, AsksBy}
+use Rattle.boost_core.specs.Sessions.{Side, Does, ActsIn, SeeksIn, IsAsked, AsksBy}
 use Rattle.boost_core.specs.Core.{World, Tells, state_of, nodes_at, gap_by, gap_if}
 use Rattle.boost_core.proofs.Refused.{index_at}
 use Rattle.boost_core.proofs.Moves.{gaps_same}
@@ -70,20 +70,20 @@ module _ (w : World) (tells : Tells w) (c : ℕ) (x : Session) (at : slice_get w
 
   -- A refusal leaves the caller's cursor and the nodes unchanged.
   asked_stays : (claim : Claim) (d stripe : ℕ) (op : Op) (refusal : Refusal) → AsksBy claim d stripe op x w.table w.locks (answers.Refused refusal) y w'.table locks' → (y.cursor ≡ x.cursor) × (nodes_of w'.table ≡ nodes_of w.table)
-  asked_stays Lock d stripe op refusal is = (is.1.cursor, ap nodes_of is.2)
+  asked_stays Lock d stripe op refusal is = (ap (λ (s : Side). s.cursor) is.1.becomes, ap nodes_of is.2)
   asked_stays Right d stripe op refusal is = own is.0 is.2
     where
       own : (own : Answer) → IsAsked d stripe op x w.table w.locks own y w'.table locks' → (y.cursor ≡ x.cursor) × (nodes_of w'.table ≡ nodes_of w.table)
-      own answers.Asked is = (is.cursor, is.prepares.nodes.all)
-      own (answers.Busy holder) is = (is.cursor, is.back.nodes.all ∙ is.prepares.nodes.all)
-      own (answers.Refused refusal) is = (is.1.cursor, ap nodes_of is.2)
+      own answers.Asked is = (ap (λ (s : Side). s.cursor) is.becomes, is.prepares.nodes.all)
+      own (answers.Busy holder) is = (ap (λ (s : Side). s.cursor) is.becomes, is.back.nodes.all ∙ is.prepares.nodes.all)
+      own (answers.Refused refusal) is = (ap (λ (s : Side). s.cursor) is.1.becomes, ap nodes_of is.2)
       own _ is = absurd is
   asked_stays (Held named) d stripe op refusal is = (ap (λ (s : Session). s.cursor) is.1, ap nodes_of is.2)
   asked_stays Stale d stripe op refusal is = (ap (λ (s : Session). s.cursor) is.1, ap nodes_of is.2)
 
   stays : (claim : Claim) (step : Step) (refusal : Refusal) (stripes : ℕ) → Does claim stripes w.counts step x w.table w.locks (answers.Refused refusal) y w'.table locks' → (y.cursor ≡ x.cursor) × (nodes_of w'.table ≡ nodes_of w.table)
   stays claim (steps.Ask d op) refusal stripes is = asked_stays claim d (stripe_of stripes (key_of op)) op refusal is
-  stays claim (steps.Save d) refusals.NoMemory stripes is = (is.0.cursor, ap nodes_of is.1)
+  stays claim (steps.Save d) refusals.NoMemory stripes is = (ap (λ (s : Side). s.cursor) is.0.becomes, ap nodes_of is.1)
   stays claim (steps.Save d) _ stripes is = absurd is.0
   stays claim (steps.Act d) refusal stripes is = absurd is
   stays claim _ refusal stripes is = absurd is

@@ -33,7 +33,7 @@ use Rattle.boost_core.specs.declared.counts.Counts.{Counts}
 use Rattle.boost_core.specs.declared.session.Session.{Session}
 use Rattle.boost_core.specs.State.{Owner, holder_by}
 use Rattle.boost_core.specs.Spares.{times_out, IsCovered}
-use Rattle.boost_core.specs.Sessions.{level_of, target_in, target_of, KeepsPlaced, IsSought, IsSoughtAt, Waits, Agrees, change_of, times_kept, changes_of, AreDue}
+use Rattle.boost_core.specs.Sessions.{Side, side_of, level_of, target_in, target_of, KeepsPlaced, IsSought, IsSoughtAt, Waits, Agrees, change_of, times_kept, changes_of, AreDue}
 use Rattle.boost_core.specs.Core.{World, Tells, IsSeated, IsFresh, all_times}
 use Rattle.boost_core.proofs.Due.{all_of_changes, due_same}
 
@@ -62,17 +62,17 @@ one_of_sum f sessions c x at =
 
 -- Spares stay covered if those that one caller keeps are exchanged.
 pub traded : (t t' : TableAt) (sessions : List Session) (c : ℕ) (x y : Session) → slice_get sessions c ≡ Some x
-    → ((others : ℕ → ℕ → ℕ) → IsCovered (λ place stamp. others place stamp + times_kept x place stamp) t → IsCovered (λ place stamp. others place stamp + times_kept y place stamp) t')
+    → ((others : ℕ → ℕ → ℕ) → IsCovered (λ place stamp. others place stamp + times_kept (side_of x) place stamp) t → IsCovered (λ place stamp. others place stamp + times_kept (side_of y) place stamp) t')
     → IsCovered (all_times sessions) t → IsCovered (all_times (slice_set sessions c y)) t'
 traded t t' sessions c x y at trade covered place stamp =
-    let others : ℕ → ℕ → ℕ = λ p s. all_times sessions p s - times_kept x p s in
-    let before : IsCovered (λ p s. others p s + times_kept x p s) t = λ p s.
-    let most : times_kept x p s ≤ all_times sessions p s = one_of_sum (λ session. times_kept session p s) sessions c x at in
-    subst (λ n. n ≡ times_out t p s) (rejoin (all_times sessions p s) (times_kept x p s) most) (covered p s) in
+    let others : ℕ → ℕ → ℕ = λ p s. all_times sessions p s - times_kept (side_of x) p s in
+    let before : IsCovered (λ p s. others p s + times_kept (side_of x) p s) t = λ p s.
+    let most : times_kept (side_of x) p s ≤ all_times sessions p s = one_of_sum (λ session. times_kept (side_of session) p s) sessions c x at in
+    subst (λ n. n ≡ times_out t p s) (rejoin (all_times sessions p s) (times_kept (side_of x) p s) most) (covered p s) in
     let after = trade others before place stamp in
-    let sums : all_times (slice_set sessions c y) place stamp + times_kept x place stamp ≡ all_times sessions place stamp + times_kept y place stamp = sum_changed (λ session. times_kept session place stamp) sessions c x y at in
-    let most : times_kept x place stamp ≤ all_times sessions place stamp = one_of_sum (λ session. times_kept session place stamp) sessions c x at in
-    subst (λ n. n ≡ times_out t' place stamp) (same_sum (all_times (slice_set sessions c y) place stamp) (times_kept x place stamp) (all_times sessions place stamp) (times_kept y place stamp) most sums) after
+    let sums : all_times (slice_set sessions c y) place stamp + times_kept (side_of x) place stamp ≡ all_times sessions place stamp + times_kept (side_of y) place stamp = sum_changed (λ session. times_kept (side_of session) place stamp) sessions c x y at in
+    let most : times_kept (side_of x) place stamp ≤ all_times sessions place stamp = one_of_sum (λ session. times_kept (side_of session) place stamp) sessions c x at in
+    subst (λ n. n ≡ times_out t' place stamp) (same_sum (all_times (slice_set sessions c y) place stamp) (times_kept (side_of x) place stamp) (all_times sessions place stamp) (times_kept (side_of y) place stamp) most sums) after
   where
     rejoin : (a b : ℕ) → b ≤ a → a ≡ a - b + b
     rejoin a b most = omega arith
@@ -95,47 +95,47 @@ closed_due m (job ∷ jobs) none = absurd (omega arith)
 changes_long : (jobs : List MapJob) → length (changes_of jobs) ≡ length jobs
 changes_long jobs = length-map (reverse jobs) change_of ∙ length-reverse jobs
 
-still_due : {holder : Holder} (stripes : ℕ) (h : List Entry) (d : ℕ) (s : Session) (current : Map) → IsLegal holder stripes h → IsSeated h d s
-    → ((k : ℕ) → holder_of stripes (stripe_of stripes k) h ≡ Some d → get current k ≡ get (now h) k) → AreDue current (reverse s.log.jobs)
-still_due stripes h d s current legal is same = at s.seat.seat.phase refl
+still_due : {holder : Holder} (stripes : ℕ) (h : List Entry) (d : ℕ) (s : Side) (room : ℕ) (current : Map) → IsLegal holder stripes h → IsSeated h d s room
+    → ((k : ℕ) → holder_of stripes (stripe_of stripes k) h ≡ Some d → get current k ≡ get (now h) k) → AreDue current (reverse s.jobs)
+still_due stripes h d s room current legal is same = at s.seat.phase refl
   where
-    keyed : is_running (seat_after (own d h)) ≡ true → AreDue current (reverse s.log.jobs)
+    keyed : is_running (seat_after (own d h)) ≡ true → AreDue current (reverse s.jobs)
     keyed active =
         let P : ℕ → Type 0 = λ k. holder_of stripes (stripe_of stripes k) h ≡ Some d in
-        let held : AllByRecursion (λ (change : ℕ × Option ℕ). P change.0) (changes_of s.log.jobs) = subst (λ (log : List (ℕ × Option ℕ)). AllByRecursion (λ (change : ℕ × Option ℕ). P change.0) log) is.log (log_held stripes h legal d active) in
-        due_same P (now h) current (reverse s.log.jobs) same (all_of_changes P (reverse s.log.jobs) held) is.due
+        let held : AllByRecursion (λ (change : ℕ × Option ℕ). P change.0) (changes_of s.jobs) = subst (λ (log : List (ℕ × Option ℕ)). AllByRecursion (λ (change : ℕ × Option ℕ). P change.0) log) is.log (log_held stripes h legal d active) in
+        due_same P (now h) current (reverse s.jobs) same (all_of_changes P (reverse s.jobs) held) is.due
 
-    run : (q : Phase) → s.seat.seat.phase ≡ q → runs q ≡ true → AreDue current (reverse s.log.jobs)
+    run : (q : Phase) → s.seat.phase ≡ q → runs q ≡ true → AreDue current (reverse s.jobs)
     run q is_q active = keyed (ap is_running is.seat ∙ ap runs is_q ∙ active)
 
-    at : (q : Phase) → s.seat.seat.phase ≡ q → AreDue current (reverse s.log.jobs)
+    at : (q : Phase) → s.seat.phase ≡ q → AreDue current (reverse s.jobs)
     at Closed is_q =
-        let none : s.seat.seat.standing ≡ 0 = (subst (λ q. IsLevelIn q s.seat.seat.standing s.seat.seat.kept) is_q (seat_leveled (own d h) s.seat.seat is.seat).within).0 in
-        closed_due current (reverse s.log.jobs) (length-reverse s.log.jobs ∙ sym is.agrees.standing ∙ none)
+        let none : s.seat.standing ≡ 0 = (subst (λ q. IsLevelIn q s.seat.standing s.seat.kept) is_q (seat_leveled (own d h) s.seat is.seat).within).0 in
+        closed_due current (reverse s.jobs) (length-reverse s.jobs ∙ sym is.agrees.standing ∙ none)
     at Opened is_q = run Opened is_q refl
     at (Waiting op) is_q = run (Waiting op) is_q refl
     at (LeavingTo n) is_q = run (LeavingTo n) is_q refl
     at LeavingToEnd is_q = run LeavingToEnd is_q refl
 
--- A step that adds an entry: the history after it, the caller's side before its seat enters the
--- entry, and the proof that no other caller is disturbed.
+-- A step that adds an entry: the history after it, the caller's side, which has no cursor, before
+-- its seat enters the entry, and the proof that no other caller is disturbed.
 pub record Grows (w : World) (c : ℕ) (x y : Session) (t' : TableAt) (locks' : List (Option ℕ)) (counts' : Counts) (e : Entry) : Type 0 where
   pub seat : Seat
   pub committed : Map
   pub current : Map
   pub holder : ℕ → Option ℕ
-  pub next : Next (holder_by w.words) w.limits.stripes w.history e seat (changes_of y.log.jobs) committed current holder
+  pub side : Side
+  pub becomes : side_of y ≡ record side { seat = x.seat.seat; cursor = None }
+  pub next : Next (holder_by w.words) w.limits.stripes w.history e seat (changes_of side.jobs) committed current holder
   pub mine : caller_of e ≡ c
-  pub same_seat : y.seat.seat ≡ x.seat.seat
   pub saved : is_saved e ≡ true → 0 < y.seat.room
-  pub kept : seat.kept ≡ 0 ∷ y.log.kept
-  pub waits : Waits seat.phase y.pending y.log.room
-  pub due : AreDue current (reverse y.log.jobs)
+  pub kept : seat.kept ≡ 0 ∷ side.kept
+  pub waits : Waits seat.phase side.pending y.log.room
+  pub due : AreDue current (reverse side.jobs)
   pub content : content t' ≡ current
   pub apart : (d : ℕ) → d ≢ c → (k : ℕ) → holder_of w.limits.stripes (stripe_of w.limits.stripes k) w.history ≡ Some d → get current k ≡ get (now w.history) k
   pub placed : KeepsPlaced w.table t'
-  pub sought : IsSoughtAt t' y.cursor (target_in seat.phase y.log)
-  pub spares : (others : ℕ → ℕ → ℕ) → IsCovered (λ place stamp. others place stamp + times_kept x place stamp) w.table → IsCovered (λ place stamp. others place stamp + times_kept y place stamp) t'
+  pub spares : (others : ℕ → ℕ → ℕ) → IsCovered (λ place stamp. others place stamp + times_kept (side_of x) place stamp) w.table → IsCovered (λ place stamp. others place stamp + times_kept side place stamp) t'
   pub largest : largest_of t' ≡ largest_of w.table
   pub helpers : length (helps_of t') ≡ length (helps_of w.table)
   pub begins : counts'.began ≡ w.counts.began + cond (is_began e) 1 0
@@ -145,14 +145,13 @@ pub record Grows (w : World) (c : ℕ) (x y : Session) (t' : TableAt) (locks' : 
 
 -- A step that adds no entry: only the caller's cursor and room change, and the map is unchanged.
 pub record Stays (w : World) (c : ℕ) (x y : Session) (t' : TableAt) (locks' : List (Option ℕ)) (counts' : Counts) : Type 0 where
-  pub same_seat : y.seat.seat ≡ x.seat.seat
-  pub jobs : y.log.jobs ≡ x.log.jobs
-  pub kept : y.log.kept ≡ x.log.kept
-  pub waits : Waits x.seat.seat.phase y.pending y.log.room
+  pub cursor : Option Cursor
+  pub becomes : side_of y ≡ record (side_of x) { cursor = cursor }
+  pub waits : Waits x.seat.seat.phase x.pending y.log.room
   pub content : content t' ≡ content w.table
   pub placed : KeepsPlaced w.table t'
-  pub sought : IsSoughtAt t' y.cursor (target_in x.seat.seat.phase y.log)
-  pub spares : (others : ℕ → ℕ → ℕ) → IsCovered (λ place stamp. others place stamp + times_kept x place stamp) w.table → IsCovered (λ place stamp. others place stamp + times_kept y place stamp) t'
+  pub sought : IsSoughtAt t' cursor (target_in x.seat.seat.phase y.log)
+  pub spares : (others : ℕ → ℕ → ℕ) → IsCovered (λ place stamp. others place stamp + times_kept (side_of x) place stamp) w.table → IsCovered (λ place stamp. others place stamp + times_kept (side_of x) place stamp) t'
   pub largest : largest_of t' ≡ largest_of w.table
   pub helpers : length (helps_of t') ≡ length (helps_of w.table)
   pub same_locks : locks' ≡ w.locks
@@ -188,22 +187,24 @@ module _ (w : World) (tells : Tells w) (c : ℕ) (x y : Session) (at : slice_get
     abbrev z : Session
     z = seated_as y seat'
 
-    agrees_then : Agrees z
+    side_then : side_of z ≡ record is.side { seat = is.seat; cursor = None }
+    side_then = λ i. record (is.becomes i) { seat = entered i }
+
+    agrees_then : Agrees (record is.side { seat = is.seat; cursor = None }) y.log.room
     agrees_then = record {
-      standing = ap (λ (s : Seat). s.standing) entered ∙ sym (length-log_of (w.history ++ e ∷ []) (caller_of e) is.seat is.next.seat_is) ∙ ap length is.next.log_is ∙ changes_long y.log.jobs;
-      kept = ap (λ (s : Seat). s.kept) entered ∙ is.kept;
-      waits = subst (λ (s : Seat). Waits s.phase y.pending y.log.room) (sym entered) is.waits;
-      level = subst (λ (s : Seat). level_of s.phase ≤ length y.log.kept) (sym entered)
-          (level_at is.seat.phase is.seat.standing y.log.kept (subst (IsLevelIn is.seat.phase is.seat.standing) is.kept (seat_leveled (own (caller_of e) (w.history ++ e ∷ [])) is.seat is.next.seat_is).within));
+      standing = sym (length-log_of (w.history ++ e ∷ []) (caller_of e) is.seat is.next.seat_is) ∙ ap length is.next.log_is ∙ changes_long is.side.jobs;
+      kept = is.kept;
+      waits = is.waits;
+      level = level_at is.seat.phase is.seat.standing is.side.kept (subst (IsLevelIn is.seat.phase is.seat.standing) is.kept (seat_leveled (own (caller_of e) (w.history ++ e ∷ [])) is.seat is.next.seat_is).within);
     }
 
-    seated_then : IsSeated (w.history ++ e ∷ []) c z
-    seated_then = record {
-      seat = ap (λ k. seat_after (own k (w.history ++ e ∷ []))) (sym is.mine) ∙ is.next.seat_is ∙ ap Some (sym entered);
+    seated_then : IsSeated (w.history ++ e ∷ []) c (side_of z) y.log.room
+    seated_then = subst (λ (side : Side). IsSeated (w.history ++ e ∷ []) c side y.log.room) (sym side_then) (record {
+      seat = ap (λ k. seat_after (own k (w.history ++ e ∷ []))) (sym is.mine) ∙ is.next.seat_is;
       log = ap (λ k. log_of k (w.history ++ e ∷ [])) (sym is.mine) ∙ is.next.log_is;
-      due = subst (λ n. AreDue n (reverse y.log.jobs)) (sym is.next.now_is) is.due;
+      due = subst (λ n. AreDue n (reverse is.side.jobs)) (sym is.next.now_is) is.due;
       agrees = agrees_then;
-    }
+    })
 
     pub grown : IsFresh t' (slice_set w.sessions c z) placed' → Tells (world_after w c z (w.history ++ e ∷ []) counts' t' locks' placed')
     grown fresh = record {
@@ -214,22 +215,22 @@ module _ (w : World) (tells : Tells w) (c : ℕ) (x y : Session) (at : slice_get
       content = is.content ∙ sym is.next.now_is;
       count = length-set w.sessions c z ∙ tells.count;
       seated = λ d s at_d. elim (set_cases w.sessions c d z s within at_d) [
-        | inl here ↦ subst (λ (q : Session). IsSeated (w.history ++ e ∷ []) d q) (sym here.1) (subst (λ k. IsSeated (w.history ++ e ∷ []) k z) (sym here.0) seated_then)
+        | inl here ↦ subst (λ (q : Session). IsSeated (w.history ++ e ∷ []) d (side_of q) q.log.room) (sym here.1) (subst (λ k. IsSeated (w.history ++ e ∷ []) k (side_of z) z.log.room) (sym here.0) seated_then)
         | inr other ↦
             let was = tells.seated d s other.1 in
             let away : d ≢ caller_of e = λ same. other.0 (same ∙ is.mine) in
             record {
               seat = is.next.other_seats d away ∙ was.seat;
               log = is.next.other_logs d away ∙ was.log;
-              due = subst (λ n. AreDue n (reverse s.log.jobs)) (sym is.next.now_is) (still_due w.limits.stripes w.history d s is.current tells.legal was (is.apart d other.0));
+              due = subst (λ n. AreDue n (reverse s.log.jobs)) (sym is.next.now_is) (still_due w.limits.stripes w.history d (side_of s) s.log.room is.current tells.legal was (is.apart d other.0));
               agrees = was.agrees;
             }
       ];
       sought = λ d s at_d. elim (set_cases w.sessions c d z s within at_d) [
-        | inl here ↦ subst (IsSought t') (sym here.1) (subst (λ (q : Seat). IsSoughtAt t' y.cursor (target_in q.phase y.log)) (sym entered) is.sought)
+        | inl here ↦ subst (IsSought t') (sym here.1) (subst (λ (o : Option Cursor). IsSoughtAt t' o (target_of z)) (sym (ap (λ (side : Side). side.cursor) is.becomes)) tt)
         | inr other ↦ still_sought_at w.table t' s.cursor (target_of s) is.placed.placed (tells.sought d s other.1)
       ];
-      spares = traded w.table t' w.sessions c x z at is.spares tells.spares;
+      spares = traded w.table t' w.sessions c x z at (λ others covered. subst (λ (side : Side). IsCovered (λ p s. others p s + times_kept side p s) t') (sym is.becomes) (is.spares others covered)) tells.spares;
       fresh = fresh;
       stripes = is.long ∙ tells.stripes;
       holders = λ s below. is.holders s below ∙ sym (is.next.holder_is s);
@@ -250,24 +251,20 @@ module _ (w : World) (tells : Tells w) (c : ℕ) (x y : Session) (at : slice_get
     seated = λ d s at_d. elim (set_cases w.sessions c d y s within at_d) [
       | inl here ↦
           let was = tells.seated c x at in
-          subst (IsSeated w.history d) (sym here.1) (record {
-            seat = ap (λ k. seat_after (own k w.history)) here.0 ∙ was.seat ∙ ap Some (sym is.same_seat);
-            log = ap (λ k. log_of k w.history) here.0 ∙ was.log ∙ ap changes_of (sym is.jobs);
-            due = subst (λ (js : List MapJob). AreDue (now w.history) (reverse js)) (sym is.jobs) was.due;
-            agrees = record {
-              standing = ap (λ (q : Seat). q.standing) is.same_seat ∙ was.agrees.standing ∙ ap length (sym is.jobs);
-              kept = ap (λ (q : Seat). q.kept) is.same_seat ∙ was.agrees.kept ∙ ap (λ ks. 0 ∷ ks) (sym is.kept);
-              waits = subst (λ (q : Seat). Waits q.phase y.pending y.log.room) (sym is.same_seat) is.waits;
-              level = subst (λ (q : Seat). level_of q.phase ≤ length y.log.kept) (sym is.same_seat) (subst (λ ks. level_of x.seat.seat.phase ≤ length ks) (sym is.kept) was.agrees.level);
-            };
-          })
+          subst (λ (q : Session). IsSeated w.history d (side_of q) q.log.room) (sym here.1)
+          (subst (λ (side : Side). IsSeated w.history d side y.log.room) (sym is.becomes) (record {
+            seat = ap (λ k. seat_after (own k w.history)) here.0 ∙ was.seat;
+            log = ap (λ k. log_of k w.history) here.0 ∙ was.log;
+            due = was.due;
+            agrees = record { standing = was.agrees.standing; kept = was.agrees.kept; waits = is.waits; level = was.agrees.level };
+          }))
       | inr other ↦ tells.seated d s other.1
     ];
     sought = λ d s at_d. elim (set_cases w.sessions c d y s within at_d) [
-      | inl here ↦ subst (IsSought t') (sym here.1) (subst (λ (q : Seat). IsSoughtAt t' y.cursor (target_in q.phase y.log)) (sym is.same_seat) is.sought)
+      | inl here ↦ subst (IsSought t') (sym here.1) (subst (λ (side : Side). IsSoughtAt t' side.cursor (target_in side.seat.phase y.log)) (sym is.becomes) is.sought)
       | inr other ↦ still_sought_at w.table t' s.cursor (target_of s) is.placed.placed (tells.sought d s other.1)
     ];
-    spares = traded w.table t' w.sessions c x y at is.spares tells.spares;
+    spares = traded w.table t' w.sessions c x y at (λ others covered. subst (λ (side : Side). IsCovered (λ p s. others p s + times_kept side p s) t') (sym is.becomes) (is.spares others covered)) tells.spares;
     fresh = fresh;
     stripes = ap length is.same_locks ∙ tells.stripes;
     holders = λ s below. ap (λ ls. held_by ls s) is.same_locks ∙ tells.holders s below;

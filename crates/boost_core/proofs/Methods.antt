@@ -1,53 +1,20 @@
 -- The outcomes of the parts of a caller's steps.
-use Rattle.std.proofs.Common.{◌≡◌, ℕ, ◌<◌, true, false, List, Option, Some, None, refl, sym, ap, subst, ◌∙◌}
+use Rattle.std.proofs.Common.{◌≡◌, ℕ, true, false, List, Option, Some, None, refl}
 use Rattle.std.proofs.lemmas.Bool.{false≢true}
-use Rattle.txn_trace.specs.declared.op.Op.{Op}
 use Rattle.txn_trace.specs.declared.answer.Answer.{Answer}
 use Rattle.txn_trace.specs.declared.answer.Answer.TheVariants as answers
 use Rattle.txn_trace.specs.declared.seat.Phase.{Phase}
 use Rattle.txn_trace.specs.declared.seat.Phase.TheVariants.{Closed, Opened, Waiting, LeavingTo, LeavingToEnd}
 use Rattle.txn_trace.specs.Seats.{is_leaving, has_job, has_target}
-use Rattle.key_locks.specs.Locks.{Grants, Refuses}
 use Rattle.map_ops.specs.declared.job.MapJob.{MapJob}
 use Rattle.map_ops.specs.Jobs.{PendingAt, key_of_job}
 use Rattle.map_ops.specs.TableAt.{TableAt, Cursor}
-use Rattle.map_ops.specs.Changes.{Prepares, GivesBack, Places, SeeksNear}
+use Rattle.map_ops.specs.Changes.{Places, SeeksNear}
 use Rattle.txn_trace.specs.Map.{key_of}
 use Rattle.undo_log.specs.UndoLog.{newest_above}
 use Rattle.boost_core.specs.declared.session.Session.{Session}
-use Rattle.boost_core.specs.Sessions.{GoesWith, StaysIn, IsAsked, Replies, Undoes, Arrives, ActsIn, SeeksIn, level_of}
+use Rattle.boost_core.specs.Sessions.{GoesWith, Replies, Undoes, Arrives, ActsIn, SeeksIn, level_of}
 use Rattle.boost_core.proofs.Sides.{waiting_target, newest_there, newest_target}
-
--- The stripe is the caller's, and the operation waits.
-pub granted_asked : (c stripe : ℕ) (op : Op) (s r s' : Session) (t t' : TableAt) (locks locks' : List (Option ℕ)) (pending : PendingAt) (answer : Answer) → answer ≡ answers.Asked → s' ≡ record r { pending = Some pending } → StaysIn s r → 0 < r.log.room
-    → Prepares t t' op pending → Grants c stripe locks locks' → IsAsked c stripe op s t locks answer s' t' locks'
-granted_asked c stripe op s r s' t t' locks locks' pending answer says is stays room prepares grants = subst (λ a. IsAsked c stripe op s t locks a s' t' locks') (sym says) (record {
-  pending = pending;
-  prepares = prepares;
-  grants = grants;
-  waits = ap (λ (q : Session). q.pending) is;
-  room = subst (λ (q : Session). 0 < q.log.room) (sym is) room;
-  seat = ap (λ (q : Session). q.seat.seat) is ∙ stays.seat;
-  cursor = ap (λ (q : Session). q.cursor) is ∙ stays.cursor;
-  jobs = ap (λ (q : Session). q.log.jobs) is ∙ stays.jobs;
-  kept = ap (λ (q : Session). q.log.kept) is ∙ stays.kept;
-})
-
--- Another caller holds the stripe.
-pub busy_asked : (c stripe : ℕ) (op : Op) (s r : Session) (t between t' : TableAt) (locks locks' : List (Option ℕ)) (pending : PendingAt) (holder : ℕ) (answer : Answer) → answer ≡ answers.Busy holder → StaysIn s r
-    → Prepares t between op pending → GivesBack between t' pending.spare → Refuses c stripe holder locks locks' → IsAsked c stripe op s t locks answer r t' locks'
-busy_asked c stripe op s r t between t' locks locks' pending holder answer says stays prepares back refuses = subst (λ a. IsAsked c stripe op s t locks a r t' locks') (sym says) (record {
-  pending = pending;
-  between = between;
-  prepares = prepares;
-  back = back;
-  refuses = refuses;
-  seat = stays.seat;
-  waits = stays.waits;
-  cursor = stays.cursor;
-  jobs = stays.jobs;
-  kept = stays.kept;
-})
 
 -- An act is one of three.
 pub replies_act : (c : ℕ) (s : Session) (t : TableAt) (locks : List (Option ℕ)) (answer : Answer) (s' : Session) (t' : TableAt) → has_target s.seat.seat ≡ true → Replies s t answer s' t' → ActsIn c s t locks answer s' t' locks

@@ -34,8 +34,7 @@ use Rattle.boost_core.specs.Answers.{keeps_list, after}
 use Rattle.boost_core.specs.Machine.{Move, IsAllowed}
 use Rattle.boost_core.specs.Words.{Claim, Lock, Right, Held, Stale, Goes, IsClaim, may_come, reserved_by}
 use Rattle.boost_core.specs.Adding.{Enters, CanAdd}
-use Rattle.boost_core.specs.Spares.{times_of, times_in, IsCovered}
-use Rattle.boost_core.specs.Sessions.{owed_of, spare_if, times_kept}
+use Rattle.boost_core.specs.Sessions.{Side, owed_of}
 use Rattle.boost_core.specs.Core.{World, Tells, IsFresh, state_of, nodes_at, gap_by, helper_gaps_of}
 use Rattle.boost_core.proofs.Named.{grown_small}
 use Rattle.boost_core.proofs.Moves.{Runs, lacks, refused}
@@ -156,10 +155,6 @@ goes_refused claim state step refusal claims is = elim (early_or_lock claim stat
   | inr early ↦ goes_early claim state step refusal early (refused state step refusal is)
 ]
 
--- The kept spares are the same if the waiting operation and the jobs are.
-pub same_times : (t : TableAt) (x y : Session) → y.pending ≡ x.pending → y.log.jobs ≡ x.log.jobs → (others : ℕ → ℕ → ℕ) → IsCovered (λ place stamp. others place stamp + times_kept x place stamp) t → IsCovered (λ place stamp. others place stamp + times_kept y place stamp) t
-same_times t x y pending jobs others covered place stamp = (λ i. others place stamp + (times_of (spare_if (pending i)) place stamp + times_in (jobs i) place stamp)) ∙ covered place stamp
-
 -- A statement about the table and the locks holds if both are unchanged.
 pub same_world : (P : TableAt → List (Option ℕ) → Type 0) (t t' : TableAt) (locks locks' : List (Option ℕ)) → t' ≡ t → locks' ≡ locks → P t locks → P t' locks'
 same_world P t t' locks locks' table same p = subst (λ u. P u locks') (sym table) (subst (λ l. P t l) (sym same) p)
@@ -270,8 +265,8 @@ small_standing a b owed n same most small = omega arith
 
 module _ (w : World) (tells : Tells w) (c : ℕ) (x y : Session) (at : slice_get w.sessions c ≡ Some x) (step : Step) (answer : Answer) (t' : TableAt) (locks' : List (Option ℕ)) {claim : Claim} (called : CalledBy claim w c x step answer y t' locks') where
   same_seat : (o : Option Entry) → option_to_list o ≡ entries_of step answer → y.seat.seat ≡ x.seat.seat
-  same_seat None is = let comes : Stays w c x y t' locks' (counts_after w.counts answer) = subst (Comes w c x y t' locks' (counts_after w.counts answer)) (sym is) called.comes in comes.same_seat
-  same_seat (Some e) is = let comes : Grows w c x y t' locks' (counts_after w.counts answer) e = subst (Comes w c x y t' locks' (counts_after w.counts answer)) (sym is) called.comes in comes.same_seat
+  same_seat None is = let comes : Stays w c x y t' locks' (counts_after w.counts answer) = subst (Comes w c x y t' locks' (counts_after w.counts answer)) (sym is) called.comes in ap (λ (s : Side). s.seat) comes.becomes
+  same_seat (Some e) is = let comes : Grows w c x y t' locks' (counts_after w.counts answer) e = subst (Comes w c x y t' locks' (counts_after w.counts answer)) (sym is) called.comes in ap (λ (s : Side). s.seat) comes.becomes
 
   -- The entry is of one of the callers.
   pub called_caller : (o : Option Entry) → option_to_list o ≡ entries_of step answer → (e : Entry) → o ≡ Some e → caller_of e < w.limits.callers
@@ -292,13 +287,13 @@ module _ (w : World) (tells : Tells w) (c : ℕ) (x y : Session) (at : slice_get
       let comes : Grows w c x y t' locks' (counts_after w.counts answer) e = subst (Comes w c x y t' locks' (counts_after w.counts answer)) (sym is) called.comes in
       let goes : row x.seat.seat x.seat.seat.phase e ≡ Some comes.seat = row_there w tells c x y at t' locks' (counts_after w.counts answer) e comes in
       let most : owed_of x ≤ sum_by owed_of w.sessions = one_of_sum owed_of w.sessions c x at in
-      let same : owed_in y.seat.seat.standing y.seat.seat.phase ≡ owed_of x = ap (λ (s : Seat). owed_in s.standing s.phase) comes.same_seat in
+      let same : owed_in y.seat.seat.standing y.seat.seat.phase ≡ owed_of x = ap (λ (s : Seat). owed_in s.standing s.phase) (same_seat (Some e) is) in
       let takes : owed_by (Some comes.seat) + 1 ≤ owed_by (Some x.seat.seat) + reserved_for e = owed_by-row x.seat.seat comes.seat e goes in
       let few = claim_within claim _ _ step answer e (called.move y.seat) is in
       record {
         next = comes.seat;
-        row_is = ap (λ (s : Seat). row s s.phase e) comes.same_seat ∙ goes;
-        standing = small_standing y.seat.seat.standing x.seat.seat.standing (owed_of x) (2 ^ 63) (ap (λ (s : Seat). s.standing) comes.same_seat) (standing_owed x.seat.seat.phase x.seat.seat.standing x.seat.seat.kept (seat_leveled (own c w.history) x.seat.seat (tells.seated c x at).seat).within) (omega arith);
+        row_is = ap (λ (s : Seat). row s s.phase e) (same_seat (Some e) is) ∙ goes;
+        standing = small_standing y.seat.seat.standing x.seat.seat.standing (owed_of x) (2 ^ 63) (ap (λ (s : Seat). s.standing) (same_seat (Some e) is)) (standing_owed x.seat.seat.phase x.seat.seat.standing x.seat.seat.kept (seat_leveled (own c w.history) x.seat.seat (tells.seated c x at).seat).within) (omega arith);
         saved = comes.saved;
         small = grown_small w.words w.limits.stripes w.limits.callers w.history e tells.callers comes.next.legal (called_caller (Some e) is e refl) few_callers;
         room = omega arith;
@@ -318,7 +313,7 @@ module _ (w : World) (tells : Tells w) (c : ℕ) (x y : Session) (at : slice_get
   called_tells seat' (Some e) is entered h' pushed =
       let comes : Grows w c x y t' locks' (counts_after w.counts answer) e = subst (Comes w c x y t' locks' (counts_after w.counts answer)) (sym is) called.comes in
       let goes : row x.seat.seat x.seat.seat.phase e ≡ Some comes.seat = row_there w tells c x y at t' locks' (counts_after w.counts answer) e comes in
-      let both : Some seat'.seat ≡ Some comes.seat = sym entered ∙ ap (λ (s : Seat). row s s.phase e) comes.same_seat ∙ goes in
+      let both : Some seat'.seat ≡ Some comes.seat = sym entered ∙ ap (λ (s : Seat). row s s.phase e) (same_seat (Some e) is) ∙ goes in
       let same : seat'.seat ≡ comes.seat = cc (both) in
       subst (λ g. Tells (world_after w c (seated_as y seat') g (counts_after w.counts answer) t' locks' (placed_then w.placed step answer))) (sym pushed)
       (grown w tells c x y at t' locks' (counts_after w.counts answer) e comes seat' same (placed_then w.placed step answer) (called.fresh seat'))

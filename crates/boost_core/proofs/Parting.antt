@@ -1,6 +1,6 @@
 -- The steps that begin, divide and end transactions.
 use Rattle.std.proofs.Common.{◌≡◌, ℕ, ◌+◌, ◌≤◌, true, false, cond, List, [], ◌∷◌, ◌++◌, length, take, Option, Some, None, refl, sym, ap, subst, ◌∙◌, add-one, arith}
-use Rattle.std.specs.Prelude.{slice_get, slice_set, slice_index, map, reverse, nat_eq, nat_lt, not}
+use Rattle.std.specs.Prelude.{slice_get, slice_set, slice_index, map, nat_eq, nat_lt, not}
 use Rattle.std.specs.Option.{option_eq}
 use Prim.Native.Nat.{suc}
 use Rattle.std.proofs.lemmas.Bool.{false≢true, and_from, eq-eqb}
@@ -18,11 +18,10 @@ use Rattle.txn_trace.specs.Seats.{is_closed, is_waiting, is_leaving, has_job}
 use Rattle.txn_trace.proofs.Next.{Next}
 use Rattle.txn_trace.proofs.Entries as laws
 use Rattle.txn_trace.proofs.Settled.{settled}
-use Rattle.undo_log.specs.UndoLog.{Log, kept_at}
+use Rattle.undo_log.specs.UndoLog.{kept_at}
 use Rattle.key_locks.specs.Locks.{Releases}
-use Rattle.map_ops.specs.declared.job.MapJob.{MapJob}
 use Rattle.map_ops.specs.Jobs.{PendingAt}
-use Rattle.map_ops.specs.TableAt.{TableAt, Cursor, map_of}
+use Rattle.map_ops.specs.TableAt.{TableAt, map_of}
 use Rattle.boost_core.specs.declared.session.Session.{Session}
 use Rattle.boost_core.specs.State.{seat_in, holder_by}
 use Rattle.boost_core.specs.Refusals.{refusal_of}
@@ -33,11 +32,11 @@ use Rattle.boost_core.proofs.Numbers.{no_more}
 use Rattle.boost_core.proofs.Moves.{runs_same, rests_runs, state_is}
 use Rattle.boost_core.proofs.Grow.{world_after, seated_as}
 use Rattle.boost_core.proofs.Outcomes.{Called, move_is, same_world}
-use Rattle.boost_core.specs.Sessions.{target_in, IsSoughtAt, Waits, spare_if, times_kept, changes_of, AreDue, StaysIn, SavesIn, ReturnsIn, EndsIn, SettlesIn, WithdrawsIn}
+use Rattle.boost_core.specs.Sessions.{Side, side_of, spare_if, times_kept, changes_of, StaysIn, SavesIn, ReturnsIn, EndsIn, SettlesIn, WithdrawsIn}
 use Rattle.boost_core.proofs.Settling.{no_jobs}
 use Rattle.boost_core.proofs.Sides.{at_most}
 use Rattle.boost_core.proofs.Refused.{seat_here, seat_free, begin_closed, save_open, back_open, commit_open, abort_runs, le_false_lt}
-use Rattle.boost_core.proofs.Quiet.{idle_cursor, nothing_waits, quiet, level_in, log_is, same_changes, no_changes, released_holders, no_newest}
+use Rattle.boost_core.proofs.Quiet.{idle_cursor, nothing_waits, quiet, level_in, same_changes, no_changes, released_holders, no_newest}
 
 module _ (w : World) (tells : Tells w) (c : ℕ) (x : Session) (at : slice_get w.sessions c ≡ Some x) where
   -- Begin.
@@ -48,12 +47,12 @@ module _ (w : World) (tells : Tells w) (c : ℕ) (x : Session) (at : slice_get w
       let empty : x.log.jobs ≡ [] = no_jobs x.log.jobs (let same = (tells.seated c x at).agrees.standing in let nil = level.0 in omega arith) in
       let numbered = number ∙ ap (λ k. k + 1) tells.begins in
       record {
-        comes = quiet w tells c x at (entry.Began c n) y (record closed_seat { phase = Opened }) [] (serial w.history) (λ s. holder_of w.limits.stripes s w.history) w.locks (record { began = n; committed = w.counts.committed })
-            (laws.began w.limits.stripes w.history tells.legal c n x.seat.seat (tells.seated c x at).seat closed numbered) (ap changes_of (sym (stays.jobs ∙ empty)))
-            refl stays.seat (λ is. absurd (false≢true is)) (sym level.1 ∙ (tells.seated c x at).agrees.kept ∙ ap (λ ks. 0 ∷ ks) (sym stays.kept)) refl (nothing_waits w tells c x at Closed closed refl) stays.waits stays.jobs (stays.cursor ∙ idle_cursor w tells c x at Closed closed refl)
+        comes = quiet w tells c x at (entry.Began c n) y (record closed_seat { phase = Opened }) x.log.kept [] (serial w.history) (λ s. holder_of w.limits.stripes s w.history) w.locks (record { began = n; committed = w.counts.committed })
+            (laws.began w.limits.stripes w.history tells.legal c n x.seat.seat (tells.seated c x at).seat closed numbered) (ap changes_of (sym empty))
+            refl (λ is. absurd (false≢true is)) (sym level.1 ∙ (tells.seated c x at).agrees.kept) refl (nothing_waits w tells c x at Closed closed refl) (idle_cursor w tells c x at Closed closed refl) stays.becomes
             number (no_more w.counts.committed) refl tells.holders;
         move = λ seat'. move_is w (world_after w c (seated_as y seat') (w.history ++ entry.Began c n ∷ []) (record { began = n; committed = w.counts.committed }) w.table w.locks None) (steps.Begin c) (answers.Began n) (none, numbered)
-            (state_is w (w.history ++ entry.Began c n ∷ []) (w.history ++ entry.Began c n ∷ []) (record { began = n; committed = w.counts.committed }) w.table (map session_changes w.sessions) (slice_set w.sessions c (seated_as y seat')) w.locks None (runs_same w.table) refl (same_changes w tells c x at y stays.cursor seat'))
+            (state_is w (w.history ++ entry.Began c n ∷ []) (w.history ++ entry.Began c n ∷ []) (record { began = n; committed = w.counts.committed }) w.table (map session_changes w.sessions) (slice_set w.sessions c (seated_as y seat')) w.locks None (runs_same w.table) refl (same_changes w tells c x at y (ap (λ (s : Side). s.cursor) stays.becomes) seat'))
             (runs_same w.table) (λ kept. refl);
         fresh = λ seat'. tt;
       }
@@ -64,13 +63,13 @@ module _ (w : World) (tells : Tells w) (c : ℕ) (x : Session) (at : slice_get w
       let opened = save_open w.limits.half x.seat.seat c (seat_free w tells c x at (steps.Save c) refl none) in
       let agrees = (tells.seated c x at).agrees in
       record {
-        comes = quiet w tells c x at (entry.Saved c) y (record { phase = x.seat.seat.phase; standing = x.seat.seat.standing; kept = x.seat.seat.kept ++ x.seat.seat.standing ∷ [] }) (log_of c w.history) (serial w.history) (λ s. holder_of w.limits.stripes s w.history) w.locks w.counts
-            (laws.saved w.limits.stripes w.history tells.legal c x.seat.seat (tells.seated c x at).seat opened) (log_is w tells c x at y saves.jobs)
-            refl saves.seat (λ is. saves.room) ((λ i. agrees.kept i ++ agrees.standing i ∷ []) ∙ ap (λ ks. 0 ∷ ks) (sym saves.kept)) (ap is_waiting opened) (nothing_waits w tells c x at Opened opened refl) saves.waits saves.jobs (saves.cursor ∙ idle_cursor w tells c x at Opened opened refl)
+        comes = quiet w tells c x at (entry.Saved c) y (record { phase = x.seat.seat.phase; standing = x.seat.seat.standing; kept = x.seat.seat.kept ++ x.seat.seat.standing ∷ [] }) (x.log.kept ++ length x.log.jobs ∷ []) (log_of c w.history) (serial w.history) (λ s. holder_of w.limits.stripes s w.history) w.locks w.counts
+            (laws.saved w.limits.stripes w.history tells.legal c x.seat.seat (tells.seated c x at).seat opened) (tells.seated c x at).log
+            refl (λ is. saves.room) (λ i. agrees.kept i ++ agrees.standing i ∷ []) (ap is_waiting opened) (nothing_waits w tells c x at Opened opened refl) (idle_cursor w tells c x at Opened opened refl) saves.becomes
             (no_more w.counts.began) (no_more w.counts.committed) refl tells.holders;
         move = λ seat'. move_is w (world_after w c (seated_as y seat') (w.history ++ entry.Saved c ∷ []) w.counts w.table w.locks None) (steps.Save c) (answers.Saved n)
             (none, saves.number ∙ one_more (length x.log.kept) ∙ ap length (sym agrees.kept) ∙ ap (λ (s : Seat). length s.kept) (sym (seat_here w tells c x at)))
-            (state_is w (w.history ++ entry.Saved c ∷ []) (w.history ++ entry.Saved c ∷ []) w.counts w.table (map session_changes w.sessions) (slice_set w.sessions c (seated_as y seat')) w.locks None (runs_same w.table) refl (same_changes w tells c x at y saves.cursor seat'))
+            (state_is w (w.history ++ entry.Saved c ∷ []) (w.history ++ entry.Saved c ∷ []) w.counts w.table (map session_changes w.sessions) (slice_set w.sessions c (seated_as y seat')) w.locks None (runs_same w.table) refl (same_changes w tells c x at y (ap (λ (s : Side). s.cursor) saves.becomes) seat'))
             (runs_same w.table) (λ kept. refl);
         fresh = λ seat'. tt;
       }
@@ -82,14 +81,14 @@ module _ (w : World) (tells : Tells w) (c : ℕ) (x : Session) (at : slice_get w
   left : (n : ℕ) → refusal_of (state_of w) (steps.Back c n) ≡ None → (y : Session) → y ≡ record x { cursor = None } → Called w c x (steps.Back c n) answers.Leaving y w.table w.locks
   left n none y is =
       let free = back_open w.limits.half x.seat.seat c n (seat_free w tells c x at (steps.Back c n) refl none) in
-      let dropped : y.cursor ≡ None = ap (λ (s : Session). s.cursor) is in
+      let no_cursor = idle_cursor w tells c x at Opened free.0 refl in
       record {
-        comes = quiet w tells c x at (entry.Leave c (Some n)) y (record { phase = LeavingTo n; standing = x.seat.seat.standing; kept = x.seat.seat.kept }) (log_of c w.history) (serial w.history) (λ s. holder_of w.limits.stripes s w.history) w.locks w.counts
-            (laws.left_to w.limits.stripes w.history tells.legal c n x.seat.seat (tells.seated c x at).seat free.0 (le_false_lt (length x.seat.seat.kept) n free.1)) (log_is w tells c x at y (ap (λ (s : Session). s.log.jobs) is))
-            refl (ap (λ (s : Session). s.seat.seat) is) (λ saved. absurd (false≢true saved)) ((tells.seated c x at).agrees.kept ∙ ap (λ (s : Session). 0 ∷ s.log.kept) (sym is)) refl (nothing_waits w tells c x at Opened free.0 refl) (ap (λ (s : Session). s.pending) is) (ap (λ (s : Session). s.log.jobs) is) dropped
+        comes = quiet w tells c x at (entry.Leave c (Some n)) y (record { phase = LeavingTo n; standing = x.seat.seat.standing; kept = x.seat.seat.kept }) x.log.kept (log_of c w.history) (serial w.history) (λ s. holder_of w.limits.stripes s w.history) w.locks w.counts
+            (laws.left_to w.limits.stripes w.history tells.legal c n x.seat.seat (tells.seated c x at).seat free.0 (le_false_lt (length x.seat.seat.kept) n free.1)) (tells.seated c x at).log
+            refl (λ saved. absurd (false≢true saved)) (tells.seated c x at).agrees.kept refl (nothing_waits w tells c x at Opened free.0 refl) no_cursor (ap side_of is ∙ (λ i. record (side_of x) { cursor = sym no_cursor i }))
             (no_more w.counts.began) (no_more w.counts.committed) refl tells.holders;
         move = λ seat'. move_is w (world_after w c (seated_as y seat') (w.history ++ entry.Leave c (Some n) ∷ []) w.counts w.table w.locks None) (steps.Back c n) answers.Leaving (none, tt)
-            (state_is w (w.history ++ entry.Leave c (Some n) ∷ []) (w.history ++ entry.Leave c (Some n) ∷ []) w.counts w.table (slice_set (map session_changes w.sessions) c None) (slice_set w.sessions c (seated_as y seat')) w.locks None (runs_same w.table) refl (no_changes w tells c x at y dropped seat'))
+            (state_is w (w.history ++ entry.Leave c (Some n) ∷ []) (w.history ++ entry.Leave c (Some n) ∷ []) w.counts w.table (slice_set (map session_changes w.sessions) c None) (slice_set w.sessions c (seated_as y seat')) w.locks None (runs_same w.table) refl (no_changes w tells c x at y (ap (λ (s : Session). s.cursor) is) seat'))
             (runs_same w.table) (λ kept. refl);
         fresh = λ seat'. tt;
       }
@@ -107,26 +106,23 @@ module _ (w : World) (tells : Tells w) (c : ℕ) (x : Session) (at : slice_get w
           committed = settled (serial w.history) (now w.history) (log_of c w.history);
           current = now w.history;
           holder = λ s. cond (option_eq nat_eq (holder_of w.limits.stripes s w.history) (Some c)) None (holder_of w.limits.stripes s w.history);
-          next = subst (λ l. Next (holder_by w.words) w.limits.stripes w.history (entry.Committed c p) closed_seat l (settled (serial w.history) (now w.history) (log_of c w.history)) (now w.history) (λ s. cond (option_eq nat_eq (holder_of w.limits.stripes s w.history) (Some c)) None (holder_of w.limits.stripes s w.history)))
-              (ap changes_of (sym settles.jobs)) (laws.committed w.limits.stripes w.history tells.legal c p x.seat.seat (tells.seated c x at).seat opened numbered);
+          side = record (side_of x) { pending = None; jobs = []; kept = [] };
+          becomes = settles.becomes ∙ (λ i. record (side_of x) { pending = nothing i; cursor = idle_cursor w tells c x at Opened opened refl i; jobs = []; kept = [] });
+          next = laws.committed w.limits.stripes w.history tells.legal c p x.seat.seat (tells.seated c x at).seat opened numbered;
           mine = refl;
-          same_seat = settles.seat;
           saved = λ is. absurd (false≢true is);
-          kept = ap (λ ks. 0 ∷ ks) (sym settles.kept);
-          waits = subst (λ (o : Option PendingAt). Waits Closed o y.log.room) (sym (settles.waits ∙ nothing)) tt;
-          due = subst (λ (js : List MapJob). AreDue (now w.history) (reverse js)) (sym settles.jobs) tt;
+          kept = refl;
+          waits = tt;
+          due = tt;
           content = ap map_of settles.rests.nodes.regular ∙ tells.content;
           apart = λ d other k held. refl;
           placed = settles.rests.placed;
-          sought = subst (λ (o : Option Cursor). IsSoughtAt t' o None) (sym (settles.cursor ∙ idle_cursor w tells c x at Opened opened refl)) tt;
           spares = λ others covered place stamp.
-              let none_kept : times_kept y place stamp ≡ 0 + 0 = λ i. times_of (spare_if ((settles.waits ∙ nothing) i)) place stamp + times_in (settles.jobs i) place stamp in
               let before : IsCovered (λ p s. others p s + times_in x.log.jobs p s) w.table = λ p s.
               let same : times_of (spare_if x.pending) p s ≡ 0 = ap (λ (o : Option PendingAt). times_of (spare_if o) p s) nothing in
-              let exact : others p s + times_kept x p s ≡ times_out w.table p s = covered p s in
+              let exact : others p s + times_kept (side_of x) p s ≡ times_out w.table p s = covered p s in
               drop_zero (others p s) (times_of (spare_if x.pending) p s) (times_in x.log.jobs p s) (times_out w.table p s) same exact in
-              let exact : others place stamp ≡ times_out t' place stamp = settles.spares others before place stamp in
-              with_none (others place stamp) (times_kept y place stamp) (times_out t' place stamp) none_kept exact;
+              sym (no_more (others place stamp)) ∙ settles.spares others before place stamp;
           largest = settles.rests.nodes.buckets.largest;
           helpers = ap length settles.rests.nodes.buckets.helps;
           begins = no_more w.counts.began;
@@ -135,16 +131,13 @@ module _ (w : World) (tells : Tells w) (c : ℕ) (x : Session) (at : slice_get w
           holders = released_holders w tells c x at locks' releases;
         };
         move = λ seat'. move_is w (world_after w c (seated_as y seat') (w.history ++ entry.Committed c p ∷ []) (record { began = w.counts.began; committed = p }) t' locks' None) (steps.Commit c) (answers.Committed p) (none, numbered)
-            (state_is w (w.history ++ entry.Committed c p ∷ []) (w.history ++ entry.Committed c p ∷ []) (record { began = w.counts.began; committed = p }) t' (map session_changes w.sessions) (slice_set w.sessions c (seated_as y seat')) locks' None runs refl (same_changes w tells c x at y settles.cursor seat'))
+            (state_is w (w.history ++ entry.Committed c p ∷ []) (w.history ++ entry.Committed c p ∷ []) (record { began = w.counts.began; committed = p }) t' (map session_changes w.sessions) (slice_set w.sessions c (seated_as y seat')) locks' None runs refl (same_changes w tells c x at y (ap (λ (s : Side). s.cursor) settles.becomes) seat'))
             runs (λ kept. settles.rests.nodes.changes);
         fresh = λ seat'. tt;
       }
     where
       drop_zero : (a z b n : ℕ) → z ≡ 0 → a + (z + b) ≡ n → a + b ≡ n
       drop_zero a z b n is exact = omega arith
-
-      with_none : (a z n : ℕ) → z ≡ 0 + 0 → a ≡ n → a + z ≡ n
-      with_none a z n is exact = omega arith
 
   -- Abort.
   pub withdrawn : refusal_of (state_of w) (steps.Abort c) ≡ None → (y : Session) (t' : TableAt) → WithdrawsIn x w.table y t' → Called w c x (steps.Abort c) answers.Leaving y t' w.locks
@@ -157,19 +150,19 @@ module _ (w : World) (tells : Tells w) (c : ℕ) (x : Session) (at : slice_get w
           committed = serial w.history;
           current = now w.history;
           holder = λ s. holder_of w.limits.stripes s w.history;
+          side = record (side_of x) { pending = None };
+          becomes = ap side_of leaves.becomes;
           next = subst (λ l. Next (holder_by w.words) w.limits.stripes w.history (entry.Leave c None) (record { phase = LeavingToEnd; standing = x.seat.seat.standing; kept = x.seat.seat.kept }) l (serial w.history) (now w.history) (λ s. holder_of w.limits.stripes s w.history))
-              ((tells.seated c x at).log ∙ ap (λ (log : Log MapJob). changes_of log.jobs) (sym leaves.log)) (law x.seat.seat.phase refl parts.0 parts.1);
+              (tells.seated c x at).log (law x.seat.seat.phase refl parts.0 parts.1);
           mine = refl;
-          same_seat = leaves.seat;
           saved = λ is. absurd (false≢true is);
-          kept = (tells.seated c x at).agrees.kept ∙ ap (λ (log : Log MapJob). 0 ∷ log.kept) (sym leaves.log);
-          waits = subst (λ (o : Option PendingAt). Waits LeavingToEnd o y.log.room) (sym leaves.waits) tt;
-          due = subst (λ (log : Log MapJob). AreDue (now w.history) (reverse log.jobs)) (sym leaves.log) (tells.seated c x at).due;
+          kept = (tells.seated c x at).agrees.kept;
+          waits = tt;
+          due = (tells.seated c x at).due;
           content = ap map_of leaves.rests.nodes.regular ∙ tells.content;
           apart = λ d other k held. refl;
           placed = leaves.rests.placed;
-          sought = subst (λ (o : Option Cursor). IsSoughtAt t' o (target_in LeavingToEnd y.log)) (sym leaves.cursor) tt;
-          spares = leaves.spares;
+          spares = λ others covered. subst (λ (s : Session). IsCovered (λ place stamp. others place stamp + times_kept (side_of s) place stamp) t') leaves.becomes (leaves.spares others covered);
           largest = leaves.rests.nodes.buckets.largest;
           helpers = ap length leaves.rests.nodes.buckets.helps;
           begins = no_more w.counts.began;
@@ -178,7 +171,7 @@ module _ (w : World) (tells : Tells w) (c : ℕ) (x : Session) (at : slice_get w
           holders = tells.holders;
         };
         move = λ seat'. move_is w (world_after w c (seated_as y seat') (w.history ++ entry.Leave c None ∷ []) w.counts t' w.locks None) (steps.Abort c) answers.Leaving (none, tt)
-            (state_is w (w.history ++ entry.Leave c None ∷ []) (w.history ++ entry.Leave c None ∷ []) w.counts t' (slice_set (map session_changes w.sessions) c None) (slice_set w.sessions c (seated_as y seat')) w.locks None runs refl (no_changes w tells c x at y leaves.cursor seat'))
+            (state_is w (w.history ++ entry.Leave c None ∷ []) (w.history ++ entry.Leave c None ∷ []) w.counts t' (slice_set (map session_changes w.sessions) c None) (slice_set w.sessions c (seated_as y seat')) w.locks None runs refl (no_changes w tells c x at y (ap (λ (s : Session). s.cursor) leaves.becomes) seat'))
             runs (λ kept. leaves.rests.nodes.changes);
         fresh = λ seat'. tt;
       }
@@ -210,13 +203,13 @@ module _ (w : World) (tells : Tells w) (c : ℕ) (x : Session) (at : slice_get w
         let reached : slice_index x.seat.seat.kept n ≡ x.seat.seat.standing =
         ap (λ ks. slice_index ks n) agrees.kept ∙ reach (kept_at x.log.kept n) (length x.log.jobs) (subst (λ ks. slice_index ks n ≤ length x.log.jobs) agrees.kept (subst (λ k. slice_index x.seat.seat.kept n ≤ k) agrees.standing level.1)) (at_most (kept_at x.log.kept n) (length x.log.jobs) more) ∙ sym agrees.standing in
         record {
-          comes = quiet w tells c x at (entry.Returned c n) y (record { phase = Opened; standing = x.seat.seat.standing; kept = take (n + 1) x.seat.seat.kept }) (log_of c w.history) (serial w.history) (λ s. holder_of w.limits.stripes s w.history) w.locks w.counts
-              (laws.returned w.limits.stripes w.history tells.legal c n x.seat.seat (tells.seated c x at).seat returns.phase reached) (log_is w tells c x at y returns.jobs)
-              refl returns.seat (λ is. absurd (false≢true is)) (ap (λ ks. take (n + 1) ks) agrees.kept ∙ ap (λ k. take k (0 ∷ x.log.kept)) (add-one n) ∙ ap (λ ks. 0 ∷ ks) (sym returns.kept)) refl (nothing_waits w tells c x at (LeavingTo n) returns.phase refl) returns.waits returns.jobs
-              (returns.cursor ∙ idle_cursor w tells c x at (LeavingTo n) returns.phase (no_newest x.log n more)) (no_more w.counts.began) (no_more w.counts.committed) refl tells.holders;
+          comes = quiet w tells c x at (entry.Returned c n) y (record { phase = Opened; standing = x.seat.seat.standing; kept = take (n + 1) x.seat.seat.kept }) (take n x.log.kept) (log_of c w.history) (serial w.history) (λ s. holder_of w.limits.stripes s w.history) w.locks w.counts
+              (laws.returned w.limits.stripes w.history tells.legal c n x.seat.seat (tells.seated c x at).seat returns.phase reached) (tells.seated c x at).log
+              refl (λ is. absurd (false≢true is)) (ap (λ ks. take (n + 1) ks) agrees.kept ∙ ap (λ k. take k (0 ∷ x.log.kept)) (add-one n)) refl (nothing_waits w tells c x at (LeavingTo n) returns.phase refl)
+              (idle_cursor w tells c x at (LeavingTo n) returns.phase (no_newest x.log n more)) returns.becomes (no_more w.counts.began) (no_more w.counts.committed) refl tells.holders;
           move = λ seat'. move_is w (world_after w c (seated_as y seat') (w.history ++ entry.Returned c n ∷ []) w.counts w.table w.locks None) (steps.Act c) (answers.Returned n)
               (none, and_from (not (has_job (seat_in w.history c))) (is_back_at n (seat_in w.history c).phase) no_job_here (ap (λ (s : Seat). is_back_at n s.phase) (seat_here w tells c x at) ∙ ap (is_back_at n) returns.phase ∙ eq-eqb n n refl))
-              (state_is w (w.history ++ entry.Returned c n ∷ []) (w.history ++ entry.Returned c n ∷ []) w.counts w.table (map session_changes w.sessions) (slice_set w.sessions c (seated_as y seat')) w.locks None (runs_same w.table) refl (same_changes w tells c x at y returns.cursor seat'))
+              (state_is w (w.history ++ entry.Returned c n ∷ []) (w.history ++ entry.Returned c n ∷ []) w.counts w.table (map session_changes w.sessions) (slice_set w.sessions c (seated_as y seat')) w.locks None (runs_same w.table) refl (same_changes w tells c x at y (ap (λ (s : Side). s.cursor) returns.becomes) seat'))
               (runs_same w.table) (λ kept. refl);
           fresh = λ seat'. tt;
         }
@@ -232,13 +225,13 @@ module _ (w : World) (tells : Tells w) (c : ℕ) (x : Session) (at : slice_get w
         let empty : x.log.jobs ≡ [] = no_jobs x.log.jobs (at_most 0 (length x.log.jobs) more) in
         let nil : x.seat.seat.standing ≡ 0 = agrees.standing ∙ ap length empty in
         record {
-          comes = quiet w tells c x at (entry.Aborted c) y closed_seat [] (serial w.history) (λ s. cond (option_eq nat_eq (holder_of w.limits.stripes s w.history) (Some c)) None (holder_of w.limits.stripes s w.history)) locks' w.counts
-              (laws.aborted w.limits.stripes w.history tells.legal c x.seat.seat (tells.seated c x at).seat ends.phase nil) (ap changes_of (sym (ends.jobs ∙ empty)))
-              refl ends.seat (λ is. absurd (false≢true is)) (ap (λ ks. 0 ∷ ks) (sym ends.kept)) refl (nothing_waits w tells c x at LeavingToEnd ends.phase refl) ends.waits ends.jobs
-              (ends.cursor ∙ idle_cursor w tells c x at LeavingToEnd ends.phase (no_newest x.log 0 more)) (no_more w.counts.began) (no_more w.counts.committed) ends.releases.as_many (released_holders w tells c x at locks' ends.releases);
+          comes = quiet w tells c x at (entry.Aborted c) y closed_seat [] [] (serial w.history) (λ s. cond (option_eq nat_eq (holder_of w.limits.stripes s w.history) (Some c)) None (holder_of w.limits.stripes s w.history)) locks' w.counts
+              (laws.aborted w.limits.stripes w.history tells.legal c x.seat.seat (tells.seated c x at).seat ends.phase nil) (ap changes_of (sym empty))
+              refl (λ is. absurd (false≢true is)) refl refl (nothing_waits w tells c x at LeavingToEnd ends.phase refl)
+              (idle_cursor w tells c x at LeavingToEnd ends.phase (no_newest x.log 0 more)) ends.becomes (no_more w.counts.began) (no_more w.counts.committed) ends.releases.as_many (released_holders w tells c x at locks' ends.releases);
           move = λ seat'. move_is w (world_after w c (seated_as y seat') (w.history ++ entry.Aborted c ∷ []) w.counts w.table locks' None) (steps.Act c) answers.Aborted
               (none, and_from (not (has_job (seat_in w.history c))) (is_at_end (seat_in w.history c).phase) no_job_here (ap (λ (s : Seat). is_at_end s.phase) (seat_here w tells c x at) ∙ ap is_at_end ends.phase))
-              (state_is w (w.history ++ entry.Aborted c ∷ []) (w.history ++ entry.Aborted c ∷ []) w.counts w.table (map session_changes w.sessions) (slice_set w.sessions c (seated_as y seat')) locks' None (runs_same w.table) refl (same_changes w tells c x at y ends.cursor seat'))
+              (state_is w (w.history ++ entry.Aborted c ∷ []) (w.history ++ entry.Aborted c ∷ []) w.counts w.table (map session_changes w.sessions) (slice_set w.sessions c (seated_as y seat')) locks' None (runs_same w.table) refl (same_changes w tells c x at y (ap (λ (s : Side). s.cursor) ends.becomes) seat'))
               (runs_same w.table) (λ kept. refl);
           fresh = λ seat'. tt;
         }

@@ -1,6 +1,6 @@
 -- Steps that leave the table unchanged.
 use Rattle.std.proofs.Common.{◌≡◌, ℕ, ◌+◌, ◌-◌, ◌<◌, Bool, true, false, cond, List, ◌∷◌, length, Option, Some, None, refl, sym, ap, subst, ◌∙◌}
-use Rattle.std.specs.Prelude.{slice_get, slice_set, map, reverse, nat_eq, nat_lt}
+use Rattle.std.specs.Prelude.{slice_get, slice_set, map, nat_eq, nat_lt}
 use Rattle.std.specs.Option.{option_eq, option_map}
 use Rattle.std.proofs.lemmas.Bool.{false≢true}
 use Rattle.boost_core.specs.State.{holder_by}
@@ -9,7 +9,6 @@ use Rattle.txn_trace.specs.Map.{Map}
 use Rattle.txn_trace.specs.History.{caller_of, is_began, is_commit}
 use Rattle.txn_trace.specs.Now.{now}
 use Rattle.txn_trace.specs.Locks.{holder_of}
-use Rattle.txn_trace.specs.Log.{log_of}
 use Rattle.txn_trace.specs.declared.seat.Phase.{Phase}
 use Rattle.txn_trace.specs.declared.seat.Phase.TheVariants.{Closed, Opened, Waiting, LeavingTo, LeavingToEnd}
 use Rattle.txn_trace.specs.Shape.{Seat, RoomySeat, own}
@@ -20,14 +19,13 @@ use Rattle.undo_log.specs.UndoLog.{Log, kept_at, newest_above}
 use Rattle.key_locks.specs.Locks.{Releases, without_caller, holder_of as held_by}
 use Rattle.map_ops.specs.declared.job.MapJob.{MapJob}
 use Rattle.map_ops.specs.Jobs.{PendingAt}
-use Rattle.map_ops.specs.TableAt.{Cursor, cursor_changes}
+use Rattle.map_ops.specs.TableAt.{cursor_changes}
 use Rattle.boost_core.specs.declared.counts.Counts.{Counts}
 use Rattle.boost_core.specs.declared.session.Session.{Session}
 use Rattle.boost_core.specs.Core.{World, Tells, session_changes}
 use Rattle.boost_core.proofs.Moves.{changes_same, changes_set}
 use Rattle.boost_core.proofs.Grow.{Grows, seated_as}
-use Rattle.boost_core.proofs.Outcomes.{same_times}
-use Rattle.boost_core.specs.Sessions.{target_in, key_of_newest, IsSoughtAt, Waits, changes_of, AreDue}
+use Rattle.boost_core.specs.Sessions.{side_of, target_in, key_of_newest, IsSoughtAt, Waits, changes_of}
 use Rattle.boost_core.proofs.Refused.{no_cursor}
 
 -- The stripes of a caller are free, as the history says after the transaction's end.
@@ -66,29 +64,29 @@ module _ (w : World) (tells : Tells w) (c : ℕ) (x : Session) (at : slice_get w
   pub released_holders : (locks' : List (Option ℕ)) → Releases c w.locks locks' → (s : ℕ) → s < w.limits.stripes → held_by locks' s ≡ cond (option_eq nat_eq (holder_of w.limits.stripes s w.history) (Some c)) None (holder_of w.limits.stripes s w.history)
   released_holders locks' releases s below = releases.each s ∙ ap (without_caller c) (tells.holders s below) ∙ released c (holder_of w.limits.stripes s w.history)
 
-  -- A step that leaves the table, the waiting operation and the jobs unchanged, and after which the
-  -- caller has no cursor.
-  pub quiet : (e : Entry) (y : Session) (seat : Seat) (log : List (ℕ × Option ℕ)) (committed : Map) (holder : ℕ → Option ℕ) (locks' : List (Option ℕ)) (counts' : Counts) → Next (holder_by w.words) w.limits.stripes w.history e seat log committed (now w.history) holder → log ≡ changes_of y.log.jobs
-      → caller_of e ≡ c → y.seat.seat ≡ x.seat.seat → (is_saved e ≡ true → 0 < y.seat.room) → seat.kept ≡ 0 ∷ y.log.kept → is_waiting seat.phase ≡ false → x.pending ≡ None → y.pending ≡ x.pending → y.log.jobs ≡ x.log.jobs → y.cursor ≡ None
+  -- A step after which only the caller's savepoints and room have changed; no operation waits, and
+  -- the caller has no cursor.
+  pub quiet : (e : Entry) (y : Session) (seat : Seat) (kept : List ℕ) (log : List (ℕ × Option ℕ)) (committed : Map) (holder : ℕ → Option ℕ) (locks' : List (Option ℕ)) (counts' : Counts) → Next (holder_by w.words) w.limits.stripes w.history e seat log committed (now w.history) holder → log ≡ changes_of x.log.jobs
+      → caller_of e ≡ c → (is_saved e ≡ true → 0 < y.seat.room) → seat.kept ≡ 0 ∷ kept → is_waiting seat.phase ≡ false → x.pending ≡ None → x.cursor ≡ None → side_of y ≡ record (side_of x) { kept = kept }
       → counts'.began ≡ w.counts.began + cond (is_began e) 1 0 → counts'.committed ≡ w.counts.committed + cond (is_commit e) 1 0 → length locks' ≡ length w.locks → ((s : ℕ) → s < w.limits.stripes → held_by locks' s ≡ holder s)
       → Grows w c x y w.table locks' counts' e
-  quiet e y seat log committed holder locks' counts' next log_is mine same saved kept rests nothing pending jobs cursor begins commits long holders = record {
+  quiet e y seat kept log committed holder locks' counts' next log_is mine saved kept_is rests nothing idle becomes begins commits long holders = record {
     seat = seat;
     committed = committed;
     current = now w.history;
     holder = holder;
+    side = record (side_of x) { kept = kept };
+    becomes = becomes ∙ (λ i. record (side_of x) { cursor = idle i; kept = kept });
     next = subst (λ l. Next (holder_by w.words) w.limits.stripes w.history e seat l committed (now w.history) holder) log_is next;
     mine = mine;
-    same_seat = same;
     saved = saved;
-    kept = kept;
-    waits = subst (λ (o : Option PendingAt). Waits seat.phase o y.log.room) (sym (pending ∙ nothing)) (rest_waits seat.phase rests y.log.room);
-    due = subst (λ (js : List MapJob). AreDue (now w.history) (reverse js)) (sym jobs) (tells.seated c x at).due;
+    kept = kept_is;
+    waits = subst (λ (o : Option PendingAt). Waits seat.phase o y.log.room) (sym nothing) (rest_waits seat.phase rests y.log.room);
+    due = (tells.seated c x at).due;
     content = tells.content;
     apart = λ d other k held. refl;
     placed = record { placed = λ cursor key is. is; sound = λ sound. sound };
-    sought = subst (λ (o : Option Cursor). IsSoughtAt w.table o (target_in seat.phase y.log)) (sym cursor) tt;
-    spares = same_times w.table x y pending jobs;
+    spares = λ others covered. covered;
     largest = refl;
     helpers = refl;
     begins = begins;
@@ -100,9 +98,7 @@ module _ (w : World) (tells : Tells w) (c : ℕ) (x : Session) (at : slice_get w
   pub level_in : (q : Phase) → x.seat.seat.phase ≡ q → IsLevelIn q x.seat.seat.standing x.seat.seat.kept
   level_in q is = subst (λ (p : Phase). IsLevelIn p x.seat.seat.standing x.seat.seat.kept) is (seat_leveled (own c w.history) x.seat.seat (tells.seated c x at).seat).within
 
-  pub log_is : (y : Session) → y.log.jobs ≡ x.log.jobs → log_of c w.history ≡ changes_of y.log.jobs
-  log_is y jobs = (tells.seated c x at).log ∙ ap changes_of (sym jobs)
-
+  -- The change numbers of the cursors, if the caller's cursor is unchanged, or dropped.
   pub same_changes : (y : Session) → y.cursor ≡ x.cursor → (seat' : RoomySeat) → map session_changes (slice_set w.sessions c (seated_as y seat')) ≡ map session_changes w.sessions
   same_changes y cursor seat' = changes_same w.sessions c x (seated_as y seat') at (ap (option_map cursor_changes) cursor)
 

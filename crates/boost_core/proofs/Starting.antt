@@ -1,6 +1,6 @@
 -- A core whose history is empty.
 use Rattle.std.proofs.Common.{◌≡◌, ℕ, ◌+◌, ◌<◌, ◌≤◌, ◌==◌, ◌∷◌, Bool, true, List, [], length, map, replicate, Option, Some, None, zero, suc, refl, sym, ap, subst, ◌∙◌, arith}
-use Rattle.std.specs.Prelude.{slice_get, sum_by, reverse}
+use Rattle.std.specs.Prelude.{slice_get, sum_by}
 use Rattle.std.specs.List.{All}
 use Rattle.std.specs.Option.{option_map}
 use Rattle.std.specs.Int.{is_power_of_two}
@@ -12,23 +12,17 @@ use Rattle.std.proofs.lemmas.Option.{slice_get_within, get_or_from_slice_get}
 use mathlib.Core.Logic.{inl, inr}
 use Rattle.key_locks.specs.Locks.{holder_of as held_by}
 use Rattle.txn_trace.specs.Sizes.{Sizes, are_limits}
-use Rattle.txn_trace.specs.Now.{now}
-use Rattle.txn_trace.specs.declared.seat.Phase.TheVariants.{Closed}
-use Rattle.txn_trace.specs.Shape.{Seat}
 use Rattle.txn_trace.specs.Owed.{owed_in}
 use Rattle.txn_trace.specs.History.{caller_of}
 use Rattle.txn_trace.proofs.Judging.{legal_none}
-use Rattle.map_ops.specs.declared.job.MapJob.{MapJob}
-use Rattle.map_ops.specs.Jobs.{PendingAt}
 use Rattle.node_list.specs.Nodes.{NodeAt, first, first_dummy, node_of}
 use Rattle.node_list.specs.Order.{IsRising, IsSpread}
 use Rattle.node_list.specs.Sound.{IsSound, AllPlain}
 use Rattle.map_ops.specs.TableAt.{TableAt, Cursor, IsNew, Nothing, cursor_changes, nodes_of}
 use Rattle.boost_core.specs.declared.session.Session.{Session}
 use Rattle.boost_core.specs.State.{start}
-use Rattle.boost_core.specs.Spares.{times_of, times_in}
-use Rattle.boost_core.specs.Sessions.{IsIdle, Agrees, Waits, IsSoughtAt, AreDue, level_of, owed_of, target_of, times_kept, spare_if, changes_of}
-use Rattle.boost_core.specs.Core.{World, Tells, state_of, session_changes, node_at, gap_if, gap_by, all_times}
+use Rattle.boost_core.specs.Sessions.{Side, side_of, IsIdle, IsSoughtAt, owed_of, target_of, times_kept}
+use Rattle.boost_core.specs.Core.{World, Tells, IsSeated, state_of, session_changes, node_at, gap_if, gap_by, all_times}
 use Rattle.boost_core.proofs.HelperGaps.{idle_cursors}
 use Rattle.boost_core.proofs.NodeLists.{node_here, node_later, none_of_none}
 use Rattle.boost_core.proofs.Spares.{none_covered}
@@ -87,19 +81,19 @@ module _ (limits : Sizes) (t : TableAt) (new : IsNew t limits.buckets limits.cal
   is_idle : (s : Session) (c : ℕ) → slice_get sessions c ≡ Some s → IsIdle s
   is_idle s c at = subst IsIdle (get_or_from_slice_get sessions c s s at) (idle c s (slice_get_within sessions c s at))
 
-  no_times : (s : Session) → IsIdle s → (place stamp : ℕ) → times_kept s place stamp ≡ 0
-  no_times s is place stamp = λ i. times_of (spare_if (is.pending i)) place stamp + times_in (is.jobs i) place stamp
+  no_times : (s : Session) → IsIdle s → (place stamp : ℕ) → times_kept (side_of s) place stamp ≡ 0
+  no_times s is place stamp = ap (λ (side : Side). times_kept side place stamp) is.side
 
   abbrev pub first_world : List (Option ℕ) → World
   first_world locks = record { limits = limits; history = []; counts = record { began = 0; committed = 0 }; table = t; sessions = sessions; locks = locks; placed = None; words = words }
 
-  idle_agrees : (s : Session) → IsIdle s → Agrees s
-  idle_agrees s is = record {
-    standing = ap (λ (q : Seat). q.standing) is.seat ∙ sym (ap length is.jobs);
-    kept = ap (λ (q : Seat). q.kept) is.seat ∙ sym (ap (λ ks. 0 ∷ ks) is.kept);
-    waits = subst (λ (q : Seat). Waits q.phase s.pending s.log.room) (sym is.seat) (subst (λ (o : Option PendingAt). Waits Closed o s.log.room) (sym is.pending) tt);
-    level = let none : level_of s.seat.seat.phase ≡ 0 = ap (λ (q : Seat). level_of q.phase) is.seat in omega arith;
-  }
+  idle_seated : (s : Session) (c : ℕ) → IsIdle s → IsSeated [] c (side_of s) s.log.room
+  idle_seated s c is = subst (λ (side : Side). IsSeated [] c side s.log.room) (sym is.side) (record {
+    seat = refl;
+    log = refl;
+    due = tt;
+    agrees = record { standing = refl; kept = refl; waits = tt; level = omega arith };
+  })
 
   -- The list of one dummy is sound.
   one_node : (place : ℕ) (n : NodeAt) → node_of (nodes_of t) place ≡ Some n → (t.list.head ≡ place) × (n ≡ first_dummy t.list.head 0)
@@ -135,16 +129,9 @@ module _ (limits : Sizes) (t : TableAt) (new : IsNew t limits.buckets limits.cal
     commits = refl;
     content = new.content_is;
     count = count;
-    seated = λ c s at.
-        let is = is_idle s c at in
-        record {
-          seat = ap Some (sym is.seat);
-          log = ap changes_of (sym is.jobs);
-          due = subst (λ (js : List MapJob). AreDue (now []) (reverse js)) (sym is.jobs) tt;
-          agrees = idle_agrees s is;
-        };
-    sought = λ c s at. subst (λ (cursor : Option Cursor). IsSoughtAt t cursor (target_of s)) (sym (is_idle s c at).cursor) tt;
-    spares = none_covered t (all_times sessions) new.none_out (λ place stamp. sum_none (λ s. times_kept s place stamp) sessions (λ s c at. no_times s (is_idle s c at) place stamp));
+    seated = λ c s at. idle_seated s c (is_idle s c at);
+    sought = λ c s at. subst (λ (cursor : Option Cursor). IsSoughtAt t cursor (target_of s)) (sym (ap (λ (side : Side). side.cursor) (is_idle s c at).side)) tt;
+    spares = none_covered t (all_times sessions) new.none_out (λ place stamp. sum_none (λ s. times_kept (side_of s) place stamp) sessions (λ s c at. no_times s (is_idle s c at) place stamp));
     fresh = tt;
     stripes = ap length none ∙ length-replicate limits.stripes None;
     holders = λ s below. ap (λ ls. held_by ls s) none ∙ none_held limits.stripes s;
@@ -154,7 +141,7 @@ module _ (limits : Sizes) (t : TableAt) (new : IsNew t limits.buckets limits.cal
   }
 
   pub none_owed : sum_by owed_of sessions ≡ 0
-  none_owed = sum_none owed_of sessions (λ s c at. ap (λ (q : Seat). owed_in q.standing q.phase) (is_idle s c at).seat)
+  none_owed = sum_none owed_of sessions (λ s c at. ap (λ (side : Side). owed_in side.seat.standing side.seat.phase) (is_idle s c at).side)
 
   pub start_is : (locks : List (Option ℕ)) → state_of (first_world locks) ≡ record (start limits) { words = words }
   start_is locks = λ i. record {
@@ -167,8 +154,8 @@ module _ (limits : Sizes) (t : TableAt) (new : IsNew t limits.buckets limits.cal
     nodes = map node_at (new.nodes_are i);
     changes = new.changes_is i;
     stamp = new.last_is i;
-    cursors = (image_is session_changes None sessions (λ s c at. ap (option_map cursor_changes) (is_idle s c at).cursor) ∙ ap (λ n. replicate n None) count) i;
-    gaps = (image_is (gap_by t) None sessions (λ s c at. ap (gap_if t) (is_idle s c at).cursor) ∙ ap (λ n. replicate n None) count) i;
+    cursors = (image_is session_changes None sessions (λ s c at. ap (λ (side : Side). option_map cursor_changes side.cursor) (is_idle s c at).side) ∙ ap (λ n. replicate n None) count) i;
+    gaps = (image_is (gap_by t) None sessions (λ s c at. ap (λ (side : Side). gap_if t side.cursor) (is_idle s c at).side) ∙ ap (λ n. replicate n None) count) i;
     helper_gaps = (ap (map (gap_if t)) (idle_cursors t.buckets.helpers limits.callers new.helps_is) ∙ none_fit t limits.callers) i;
     helpers = new.helps_is i;
     placed = None;

@@ -1,6 +1,6 @@
 -- The steps by which callers work on the map.
 use Rattle.std.proofs.Common.{◌≡◌, ℕ, ◌+◌, ◌-◌, ◌<◌, ◌≤◌, true, cond, List, [], ◌∷◌, ◌++◌, length, Option, Some, None, is_some, refl, sym, ap, subst, ◌∙◌, arith}
-use Rattle.std.specs.Prelude.{slice_get, slice_set, map, reverse, slice_index, nat_lt}
+use Rattle.std.specs.Prelude.{slice_get, slice_set, map, reverse, slice_index, nat_lt, option_to_list}
 use Rattle.std.specs.Option.{option_map}
 use Rattle.std.specs.List.{AllByRecursion}
 use Rattle.std.proofs.lemmas.Bool.{false≢true, ne_eqb, ltb-true}
@@ -33,7 +33,7 @@ use Rattle.txn_trace.proofs.Entries as laws
 use Rattle.undo_log.specs.UndoLog.{kept_at}
 use Rattle.map_ops.specs.declared.job.MapJob.{MapJob}
 use Rattle.map_ops.specs.Jobs.{PendingAt}
-use Rattle.map_ops.specs.TableAt.{TableAt, Cursor, content, cursor_changes, table_changes}
+use Rattle.map_ops.specs.TableAt.{TableAt, content, cursor_changes, table_changes}
 use Rattle.boost_core.specs.declared.session.Session.{Session}
 use Rattle.boost_core.specs.State.{seat_in, holder_by}
 use Rattle.boost_core.specs.Refusals.{refusal_of}
@@ -44,7 +44,7 @@ use Rattle.boost_core.proofs.Moves.{Runs, state_is, changes_set}
 use Rattle.boost_core.proofs.Grow.{world_after, seated_as}
 use Rattle.boost_core.proofs.Outcomes.{Called, move_is}
 use Rattle.boost_core.specs.Answers.{IsReply}
-use Rattle.boost_core.specs.Sessions.{target_in, level_of, IsSoughtAt, KeepsPlaced, Waits, spare_if, times_kept, change_of, changes_of, AreDue, DoesIn, TakesBackIn}
+use Rattle.boost_core.specs.Sessions.{Side, side_of, level_of, KeepsPlaced, Waits, spare_if, times_kept, change_of, changes_of, AreDue, DoesIn, TakesBackIn}
 use Rattle.boost_core.proofs.Spares.{spent}
 use Rattle.boost_core.proofs.Due.{NotedIf, noted, changes_noted, due_noted}
 use Rattle.boost_core.proofs.Sides.{IsGoing, going, waiting_op, changes_last}
@@ -110,11 +110,11 @@ module _ (w : World) (tells : Tells w) (c : ℕ) (x : Session) (at : slice_get w
     did_law : Next (holder_by w.words) w.limits.stripes w.history (entry.Did c reply) did_seat (cond (changes does.pending.op reply) ((key_of does.pending.op, reply) ∷ log_of c w.history) (log_of c w.history)) (serial w.history) (after (now w.history) does.pending.op) (λ s. holder_of w.limits.stripes s w.history)
     did_law = laws.did w.limits.stripes w.history tells.legal c does.pending.op reply x.seat.seat (tells.seated c x at).seat phase_was reply_is
 
-    did_log : cond (changes does.pending.op reply) ((key_of does.pending.op, reply) ∷ log_of c w.history) (log_of c w.history) ≡ changes_of y.log.jobs
+    did_log : cond (changes does.pending.op reply) ((key_of does.pending.op, reply) ∷ log_of c w.history) (log_of c w.history) ≡ changes_of (x.log.jobs ++ option_to_list does.job)
     did_log =
         ap (λ l. cond (changes does.pending.op reply) ((key_of does.pending.op, reply) ∷ l) l) (tells.seated c x at).log
         ∙ ap (λ r. cond (changes does.pending.op r) ((key_of does.pending.op, r) ∷ changes_of x.log.jobs) (changes_of x.log.jobs)) reply_is
-        ∙ changes_noted (now w.history) does.pending.op does.pending.spare x.log.jobs does.job noted_here ∙ ap changes_of (sym does.jobs)
+        ∙ changes_noted (now w.history) does.pending.op does.pending.spare x.log.jobs does.job noted_here
 
     did_runs : table_changes w.table ≤ table_changes t' → Runs w.table t'
     did_runs rises = record {
@@ -134,22 +134,20 @@ module _ (w : World) (tells : Tells w) (c : ℕ) (x : Session) (at : slice_get w
         committed = serial w.history;
         current = after (now w.history) does.pending.op;
         holder = λ s. holder_of w.limits.stripes s w.history;
+        side = record (side_of x) { pending = None; jobs = x.log.jobs ++ option_to_list does.job };
+        becomes = does.becomes;
         next = subst (λ l. Next (holder_by w.words) w.limits.stripes w.history (entry.Did c reply) did_seat l (serial w.history) (after (now w.history) does.pending.op) (λ s. holder_of w.limits.stripes s w.history)) did_log did_law;
         mine = refl;
-        same_seat = does.seat;
         saved = λ is. absurd (false≢true is);
-        kept = (tells.seated c x at).agrees.kept ∙ ap (λ ks. 0 ∷ ks) (sym does.kept);
-        waits = subst (λ (o : Option PendingAt). Waits Opened o y.log.room) (sym does.waits) tt;
-        due = subst (λ (js : List MapJob). AreDue (after (now w.history) does.pending.op) (reverse js)) (sym does.jobs) (due_noted (now w.history) does.pending.op does.pending.spare x.log.jobs does.job noted_here (tells.seated c x at).due);
+        kept = (tells.seated c x at).agrees.kept;
+        waits = tt;
+        due = due_noted (now w.history) does.pending.op does.pending.spare x.log.jobs does.job noted_here (tells.seated c x at).due;
         content = does.does.content_is ∙ ap (λ n. after n does.pending.op) tells.content;
         apart = λ d other k held. get-after_other (now w.history) does.pending.op k
             (held_apart w.limits.stripes w.history d c k (key_of does.pending.op) held (waiting_held w.limits.stripes w.history tells.legal c does.pending.op x.seat.seat (tells.seated c x at).seat phase_was) other);
         placed = keeps;
-        sought = subst (λ (o : Option Cursor). IsSoughtAt t' o None) (sym does.cursor) tt;
-        spares = λ others covered. subst (λ (o : Option PendingAt). IsCovered (λ p s. others p s + (times_of (spare_if o) p s + times_in y.log.jobs p s)) t') (sym does.waits)
-            (subst (λ (js : List MapJob). IsCovered (λ p s. others p s + (0 + times_in js p s)) t') (sym does.jobs)
-            (done_covered w.table t' does.pending.spare does.job x.log.jobs (content w.table) does.pending.op does.does.job_is does.does.spares others
-            (subst (λ (o : Option PendingAt). IsCovered (λ p s. others p s + (times_of (spare_if o) p s + times_in x.log.jobs p s)) w.table) does.had covered)));
+        spares = λ others covered. done_covered w.table t' does.pending.spare does.job x.log.jobs (content w.table) does.pending.op does.does.job_is does.does.spares others
+            (subst (λ (o : Option PendingAt). IsCovered (λ p s. others p s + (times_of (spare_if o) p s + times_in x.log.jobs p s)) w.table) does.had covered);
         largest = does.does.buckets.largest;
         helpers = ap length does.does.buckets.helps;
         begins = no_more w.counts.began;
@@ -160,7 +158,7 @@ module _ (w : World) (tells : Tells w) (c : ℕ) (x : Session) (at : slice_get w
       move = λ seat'. move_is w (world_after w c (seated_as y seat') (w.history ++ entry.Did c reply ∷ []) w.counts t' w.locks None) (steps.Act c) (answers.Done reply)
           (none, subst (λ (q : Phase). IsReply q (now w.history) reply) (sym (ap (λ (s : Seat). s.phase) here ∙ phase_was)) reply_is)
           (state_is w (w.history ++ entry.Did c reply ∷ []) (w.history ++ entry.Did c reply ∷ []) w.counts t' (slice_set (map session_changes w.sessions) c None) (slice_set w.sessions c (seated_as y seat')) w.locks None (did_runs rises) refl
-          (changes_set w.sessions c (seated_as y seat') None (ap (option_map cursor_changes) does.cursor)))
+          (changes_set w.sessions c (seated_as y seat') None (ap (λ (s : Side). option_map cursor_changes s.cursor) does.becomes)))
           (did_runs rises) (λ kept. absurd (false≢true kept));
       fresh = λ seat'. tt;
     }
@@ -211,21 +209,20 @@ module _ (w : World) (tells : Tells w) (c : ℕ) (x : Session) (at : slice_get w
       one_last = let same = back.back.last in omega arith;
     }
 
-    undone_covered : (others : ℕ → ℕ → ℕ) → IsCovered (λ place stamp. others place stamp + times_kept x place stamp) w.table → IsCovered (λ place stamp. others place stamp + times_kept y place stamp) t'
+    undone_covered : (others : ℕ → ℕ → ℕ) → IsCovered (λ place stamp. others place stamp + times_kept (side_of x) place stamp) w.table → IsCovered (λ place stamp. others place stamp + times_kept (record (side_of x) { jobs = y.log.jobs }) place stamp) t'
     undone_covered others covered place stamp =
         let after : others place stamp + times_of (spare_if x.pending) place stamp + times_in y.log.jobs place stamp ≡ times_out t' place stamp =
         spent w.table t' (spare_of_job back.job) (λ p s. others p s + times_of (spare_if x.pending) p s + times_in y.log.jobs p s) back.back.spares (λ p s.
         let times : times_in x.log.jobs p s ≡ times_in y.log.jobs p s + times_of (spare_of_job back.job) p s = ap (λ (js : List MapJob). times_in js p s) back.jobs ∙ sum_by_push (λ (j : MapJob). times_of (spare_of_job j) p s) y.log.jobs back.job in
         let exact : others p s + (times_of (spare_if x.pending) p s + times_in x.log.jobs p s) ≡ times_out w.table p s = covered p s in
         regroup (others p s) (times_of (spare_if x.pending) p s) (times_in x.log.jobs p s) (times_in y.log.jobs p s) (times_of (spare_of_job back.job) p s) (times_out w.table p s) times exact) place stamp in
-        let same : times_of (spare_if y.pending) place stamp ≡ times_of (spare_if x.pending) place stamp = ap (λ (o : Option PendingAt). times_of (spare_if o) place stamp) back.waits in
-        regroup' (others place stamp) (times_of (spare_if y.pending) place stamp) (times_of (spare_if x.pending) place stamp) (times_in y.log.jobs place stamp) (times_out t' place stamp) same after
+        regroup' (others place stamp) (times_of (spare_if x.pending) place stamp) (times_in y.log.jobs place stamp) (times_out t' place stamp) after
       where
         regroup : (a b j k s n : ℕ) → j ≡ k + s → a + (b + j) ≡ n → a + b + k + s ≡ n
         regroup a b j k s n times exact = omega arith
 
-        regroup' : (a b d k n : ℕ) → b ≡ d → a + d + k ≡ n → a + (b + k) ≡ n
-        regroup' a b d k n same exact = omega arith
+        regroup' : (a b k n : ℕ) → a + b + k ≡ n → a + (b + k) ≡ n
+        regroup' a b k n exact = omega arith
 
     pub undone_called : table_changes w.table ≤ table_changes t' → Called w c x (steps.Act c) answers.Undone y t' w.locks
     undone_called rises = record {
@@ -234,19 +231,19 @@ module _ (w : World) (tells : Tells w) (c : ℕ) (x : Session) (at : slice_get w
         committed = serial w.history;
         current = undone_map;
         holder = λ s. holder_of w.limits.stripes s w.history;
+        side = record (side_of x) { jobs = y.log.jobs };
+        becomes = back.becomes;
         next = undone_law x.seat.seat.phase refl goes;
         mine = refl;
-        same_seat = back.seat;
         saved = λ is. absurd (false≢true is);
-        kept = (tells.seated c x at).agrees.kept ∙ ap (λ ks. 0 ∷ ks) (sym back.kept);
-        waits = subst (λ (o : Option PendingAt). Waits x.seat.seat.phase o y.log.room) (sym back.waits) (going_waits x.seat.seat.phase x.pending x.log.room y.log.room goes.0 (tells.seated c x at).agrees.waits);
+        kept = (tells.seated c x at).agrees.kept;
+        waits = going_waits x.seat.seat.phase x.pending x.log.room y.log.room goes.0 (tells.seated c x at).agrees.waits;
         due = (subst (λ (js : List MapJob). AreDue (now w.history) js) (ap reverse back.jobs ∙ reverse-append y.log.jobs (back.job ∷ [])) (tells.seated c x at).due).1;
         content = back.back.content_is ∙ ap (λ n. set_at n (key_of_job back.job) (value_before back.job)) tells.content;
         apart = λ d other k held.
             let away = held_apart w.limits.stripes w.history d c k (key_of_job back.job) held key_held other in
             get-set_at (now w.history) (key_of_job back.job) (value_before back.job) k ∙ ap (λ b. cond b (value_before back.job) (get (now w.history) k)) (ne_eqb k (key_of_job back.job) away);
         placed = keeps;
-        sought = subst (λ (o : Option Cursor). IsSoughtAt t' o (target_in x.seat.seat.phase y.log)) (sym back.cursor) tt;
         spares = undone_covered;
         largest = back.back.buckets.largest;
         helpers = ap length back.back.buckets.helps;
@@ -257,7 +254,7 @@ module _ (w : World) (tells : Tells w) (c : ℕ) (x : Session) (at : slice_get w
       };
       move = λ seat'. move_is w (world_after w c (seated_as y seat') (w.history ++ entry.Undone c ∷ []) w.counts t' w.locks None) (steps.Act c) answers.Undone (none, ap has_job here ∙ has)
           (state_is w (w.history ++ entry.Undone c ∷ []) (w.history ++ entry.Undone c ∷ []) w.counts t' (slice_set (map session_changes w.sessions) c None) (slice_set w.sessions c (seated_as y seat')) w.locks None (undone_runs rises) refl
-          (changes_set w.sessions c (seated_as y seat') None (ap (option_map cursor_changes) back.cursor)))
+          (changes_set w.sessions c (seated_as y seat') None (ap (λ (s : Side). option_map cursor_changes s.cursor) back.becomes)))
           (undone_runs rises) (λ kept. absurd (false≢true kept));
       fresh = λ seat'. tt;
     }

@@ -22,7 +22,7 @@ use Rattle.boost_core.specs.declared.session.Session.{Session}
 use Rattle.boost_core.specs.State.{State, Node, Gap, Owner, Caller, Helper, holder_by}
 use Rattle.boost_core.specs.Begun.{AreNoted}
 use Rattle.boost_core.specs.Spares.{IsCovered}
-use Rattle.boost_core.specs.Sessions.{owed_of, Agrees, IsSought, times_kept, changes_of, AreDue}
+use Rattle.boost_core.specs.Sessions.{Side, side_of, owed_of, Agrees, IsSought, times_kept, changes_of, AreDue}
 
 -- The parts of a core, except room: the limits, the history and its counts, the table, each
 -- caller's side, the stripes' holders, the owner of the cursor that the last move placed, and
@@ -103,17 +103,17 @@ state_of w = record {
   placed = w.placed;
 }
 
--- A caller's side agrees with the history: its seat, and its log, whose changes may be taken back
--- from the map now.
-pub record IsSeated (history : List Entry) (c : ℕ) (s : Session) : Type 0 where
-  pub seat : seat_after (own c history) ≡ Some s.seat.seat
-  pub log : log_of c history ≡ changes_of s.log.jobs
-  pub due : AreDue (now history) (reverse s.log.jobs)
-  pub agrees : Agrees s
+-- A caller's side, with this room in its log, agrees with the history: its seat, and its log, whose
+-- changes may be taken back from the map now.
+pub record IsSeated (history : List Entry) (c : ℕ) (side : Side) (room : ℕ) : Type 0 where
+  pub seat : seat_after (own c history) ≡ Some side.seat
+  pub log : log_of c history ≡ changes_of side.jobs
+  pub due : AreDue (now history) (reverse side.jobs)
+  pub agrees : Agrees side room
 
 -- How often all callers keep a spare.
 abbrev pub all_times : List Session → ℕ → ℕ → ℕ
-all_times sessions place stamp = sum_by (λ s. times_kept s place stamp) sessions
+all_times sessions place stamp = sum_by (λ s. times_kept (side_of s) place stamp) sessions
 
 -- The cursor that the last move placed, if it placed one, fits.
 abbrev pub IsFresh : TableAt → List Session → Option Owner → Type 0
@@ -132,7 +132,8 @@ pub record Tells (w : World) : Type 0 where
   pub commits : w.counts.committed ≡ how_many is_commit w.history
   pub content : content w.table ≡ now w.history
   pub count : length w.sessions ≡ w.limits.callers
-  pub seated : (c : ℕ) (s : Session) → slice_get w.sessions c ≡ Some s → IsSeated w.history c s
+  pub seated : (c : ℕ) (s : Session) → slice_get w.sessions c ≡ Some s
+      → IsSeated w.history c (side_of s) s.log.room
   pub sought : (c : ℕ) (s : Session) → slice_get w.sessions c ≡ Some s → IsSought w.table s
   pub spares : IsCovered (all_times w.sessions) w.table
   pub fresh : IsFresh w.table w.sessions w.placed

@@ -31,12 +31,23 @@ use Rattle.boost_core.specs.State.{Caller}
 use Rattle.boost_core.specs.Refusals.{owner_of, lacks_in}
 use Rattle.boost_core.specs.Spares.{times_of, times_in, IsCovered}
 
--- The caller's seat.
-abbrev pub seat_of : Session → Seat
-seat_of s = s.seat.seat
+-- A caller's side without its room: the seat, the operation that waits, the cursor, and the jobs and
+-- savepoints of the log.
+pub record Side : Type 0 where
+  pub seat : Seat
+  pub pending : Option PendingAt
+  pub cursor : Option Cursor
+  pub jobs : List MapJob
+  pub kept : List ℕ
 
-abbrev pub phase_of : Session → Phase
-phase_of s = s.seat.seat.phase
+abbrev pub side_of : Session → Side
+side_of s = record {
+  seat = s.seat.seat;
+  pending = s.pending;
+  cursor = s.cursor;
+  jobs = s.log.jobs;
+  kept = s.log.kept;
+}
 
 -- The level to which a phase takes changes back, or 0.
 abbrev pub level_of : Phase → ℕ
@@ -49,11 +60,8 @@ owed_of s = owed_in s.seat.seat.standing s.seat.seat.phase
 
 -- No transaction, no waiting operation, no cursor, and an empty log with room for eight jobs.
 pub record IsIdle (s : Session) : Type 0 where
-  pub seat : s.seat.seat ≡ closed_seat
-  pub pending : s.pending ≡ None
-  pub cursor : s.cursor ≡ None
-  pub jobs : s.log.jobs ≡ []
-  pub kept : s.log.kept ≡ []
+  pub side : side_of s
+      ≡ record { seat = closed_seat; pending = None; cursor = None; jobs = []; kept = [] }
   pub room : s.log.room ≡ 8
 
 -- An operation waits exactly in the phase that says so; it has room for its job, and a spare if it
@@ -65,13 +73,13 @@ Waits (Waiting op) None room = ⊥
 Waits phase (Some pending) room = ⊥
 Waits phase None room = Unit {0}
 
--- The seat, the waiting operation and the log agree: as many changes as jobs, the same levels, and
--- the same operation.
-pub record Agrees (s : Session) : Type 0 where
-  pub standing : s.seat.seat.standing ≡ length s.log.jobs
-  pub kept : s.seat.seat.kept ≡ 0 ∷ s.log.kept
-  pub waits : Waits s.seat.seat.phase s.pending s.log.room
-  pub level : level_of s.seat.seat.phase ≤ length s.log.kept
+-- The seat, the waiting operation and the log with this room agree: as many changes as jobs, the
+-- same levels, and the same operation.
+pub record Agrees (side : Side) (room : ℕ) : Type 0 where
+  pub standing : side.seat.standing ≡ length side.jobs
+  pub kept : side.seat.kept ≡ 0 ∷ side.kept
+  pub waits : Waits side.seat.phase side.pending room
+  pub level : level_of side.seat.phase ≤ length side.kept
 
 abbrev pub key_of_newest : Option MapJob → Option ℕ
 key_of_newest None = None
@@ -93,9 +101,9 @@ spare_if None = None
 spare_if (Some pending) = pending.spare
 
 -- How often the caller keeps a spare, for its waiting operation and in its log.
-abbrev pub times_kept : Session → ℕ → ℕ → ℕ
-times_kept s place stamp =
-    times_of (spare_if s.pending) place stamp + times_in s.log.jobs place stamp
+abbrev pub times_kept : Side → ℕ → ℕ → ℕ
+times_kept side place stamp =
+    times_of (spare_if side.pending) place stamp + times_in side.jobs place stamp
 
 -- The changes that stand, newest first: of each the key and the value before it.
 abbrev pub change_of : MapJob → ℕ × Option ℕ
@@ -136,7 +144,7 @@ CanWithdraw s t = OwnsIf t (spare_if s.pending)
 -- A caller's side fits the table: its cursor was placed there, its changes may be taken back there,
 -- its spares are out.
 pub record GoesWith (s : Session) (t : TableAt) : Type 0 where
-  pub agrees : Agrees s
+  pub agrees : Agrees (side_of s) s.log.room
   pub sought : IsSought t s
   pub due : AreDue (content t) (reverse s.log.jobs)
   pub withdraws : CanWithdraw s t
@@ -153,18 +161,18 @@ pub record Rests (t t' : TableAt) : Type 0 where
   pub last : last_of t' ≡ last_of t
   pub placed : KeepsPlaced t t'
 
+-- Only room has changed.
+pub record StaysIn (s s' : Session) : Type 0 where
+  pub becomes : side_of s' ≡ side_of s
+
 -- The operation is prepared and waits, with room for its job; the stripe is the caller's.
 pub record AsksIn (c stripe : ℕ) (op : Op) (s : Session) (t : TableAt) (locks : List (Option ℕ))
     (s' : Session) (t' : TableAt) (locks' : List (Option ℕ)) : Type 0 where
   pub pending : PendingAt
   pub prepares : Prepares t t' op pending
   pub grants : Grants c stripe locks locks'
-  pub waits : s'.pending ≡ Some pending
+  pub becomes : side_of s' ≡ record (side_of s) { pending = Some pending }
   pub room : 0 < s'.log.room
-  pub seat : s'.seat.seat ≡ s.seat.seat
-  pub cursor : s'.cursor ≡ s.cursor
-  pub jobs : s'.log.jobs ≡ s.log.jobs
-  pub kept : s'.log.kept ≡ s.log.kept
 
 -- Another caller holds the stripe: the prepared operation is given up, and only the room of the
 -- caller's side has changed.
@@ -176,19 +184,7 @@ pub record MeetsIn (c stripe : ℕ) (op : Op) (holder : ℕ) (s : Session) (t : 
   pub prepares : Prepares t between op pending
   pub back : GivesBack between t' pending.spare
   pub refuses : Refuses c stripe holder locks locks'
-  pub seat : s'.seat.seat ≡ s.seat.seat
-  pub waits : s'.pending ≡ s.pending
-  pub cursor : s'.cursor ≡ s.cursor
-  pub jobs : s'.log.jobs ≡ s.log.jobs
-  pub kept : s'.log.kept ≡ s.log.kept
-
--- Only room has changed.
-pub record StaysIn (s s' : Session) : Type 0 where
-  pub seat : s'.seat.seat ≡ s.seat.seat
-  pub waits : s'.pending ≡ s.pending
-  pub cursor : s'.cursor ≡ s.cursor
-  pub jobs : s'.log.jobs ≡ s.log.jobs
-  pub kept : s'.log.kept ≡ s.log.kept
+  pub becomes : side_of s' ≡ side_of s
 
 -- The caller has a cursor for its key, which was sought on the table; its side is unchanged
 -- otherwise.
@@ -217,12 +213,7 @@ pub record Drops (s : Session) (t : TableAt) (s' : Session) (t' : TableAt) : Typ
   pub had : s.cursor ≡ Some cursor
   pub stale : fits t cursor ≡ false
   pub table : t' ≡ t
-  pub seat : s'.seat.seat ≡ s.seat.seat
-  pub waits : s'.pending ≡ s.pending
-  pub dropped : s'.cursor ≡ None
-  pub jobs : s'.log.jobs ≡ s.log.jobs
-  pub kept : s'.log.kept ≡ s.log.kept
-  pub room : s'.log.room ≡ s.log.room
+  pub becomes : s' ≡ record s { cursor = None }
 
 -- The operation that waits is done, and its job is the newest.
 pub record DoesIn (s : Session) (t : TableAt) (reply : Option ℕ) (s' : Session)
@@ -236,11 +227,12 @@ pub record DoesIn (s : Session) (t : TableAt) (reply : Option ℕ) (s' : Session
   pub does : changes.Does t t' pending reply job
   pub writes : OpWrites t.list t'.list pending.op pending.spare
       (get (content t) (key_of pending.op))
-  pub seat : s'.seat.seat ≡ s.seat.seat
-  pub waits : s'.pending ≡ None
-  pub cursor : s'.cursor ≡ None
-  pub jobs : s'.log.jobs ≡ s.log.jobs ++ option_to_list job
-  pub kept : s'.log.kept ≡ s.log.kept
+  pub becomes : side_of s'
+      ≡ record (side_of s) {
+        pending = None;
+        cursor = None;
+        jobs = s.log.jobs ++ option_to_list job;
+      }
 
 -- There is a change to take back: its cursor was placed for it, it is due, and its spare belongs to
 -- the table.
@@ -262,11 +254,8 @@ pub record TakesBackIn (s : Session) (t : TableAt) (s' : Session) (t' : TableAt)
   pub fitting : fits t at ≡ true
   pub back : TakesBack t t' job
   pub writes : JobWrites t.list t'.list job
-  pub seat : s'.seat.seat ≡ s.seat.seat
-  pub waits : s'.pending ≡ s.pending
-  pub cursor : s'.cursor ≡ None
   pub jobs : s.log.jobs ≡ s'.log.jobs ++ job ∷ []
-  pub kept : s'.log.kept ≡ s.log.kept
+  pub becomes : side_of s' ≡ record (side_of s) { cursor = None; jobs = s'.log.jobs }
 
 -- A caller that takes changes back has none left above its level.
 pub record CanArrive (s : Session) : Type 0 where
@@ -278,44 +267,30 @@ pub record CanArrive (s : Session) : Type 0 where
 pub record ReturnsIn (n : ℕ) (s : Session) (locks : List (Option ℕ)) (s' : Session)
     (locks' : List (Option ℕ)) : Type 0 where
   pub phase : s.seat.seat.phase ≡ LeavingTo n
-  pub seat : s'.seat.seat ≡ s.seat.seat
-  pub waits : s'.pending ≡ s.pending
-  pub cursor : s'.cursor ≡ s.cursor
-  pub jobs : s'.log.jobs ≡ s.log.jobs
-  pub kept : s'.log.kept ≡ take n s.log.kept
+  pub becomes : side_of s' ≡ record (side_of s) { kept = take n s.log.kept }
   pub locks_stay : locks' ≡ locks
 
 -- It has arrived at the end: its stripes are free.
 pub record EndsIn (c : ℕ) (s : Session) (locks : List (Option ℕ)) (s' : Session)
     (locks' : List (Option ℕ)) : Type 0 where
   pub phase : s.seat.seat.phase ≡ LeavingToEnd
-  pub seat : s'.seat.seat ≡ s.seat.seat
-  pub waits : s'.pending ≡ s.pending
-  pub cursor : s'.cursor ≡ s.cursor
-  pub jobs : s'.log.jobs ≡ s.log.jobs
-  pub kept : s'.log.kept ≡ []
+  pub becomes : side_of s' ≡ record (side_of s) { kept = [] }
   pub releases : Releases c locks locks'
 
 -- A savepoint is set, and the seat has room for it.
 pub record SavesIn (n : ℕ) (s : Session) (s' : Session) : Type 0 where
   pub number : n ≡ length s.log.kept + 1
-  pub seat : s'.seat.seat ≡ s.seat.seat
   pub room : 0 < s'.seat.room
-  pub waits : s'.pending ≡ s.pending
-  pub cursor : s'.cursor ≡ s.cursor
-  pub jobs : s'.log.jobs ≡ s.log.jobs
-  pub kept : s'.log.kept ≡ s.log.kept ++ length s.log.jobs ∷ []
+  pub becomes : side_of s'
+      ≡ record (side_of s) { kept = s.log.kept ++ length s.log.jobs ∷ [] }
 
 -- The waiting operation is given up, and the cursor is dropped.
 pub record WithdrawsIn (s : Session) (t : TableAt) (s' : Session) (t' : TableAt) : Type 0 where
   pub rests : Rests t t'
   pub spares : (others : ℕ → ℕ → ℕ)
-      → IsCovered (λ place stamp. others place stamp + times_kept s place stamp) t
-      → IsCovered (λ place stamp. others place stamp + times_kept s' place stamp) t'
-  pub seat : s'.seat.seat ≡ s.seat.seat
-  pub waits : s'.pending ≡ None
-  pub cursor : s'.cursor ≡ None
-  pub log : s'.log ≡ s.log
+      → IsCovered (λ place stamp. others place stamp + times_kept (side_of s) place stamp) t
+      → IsCovered (λ place stamp. others place stamp + times_kept (side_of s') place stamp) t'
+  pub becomes : s' ≡ record s { pending = None; cursor = None }
 
 -- All jobs are dropped with their spares, and all savepoints.
 pub record SettlesIn (s : Session) (t : TableAt) (s' : Session) (t' : TableAt) : Type 0 where
@@ -323,11 +298,7 @@ pub record SettlesIn (s : Session) (t : TableAt) (s' : Session) (t' : TableAt) :
   pub spares : (others : ℕ → ℕ → ℕ)
       → IsCovered (λ place stamp. others place stamp + times_in s.log.jobs place stamp) t
       → IsCovered others t'
-  pub seat : s'.seat.seat ≡ s.seat.seat
-  pub waits : s'.pending ≡ s.pending
-  pub cursor : s'.cursor ≡ s.cursor
-  pub jobs : s'.log.jobs ≡ []
-  pub kept : s'.log.kept ≡ []
+  pub becomes : side_of s' ≡ record (side_of s) { jobs = []; kept = [] }
 
 -- The answer to setting a savepoint, and its effect.
 abbrev pub Saves : Session → Answer → Session → Type 0

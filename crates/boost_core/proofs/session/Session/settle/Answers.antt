@@ -1,5 +1,6 @@
-use Rattle.std.proofs.Common.{ap, List, ◌≡◌, ◌≤◌, ◌+◌, length, arith, ◌∙◌}
+use Rattle.std.proofs.Common.{ap, List, [], ◌≡◌, ◌≤◌, ◌+◌, length, arith, ◌∙◌}
 use Rattle.map_ops.specs.declared.job.MapJob.{MapJob}
+use Rattle.boost_core.specs.Sessions.{Side, side_of}
 use Rattle.boost_core.specs.Spares.{times_in, times_out}
 use Rattle.boost_core.proofs.Settling.{rests_more, newest_owned, popped_covered, no_jobs, none_left, front_none}
 use Rattle.boost_core.proofs.session.Session.settle.Goals as goal
@@ -12,10 +13,7 @@ loop-job-preserved c = record {
   rests = rests_more _ c.loop-job.table c.discard.new.self _ c.loop-job.invariant.rests c.discard.ensures.back c.discard.ensures.follows;
   own = (c.loop-job.invariant.own.0, popped_covered c.loop-job.table c.discard.new.self c.loop-job.self.log.jobs c.pop_above.new.self.jobs c.in-Some.job c.in-Some.ensures.jobs c.discard.ensures.back c.loop-job.invariant.own.0 c.loop-job.invariant.own.1);
   spares = λ others covered. popped_covered c.loop-job.table c.discard.new.self c.loop-job.self.log.jobs c.pop_above.new.self.jobs c.in-Some.job c.in-Some.ensures.jobs c.discard.ensures.back others (c.loop-job.invariant.spares others covered);
-  kept = c.in-Some.ensures.kept ∙ c.loop-job.invariant.kept;
-  cursor = c.loop-job.invariant.cursor;
-  seat = c.loop-job.invariant.seat;
-  waits = c.loop-job.invariant.waits;
+  side = (λ i. record (side_of c.loop-job.self) { jobs = c.pop_above.new.self.jobs; kept = c.in-Some.ensures.kept i }) ∙ ap (λ (side : Side). record side { jobs = c.pop_above.new.self.jobs }) c.loop-job.invariant.side;
 }
 
 pub returns : goal.returns
@@ -27,9 +25,7 @@ returns c =
           let none_kept : times_in c.loop-job.self.log.jobs place stamp ≡ 0 = ap (λ (jobs : List MapJob). times_in jobs place stamp) (no_jobs c.loop-job.self.log.jobs none) in
           let exact : others place stamp + times_in c.loop-job.self.log.jobs place stamp ≡ times_out c.loop-job.table place stamp = c.loop-job.invariant.spares others covered place stamp in
           omega arith;
-      seat = c.loop-job.invariant.seat;
-      waits = c.loop-job.invariant.waits;
-      cursor = c.loop-job.invariant.cursor;
-      jobs = c.cut.ensures.jobs ∙ front_none c.loop-job.self.log.jobs c.pop_above.new.self.jobs _ c.pop_above.ensures.jobs none;
-      kept = c.cut.ensures.kept;
+      becomes =
+          let jobs = c.cut.ensures.jobs ∙ front_none c.loop-job.self.log.jobs c.pop_above.new.self.jobs _ c.pop_above.ensures.jobs none in
+          (λ i. record (side_of c.loop-job.self) { jobs = jobs i; kept = c.cut.ensures.kept i }) ∙ ap (λ (side : Side). record side { jobs = []; kept = [] }) c.loop-job.invariant.side;
     }

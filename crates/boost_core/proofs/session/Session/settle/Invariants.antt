@@ -1,6 +1,6 @@
 use Rattle.std.proofs.Common.{◌≡◌, ℕ, ◌+◌, length}
 use Rattle.boost_core.specs.Spares.{times_in, IsCovered}
-use Rattle.boost_core.specs.Sessions.{Rests, CanSettle}
+use Rattle.boost_core.specs.Sessions.{side_of, Rests, CanSettle}
 use Rattle.boost_core.proofs.session.Session.settle.Given as goal
 
 abbrev pub invariant-loop-job : goal.invariant-loop-job
@@ -8,10 +8,7 @@ invariant-loop-job l = record {
   rests : Rests l.fn.table l.table;
   own : CanSettle l.self l.table;
   spares : (others : ℕ → ℕ → ℕ) → IsCovered (λ place stamp. others place stamp + times_in l.fn.self.log.jobs place stamp) l.fn.table → IsCovered (λ place stamp. others place stamp + times_in l.self.log.jobs place stamp) l.table;
-  kept : l.self.log.kept ≡ l.fn.self.log.kept;
-  cursor : l.self.cursor ≡ l.fn.self.cursor;
-  seat : l.self.seat.seat ≡ l.fn.self.seat.seat;
-  waits : l.self.pending ≡ l.fn.self.pending;
+  side : side_of l.self ≡ record (side_of l.fn.self) { jobs = l.self.log.jobs };
 }
 
 abbrev pub decreases-loop-job : goal.decreases-loop-job
