@@ -45,9 +45,9 @@
  *     A `boostmap` is a handle of 16 bytes in the program's memory, all zeros at first
  *     (BOOSTMAP_INIT). boostmap_new gives it a map; boostmap_free frees the map and makes the handle
  *     all zeros again. A handle may be moved by copying its bytes, if only the copy is used
- *     afterwards. Never read or write its fields. The same holds for a `boostmap_caller` and a
- *     `boostmap_judge`. A striped map is freed with the last of its callers; a caller that is freed
- *     in a transaction aborts it.
+ *     afterwards. Never read or write its fields. The same holds for a `boostmap_judge`, and for a
+ *     `boostmap_caller`, which takes 80 bytes. A striped map is freed with the last of its callers; a
+ *     caller that is freed in a transaction aborts it.
  *
  * THREADS
  *     Make one call at a time on one handle. Any thread may make the next call, if a mutex, a
@@ -95,7 +95,11 @@ typedef struct boostmap {
     void *held;
 } boostmap;
 
-#define BOOSTMAP_INIT { 0, 0 }
+#ifdef __cplusplus
+#define BOOSTMAP_INIT {}
+#else
+#define BOOSTMAP_INIT { 0 }
+#endif
 
 typedef uint32_t boostmap_status;
 
@@ -209,10 +213,12 @@ boostmap_status boostmap_back(boostmap *map, uint64_t caller, uint64_t level, ui
  * to another thread between any two calls, also within a transaction. */
 
 /* A handle of a caller: all zeros, or a caller of a striped map. The program does not touch the
- * fields. */
+ * fields. Every call writes to its handle; `apart` keeps two handles, side by side, out of one line of
+ * the processor's cache, for which their threads would wait. */
 typedef struct boostmap_caller {
     uint64_t tag;
     void *held;
+    uint64_t apart[8];
 } boostmap_caller;
 
 /* Opens a map with no keys, for 1 to 4096 callers and with 1 to 4096 stripes, and makes `first` its

@@ -32,7 +32,8 @@ _U64 = ctypes.c_uint64
 
 
 class _Handle(ctypes.Structure):
-    _fields_ = [("tag", _U64), ("held", ctypes.c_void_p)]
+    # `apart` keeps the handles of two callers out of one line of the processor's cache.
+    _fields_ = [("tag", _U64), ("held", ctypes.c_void_p), ("apart", _U64 * 8)]
 
 
 class _Pair(ctypes.Structure):
@@ -154,7 +155,7 @@ class _Owned:
     _free = None
 
     def __init__(self):
-        self._handle = _Handle(0, None)
+        self._handle = _Handle()
         self._lock = threading.Lock()
 
     def _call(self, name, *numbers):

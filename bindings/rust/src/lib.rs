@@ -39,15 +39,18 @@ pub use judge::{Entry, Holder, Judge, Operation, Rule, Verdict};
 mod sys {
     use std::ffi::c_void;
 
+    /// A handle of a map, a caller or a judge. The library uses the first two fields. Every call of a
+    /// caller writes to them, and the third keeps two handles out of one line of the cache.
     #[repr(C)]
     pub struct Handle {
         pub tag: u64,
         pub held: *mut c_void,
+        apart: [u64; 8],
     }
 
     impl Handle {
         /// A handle that owns nothing.
-        pub const EMPTY: Handle = Handle { tag: 0, held: std::ptr::null_mut() };
+        pub const EMPTY: Handle = Handle { tag: 0, held: std::ptr::null_mut(), apart: [0; 8] };
     }
 
     #[repr(C)]
