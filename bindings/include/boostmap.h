@@ -46,7 +46,7 @@
  *     (BOOSTMAP_INIT). boostmap_new gives it a map; boostmap_free frees the map and makes the handle
  *     all zeros again. A handle may be moved by copying its bytes, if only the copy is used
  *     afterwards. Never read or write its fields. The same holds for a `boostmap_judge`, and for a
- *     `boostmap_caller`, which takes 80 bytes. A striped map is freed with the last of its callers; a
+ *     `boostmap_caller`, which takes 64 bytes. A striped map is freed with the last of its callers; a
  *     caller that is freed in a transaction aborts it.
  *
  * THREADS
@@ -212,13 +212,22 @@ boostmap_status boostmap_back(boostmap *map, uint64_t caller, uint64_t level, ui
  * One handle is one caller. Its calls need no lock: give each thread its own caller. A caller may move
  * to another thread between any two calls, also within a transaction. */
 
+/* Aligns a handle to a line of the processor's cache; a compiler before C11 does not. */
+#if defined __cplusplus
+#define BOOSTMAP_LINE alignas(64)
+#elif defined __STDC_VERSION__ && __STDC_VERSION__ >= 201112L
+#define BOOSTMAP_LINE _Alignas(64)
+#else
+#define BOOSTMAP_LINE
+#endif
+
 /* A handle of a caller: all zeros, or a caller of a striped map. The program does not touch the
- * fields. Every call writes to its handle; `apart` keeps two handles, side by side, out of one line of
- * the processor's cache, for which their threads would wait. */
+ * fields. Every call writes to its handle, so each takes a line of the cache: threads whose handles
+ * share one wait for each other. On the heap, take it from aligned_alloc. */
 typedef struct boostmap_caller {
-    uint64_t tag;
+    BOOSTMAP_LINE uint64_t tag;
     void *held;
-    uint64_t apart[8];
+    uint64_t apart[6];
 } boostmap_caller;
 
 /* Opens a map with no keys, for 1 to 4096 callers and with 1 to 4096 stripes, and makes `first` its

@@ -32,8 +32,7 @@ _U64 = ctypes.c_uint64
 
 
 class _Handle(ctypes.Structure):
-    # `apart` keeps the handles of two callers out of one line of the processor's cache.
-    _fields_ = [("tag", _U64), ("held", ctypes.c_void_p), ("apart", _U64 * 8)]
+    _fields_ = [("tag", _U64), ("held", ctypes.c_void_p)]
 
 
 class _Pair(ctypes.Structure):

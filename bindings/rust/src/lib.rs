@@ -39,18 +39,17 @@ pub use judge::{Entry, Holder, Judge, Operation, Rule, Verdict};
 mod sys {
     use std::ffi::c_void;
 
-    /// A handle of a map, a caller or a judge. The library uses the first two fields. Every call of a
-    /// caller writes to them, and the third keeps two handles out of one line of the cache.
-    #[repr(C)]
+    /// A handle of a map, a caller or a judge. Every call of a caller writes to it, so it has a line of
+    /// the processor's cache to itself.
+    #[repr(C, align(64))]
     pub struct Handle {
         pub tag: u64,
         pub held: *mut c_void,
-        apart: [u64; 8],
     }
 
     impl Handle {
         /// A handle that owns nothing.
-        pub const EMPTY: Handle = Handle { tag: 0, held: std::ptr::null_mut(), apart: [0; 8] };
+        pub const EMPTY: Handle = Handle { tag: 0, held: std::ptr::null_mut() };
     }
 
     #[repr(C)]
