@@ -8,7 +8,14 @@ set -euo pipefail
 root=$(cd "$(dirname "${BASH_SOURCE[0]}")/../.." && pwd)
 work=$(mktemp -d)
 trap 'rm -rf "$work"' EXIT
-cp -r "$root/crates" "$root/crates.txt" "$root/HANDLES" "$work"
+cp "$root/crates.txt" "$root/HANDLES" "$work"
+for crate in "$root"/crates/*; do
+  to=$work/crates/${crate##*/}
+  mkdir -p "$to"
+  for part in src specs proofs must-fail; do
+    if [ -d "$crate/$part" ]; then cp -r "$crate/$part" "$to/"; fi
+  done
+done
 cd "$work"
 for file in crates/*/must-fail/*.edit; do
   grep -q '^# [a-z0-9_]*$' "$file" || continue
