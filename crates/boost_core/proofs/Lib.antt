@@ -7,7 +7,6 @@ pub mod Settling
 pub mod Beginners
 pub mod Refused
 pub mod Sides
-pub mod Methods
 pub mod Moves
 pub mod Numbers
 pub mod Runs

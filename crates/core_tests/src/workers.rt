@@ -1,5 +1,5 @@
 //! Workers that run scripts, step by step.
-use script_worker::{Finish as Outcome, Stage, Worker};
+use script_worker::{Finish, Stage, Worker};
 use std::alloc::{AllocError, Global};
 use std::process::Abort;
 use std::test::Fail;
@@ -63,7 +63,7 @@ fn tell(
     worker: &mut Worker,
     scripts: &[Script],
     answer: Answer,
-) -> (Option<Step>, Option<Outcome>) {
+) -> (Option<Step>, Option<Finish>) {
     let step = match worker.turn(2) {
         Some(Turn::One(step)) => Some(step),
         _ => None,
@@ -77,7 +77,7 @@ fn take_turn(
     worker: &mut Worker,
     scripts: &[Script],
     answer: Answer,
-) -> (Option<Step>, Option<Outcome>) {
+) -> (Option<Step>, Option<Finish>) {
     let mut taken = None;
     if !worker.is_live() {
         return (taken, None);
@@ -92,7 +92,7 @@ fn take_turn(
 
 /// A step that the worker takes, its answer, the outcome of a script that ends by it, and the
 /// script that the worker is at then.
-type Row = (Step, Answer, Option<Outcome>, Option<usize>);
+type Row = (Step, Answer, Option<Finish>, Option<usize>);
 
 /// A worker of a number of workers, whether the limits take only half keys, the actions of the
 /// scripts, the script that it is at first, and its steps.
@@ -149,9 +149,9 @@ fn play(rt: &impl Abort, alloc: Global, case: &Case, by_take_turn: bool) -> Resu
 
 const NOTHING: Answer = Answer::Refused(Refusal::NothingToSeek);
 
-const BAD_KEY: Option<Outcome> = Some(Outcome::Refused(Refusal::BadKey));
+const BAD_KEY: Option<Finish> = Some(Finish::Refused(Refusal::BadKey));
 
-const NO_MEMORY: Option<Outcome> = Some(Outcome::Refused(Refusal::NoMemory));
+const NO_MEMORY: Option<Finish> = Some(Finish::Refused(Refusal::NoMemory));
 
 /// Workers and their steps.
 static CASES: [Case; 9] = [
@@ -167,7 +167,7 @@ static CASES: [Case; 9] = [
             (
                 Step::Commit(1),
                 Answer::Committed(1),
-                Some(Outcome::Committed),
+                Some(Finish::Committed),
                 Some(3),
             ),
             (Step::Begin(1), Answer::Began(2), None, Some(3)),
@@ -175,7 +175,7 @@ static CASES: [Case; 9] = [
             (
                 Step::Commit(1),
                 Answer::Committed(2),
-                Some(Outcome::Committed),
+                Some(Finish::Committed),
                 None,
             ),
         ],
@@ -211,7 +211,7 @@ static CASES: [Case; 9] = [
             (
                 Step::Commit(0),
                 Answer::Committed(1),
-                Some(Outcome::Committed),
+                Some(Finish::Committed),
                 Some(1),
             ),
             (Step::Begin(0), Answer::Began(2), None, Some(1)),
@@ -238,7 +238,7 @@ static CASES: [Case; 9] = [
             (Step::Begin(0), Answer::Began(1), None, Some(0)),
             (Step::Ask(0, Op::Get(1)), Answer::Busy(1), None, Some(0)),
             (Step::Seek(0), NOTHING, None, Some(0)),
-            (Step::Act(0), Answer::Aborted, Some(Outcome::Busy), Some(1)),
+            (Step::Act(0), Answer::Aborted, Some(Finish::Busy), Some(1)),
         ],
     },
     // If every key is taken, help with a key of 2^63 takes steps; an action `put_if` is an
@@ -266,7 +266,7 @@ static CASES: [Case; 9] = [
             (
                 Step::Commit(0),
                 Answer::Committed(1),
-                Some(Outcome::Committed),
+                Some(Finish::Committed),
                 None,
             ),
         ],
@@ -282,7 +282,7 @@ static CASES: [Case; 9] = [
             (Step::Begin(0), Answer::Began(1), None, Some(0)),
             (Step::Abort(0), Answer::Leaving, None, Some(0)),
             (Step::Seek(0), NOTHING, None, Some(0)),
-            (Step::Act(0), Answer::Aborted, Some(Outcome::Aborted), None),
+            (Step::Act(0), Answer::Aborted, Some(Finish::Aborted), None),
         ],
     },
     // A refused call aborts the transaction, and a refused begin ends the script; help with a bad
@@ -314,7 +314,7 @@ static CASES: [Case; 9] = [
             (
                 Step::Act(0),
                 Answer::Aborted,
-                Some(Outcome::Refused(Refusal::NoSuchLevel)),
+                Some(Finish::Refused(Refusal::NoSuchLevel)),
                 Some(2),
             ),
             (
