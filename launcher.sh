@@ -9,12 +9,13 @@
 # and have defined `is_call`, which says whether arguments are a call of the program, and `usage`, which
 # prints its usage.
 #
-# If the program is not built yet, or one of its sources is newer, `rt` proves and builds it first, with
-# only the crates that it stands on. The proof of a library begins as soon as the libraries below it are
-# proved; as many proofs run at the same time as there are processors. In one folder, `rt` lets crates
-# that share a library wait for each other, so each library is proved in a separate folder, with links
-# to the crates below it. Standard error shows the progress. If the build fails, the status is 125,
-# which no other call returns. RT names a command to run instead of rt.
+# If the program is not built yet, or one of its sources is newer, `rt` proves and builds it first,
+# with only the crates that it stands on. The proof of a library begins as soon as the libraries
+# below it are proved; as many proofs run at the same time as there are processors. The library with
+# the longest way up to the program uses all of them, and the others give way to it. In one folder,
+# `rt` lets crates that share a library wait for each other, so each library is proved in a separate
+# folder, with links to the crates below it. Standard error shows the progress. If the build fails,
+# the status is 125, which no other call returns. RT names a command to run instead of rt.
 # shellcheck shell=bash disable=SC2154
 
 out=$root/crates/$program/out
@@ -86,10 +87,21 @@ lay_out() {
         "$root/crates.txt" >"$folder/crates.txt"
 }
 
+# Whether no library that is not proved yet has a longer way up to the program than this one.
+leads() {
+    local name
+    for name in $order; do
+        [ -n "${proved[$name]+set}" ] || break
+    done
+    [ "$name" = "$1" ]
+}
+
 # Begins to prove a library, which stands on the libraries named after it.
 begin() {
     local name=$1 on lower
     local -A under=()
+    local -a call=(nice -n 5 "${RT:-rt}" lib)
+    ! leads "$name" || call=("${RT:-rt}" lib --jobs "$most")
     shift
     for on; do
         under[$on]=
@@ -98,7 +110,7 @@ begin() {
     all_under[$name]=${!under[*]}
     say "$name"
     if lay_out "$work/$name" "${!under[@]}" "$name"; then
-        (cd -- "$work/$name/crates/$name" && exec "${RT:-rt}" lib) >"$work/$name.log" 2>&1 </dev/null &
+        (cd -- "$work/$name/crates/$name" && exec "${call[@]}") >"$work/$name.log" 2>&1 </dev/null &
         running[$!]=$name
     else
         is_well=false
@@ -169,7 +181,7 @@ build() {
     $is_well || return 1
     say "$program"
     # `rt run` builds the program, keeps it and runs it.
-    if (cd -- "$root/crates/$program" && "${RT:-rt}" run -- "${trial[@]}") \
+    if (cd -- "$root/crates/$program" && "${RT:-rt}" run --jobs "$most" -- "${trial[@]}") \
         >"$work/$program.log" 2>&1 </dev/null; then
         libraries >"$built.libraries"
         touch -- "$built"
