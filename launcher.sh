@@ -21,9 +21,8 @@
 out=$root/crates/$program/out
 built=$out/$program
 
-# Prints the libraries that the program stands on, a line for each: its name, and the names of the
-# libraries below it. Those with more crates on the way up to the program come first. In crates.txt a
-# crate stands after those below it.
+# Prints the libraries that the program stands on, a line for each, in the order of crates.txt: its
+# name, and the names of the libraries below it. In crates.txt a crate stands after those below it.
 libraries() {
     awk -v program="$program" '
         !/^#/ && NF {
@@ -37,16 +36,39 @@ libraries() {
             known[name]
         }
         END {
-            way[program] = 0
+            needed[program]
             for (i = count; i > 0; i--)
-                if (names[i] in way) {
+                if (names[i] in needed) {
                     split(below[names[i]], under)
-                    for (j in under)
-                        if (way[under[j]] <= way[names[i]]) way[under[j]] = way[names[i]] + 1
+                    for (j in under) needed[under[j]]
                 }
             for (i = 1; i <= count; i++)
-                if (names[i] in way && names[i] != program) print way[names[i]], names[i] below[names[i]]
-        }' "$root/crates.txt" | sort -s -k1,1nr | cut -d ' ' -f 2-
+                if (names[i] in needed && names[i] != program) print names[i] below[names[i]]
+        }' "$root/crates.txt"
+}
+
+# Prints each crate with the size of its sources in bytes.
+sizes() {
+    find "$root/crates" \( -name out -o -name must-fail \) -prune -o \
+        \( -name '*.rt' -o -name '*.antt' \) -printf '%P %s\n' |
+        awk '{ sub("/.*", "", $1); size[$1] += $2 } END { for (name in size) print name, size[name] }'
+}
+
+# Sorts the lines of `libraries`: first those with the largest sources on the longest way up to the
+# program, since the build waits for them longest.
+by_way() {
+    awk '
+        NR == FNR { size[$1] = $2; next }
+        { name[++count] = $1; line[count] = $0 }
+        END {
+            for (i = count; i > 0; i--) {
+                way[name[i]] += size[name[i]]
+                words = split(line[i], word)
+                for (j = 2; j <= words; j++)
+                    if (way[word[j]] < way[name[i]]) way[word[j]] = way[name[i]]
+            }
+            for (i = 1; i <= count; i++) print way[name[i]], line[i]
+        }' <(sizes) - | sort -s -k1,1nr | cut -d ' ' -f 2-
 }
 
 # Whether the program has to be built: it is not there, the list of its libraries has changed, or a
@@ -169,7 +191,7 @@ build() {
     while read -r name on; do
         order+=" $name"
         waiting[$name]=$on
-    done < <(libraries)
+    done < <(libraries | by_way)
     count=$((${#waiting[@]} + 1))
     most=$(nproc)
     if [ -x "$built" ]; then echo "$program: building again: its sources have changed" >&2; else say_how_long; fi
