@@ -9,20 +9,20 @@
 # and have defined `is_call`, which says whether arguments are a call of the program, and `usage`, which
 # prints its usage.
 #
-# If the program is not built yet, or one of its sources is newer, `rt` proves and builds it first, with
-# only the crates that it stands on. The proof of a library begins as soon as the libraries below it are
-# proved; as many proofs run at the same time as there are processors. In one folder, `rt` lets crates
-# that share a library wait for each other, so each library is proved in a separate folder, with links
-# to the crates below it. Standard error shows the progress. If the build fails, the status is 125,
-# which no other call returns. RT names a command to run instead of rt.
+# If the program is not built yet, or one of its sources is newer, `rt` proves and builds it first,
+# with only the crates that it stands on. The proof of a library begins as soon as the libraries
+# below it are proved; as many proofs run at the same time as there are processors. The library with
+# the longest way up to the program uses all of them, and the others give way to it. In one folder,
+# `rt` lets crates that share a library wait for each other, so each library is proved in a separate
+# folder, with links to the crates below it. Standard error shows the progress. If the build fails,
+# the status is 125, which no other call returns. RT names a command to run instead of rt.
 # shellcheck shell=bash disable=SC2154
 
 out=$root/crates/$program/out
 built=$out/$program
 
-# Prints the libraries that the program stands on, a line for each: its name, and the names of the
-# libraries below it. Those with more crates on the way up to the program come first. In crates.txt a
-# crate stands after those below it.
+# Prints the libraries that the program stands on, a line for each, in the order of crates.txt: its
+# name, and the names of the libraries below it. In crates.txt a crate stands after those below it.
 libraries() {
     awk -v program="$program" '
         !/^#/ && NF {
@@ -36,16 +36,39 @@ libraries() {
             known[name]
         }
         END {
-            way[program] = 0
+            needed[program]
             for (i = count; i > 0; i--)
-                if (names[i] in way) {
+                if (names[i] in needed) {
                     split(below[names[i]], under)
-                    for (j in under)
-                        if (way[under[j]] <= way[names[i]]) way[under[j]] = way[names[i]] + 1
+                    for (j in under) needed[under[j]]
                 }
             for (i = 1; i <= count; i++)
-                if (names[i] in way && names[i] != program) print way[names[i]], names[i] below[names[i]]
-        }' "$root/crates.txt" | sort -s -k1,1nr | cut -d ' ' -f 2-
+                if (names[i] in needed && names[i] != program) print names[i] below[names[i]]
+        }' "$root/crates.txt"
+}
+
+# Prints each crate with the size of its sources in bytes.
+sizes() {
+    find "$root/crates" \( -name out -o -name must-fail \) -prune -o \
+        \( -name '*.rt' -o -name '*.antt' \) -printf '%P %s\n' |
+        awk '{ sub("/.*", "", $1); size[$1] += $2 } END { for (name in size) print name, size[name] }'
+}
+
+# Sorts the lines of `libraries`: first those with the largest sources on the longest way up to the
+# program, since the build waits for them longest.
+by_way() {
+    awk '
+        NR == FNR { size[$1] = $2; next }
+        { name[++count] = $1; line[count] = $0 }
+        END {
+            for (i = count; i > 0; i--) {
+                way[name[i]] += size[name[i]]
+                words = split(line[i], word)
+                for (j = 2; j <= words; j++)
+                    if (way[word[j]] < way[name[i]]) way[word[j]] = way[name[i]]
+            }
+            for (i = 1; i <= count; i++) print way[name[i]], line[i]
+        }' <(sizes) - | sort -s -k1,1nr | cut -d ' ' -f 2-
 }
 
 # Whether the program has to be built: it is not there, the list of its libraries has changed, or a
@@ -86,10 +109,21 @@ lay_out() {
         "$root/crates.txt" >"$folder/crates.txt"
 }
 
+# Whether no library that is not proved yet has a longer way up to the program than this one.
+leads() {
+    local name
+    for name in $order; do
+        [ -n "${proved[$name]+set}" ] || break
+    done
+    [ "$name" = "$1" ]
+}
+
 # Begins to prove a library, which stands on the libraries named after it.
 begin() {
     local name=$1 on lower
     local -A under=()
+    local -a call=(nice -n 5 "${RT:-rt}" lib)
+    ! leads "$name" || call=("${RT:-rt}" lib --jobs "$most")
     shift
     for on; do
         under[$on]=
@@ -98,7 +132,7 @@ begin() {
     all_under[$name]=${!under[*]}
     say "$name"
     if lay_out "$work/$name" "${!under[@]}" "$name"; then
-        (cd -- "$work/$name/crates/$name" && exec "${RT:-rt}" lib) >"$work/$name.log" 2>&1 </dev/null &
+        (cd -- "$work/$name/crates/$name" && exec "${call[@]}") >"$work/$name.log" 2>&1 </dev/null &
         running[$!]=$name
     else
         is_well=false
@@ -157,7 +191,7 @@ build() {
     while read -r name on; do
         order+=" $name"
         waiting[$name]=$on
-    done < <(libraries)
+    done < <(libraries | by_way)
     count=$((${#waiting[@]} + 1))
     most=$(nproc)
     if [ -x "$built" ]; then echo "$program: building again: its sources have changed" >&2; else say_how_long; fi
@@ -169,7 +203,7 @@ build() {
     $is_well || return 1
     say "$program"
     # `rt run` builds the program, keeps it and runs it.
-    if (cd -- "$root/crates/$program" && "${RT:-rt}" run -- "${trial[@]}") \
+    if (cd -- "$root/crates/$program" && "${RT:-rt}" run --jobs "$most" -- "${trial[@]}") \
         >"$work/$program.log" 2>&1 </dev/null; then
         libraries >"$built.libraries"
         touch -- "$built"

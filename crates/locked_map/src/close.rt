@@ -50,20 +50,40 @@ impl<L: Ledger> SharedMap<L> {
         ensures beside { IfErr result (λ why. IsBeside self.limits callers.items why) }
         ensures counted_too { IfErr result (λ why. IsCounted callers.items why) }
     {
-        let limits = self.limits();
-        let count = u64::from(limits.callers());
-        if !has_all(callers.as_slice(), count) {
+        if !self.has_all(callers.as_slice()) {
             return Err(Unclosed::Missing(self, callers));
         }
-        let booked = self.into_booked();
-        let same = is_seen(&booked.core, limits, callers.as_slice());
         let mut callers = callers;
-        let core = core_of(booked, callers.as_mut_slice());
-        if same {
+        let (core, is_seen) = self.into_core(callers.as_mut_slice());
+        if is_seen {
             Ok(Closed { core, callers })
         } else {
             Err(Unclosed::Differs(core, callers))
         }
+    }
+
+    /// Whether one caller of each number is there.
+    fn has_all<S: Side>(&self, callers: &[Caller<L, S>]) -> bool
+        ensures { IsTrue result ↔ IsAllHere self.now.limits.callers callers.now }
+    {
+        has_all(callers, u64::from(self.limits().callers()))
+    }
+
+    /// Takes the core out, and says whether it has the map's limits and each caller's entries in its
+    /// history are those that the caller saw. The callers are all there, so the history has as many
+    /// entries as they saw.
+    fn into_core<S: Side>(self, callers: &mut [Caller<L, S>]) -> (Core, bool)
+        requires parts { length callers.old ≡ L.parts }
+        ensures callers { callers.new ≡ callers.old }
+        ensures legal { IsLegal Begun result.0.limits.stripes result.0.history }
+        ensures counted { AreCounted result.0.history callers.old }
+        ensures seen { IsTrue result.1 ↔ ((result.0.limits ≡ self.limits)
+            × All (λ k. IsOwn result.0.history k) callers.old) }
+    {
+        let limits = self.limits();
+        let booked = self.into_booked();
+        let is_seen = is_seen(&booked.core, limits, callers);
+        (core_of(booked, callers), is_seen)
     }
 }
 

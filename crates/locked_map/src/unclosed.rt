@@ -1,5 +1,8 @@
 //! The reason why a map was not closed, with all that was passed in, so that nothing is lost. It is
 //! an error with a text.
+ghost use Rattle.std.specs.Prelude.{◌≡◌};
+ghost use Rattle.locked_map.specs.Texts.{text_of};
+
 use crate::caller::Caller;
 use crate::shared_map::SharedMap;
 use boost_core::Core;
@@ -37,14 +40,21 @@ impl<L: Ledger, S: Side> fmt::Display for Unclosed<L, S> {
 
     fn fmt<W: fmt::Write>(&self, f: &mut fmt::Formatter<W>) -> fmt::Result {
         match self {
-            Unclosed::Missing(..) => {
-                f.write_str("a caller of the map is missing or was handed in twice")
-            }
-            Unclosed::Differs(..) => {
-                f.write_str("the history of the map is not what its callers saw")
-            }
+            Unclosed::Missing(..) => f.write_str(text(true)),
+            Unclosed::Differs(..) => f.write_str(text(false)),
         }
     }
 }
 
 impl<L: Ledger, S: Side> Error for Unclosed<L, S> {}
+
+/// The text of the reason, by whether a caller is missing.
+fn text(is_missing: bool) -> &'static str
+    ensures { result.now ≡ text_of is_missing }
+{
+    if is_missing {
+        "a caller of the map is missing or was handed in twice"
+    } else {
+        "the history of the map is not what its callers saw"
+    }
+}

@@ -1,41 +1,45 @@
-use Rattle.std.proofs.Common.{◌≡◌, ◌↔◌, ◌∙◌, ℕ, Bool, true, false, All, IsTrue, List, sym, ap, subst}
+use Rattle.std.proofs.Common.{◌∙◌, All, refl, sym, subst}
 use Rattle.std.proofs.lemmas.Bool.{false≢true}
-use Rattle.boost_core.specs.State.{State}
-use Rattle.txn_trace.specs.declared.holder.Holder.TheVariants.{Begun}
-use Rattle.txn_trace.specs.Legal.{IsLegal}
-use Rattle.txn_trace.specs.declared.entry.Entry.{Entry}
-use Rattle.txn_trace.specs.Sizes.{Sizes}
-use Rattle.locked_map.specs.Closes.{IsAllHere, IsOwn}
-use Rattle.locked_map.specs.Tokens.{Token}
+use Rattle.locked_map.specs.Closes.{AreCounted, IsAllHere, IsOwn}
 use Rattle.locked_map.proofs.shared_map.SharedMap.close.Goals as goal
 
-here_at : {S : Type 0} (b : Bool) (count n : ℕ) (ks ls : List (Token S)) → (IsTrue b ↔ IsAllHere count ks) → b ≡ true → count ≡ n → ks ≡ ls → IsAllHere n ls
-here_at b count n ks ls all is counts are =
-    subst (λ xs. IsAllHere n xs) are (subst (λ (m : ℕ). IsAllHere m ks) counts (all.0 is))
+pub returns-then-is_seen-clause-here : goal.returns-then-is_seen-clause-here
+returns-then-is_seen-clause-here g c =
+    subst (λ ks. IsAllHere c.args.self.limits.callers ks) c.as_slice.ensures.value (c.has_all.ensures.0 c.if-not-has_all.false)
 
-why_at : {S : Type 0} (b : Bool) (lim lim' sizes sizes' : Sizes) (h h' : List Entry) (ks ls : List (Token S)) → (IsTrue b ↔ ((lim ≡ sizes) × All (λ k. IsOwn h k) ks)) → b ≡ false → lim' ≡ lim → h' ≡ h → sizes ≡ sizes' → ks ≡ ls
-    → (lim' ≡ sizes') × All (λ k. IsOwn h' k) ls → ⊥
-why_at b lim lim' sizes sizes' h h' ks ls seen differs same_limits same_history same are all =
-    false≢true (sym differs ∙ seen.1 (
-      sym same_limits ∙ all.0 ∙ sym same,
-      subst (λ (es : List Entry). All (λ k. IsOwn es k) ks) same_history (subst (λ xs. All (λ k. IsOwn h' k) xs) (sym are) all.1),
-    ))
+pub returns-else-is_seen-clause-beside : goal.returns-else-is_seen-clause-beside
+returns-else-is_seen-clause-beside g c =
+    subst (λ ks. IsAllHere c.args.self.limits.callers ks) c.as_slice.ensures.value (c.has_all.ensures.0 c.if-not-has_all.false)
 
-pub returns-then-same-clause-here : goal.returns-then-same-clause-here
-returns-then-same-clause-here g c =
-    here_at c.has_all.result c.from-count.result c.args.self.limits.callers c.as_slice.result.now c.args.callers.items c.has_all.ensures c.if-not-has_all.false (c.from-count.ensures ∙ c.callers.ensures.value ∙ ap (λ (z : Sizes). z.callers) c.limits-limits.ensures) c.as_slice.ensures.value
+pub returns-then-is_seen-clause-limits : goal.returns-then-is_seen-clause-limits
+returns-then-is_seen-clause-limits g c = (c.into_core-core.ensures.seen.0 c.if-is_seen.true).0
 
-pub returns-then-same-clause-legal : goal.returns-then-same-clause-legal
-returns-then-same-clause-legal g c =
-    let core = c.into_booked-booked.result.core in
-    subst (λ (s : State). IsLegal Begun s.limits.stripes s.history) (sym c.core_of-core.ensures.core)
-    c.into_booked-booked.ensures.legal
+pub returns-then-is_seen-clause-own : goal.returns-then-is_seen-clause-own
+returns-then-is_seen-clause-own g c =
+    subst (λ ks. All (λ k. IsOwn c.into_core-core.result.0.history k) ks) c.as_mut_slice.ensures.value (c.into_core-core.ensures.seen.0 c.if-is_seen.true).1
 
-pub returns-else-same-clause-why : goal.returns-else-same-clause-why
-returns-else-same-clause-why g c =
-    let core = c.core_of-core.ensures.core in
-    why_at c.is_seen-same.result _ _ c.limits-limits.result c.args.self.limits _ _ c.as_slice-2.result.now c.args.callers.items c.is_seen-same.ensures c.if-same.false (ap (λ (s : State). s.limits) core) (ap (λ (s : State). s.history) core) c.limits-limits.ensures c.as_slice-2.ensures.value
+pub returns-else-is_seen-clause-why : goal.returns-else-is_seen-clause-why
+returns-else-is_seen-clause-why g c = λ all.
+    let own = subst (λ ks. All (λ k. IsOwn c.into_core-core.result.0.history k) ks) (sym c.as_mut_slice.ensures.value) all.1 in
+    false≢true (sym c.if-is_seen.false ∙ c.into_core-core.ensures.seen.1 (all.0, own))
 
-pub returns-else-same-clause-beside : goal.returns-else-same-clause-beside
-returns-else-same-clause-beside g c =
-    here_at c.has_all.result c.from-count.result c.args.self.limits.callers c.as_slice.result.now c.args.callers.items c.has_all.ensures c.if-not-has_all.false (c.from-count.ensures ∙ c.callers.ensures.value ∙ ap (λ (z : Sizes). z.callers) c.limits-limits.ensures) c.as_slice.ensures.value
+pub returns-then-not-has_all-clause-why : goal.returns-then-not-has_all-clause-why
+returns-then-not-has_all-clause-why g c = λ all.
+    false≢true (sym c.if-not-has_all.true ∙ c.has_all.ensures.1 (subst (λ ks. IsAllHere c.args.self.limits.callers ks) (sym c.as_slice.ensures.value) all))
+
+pub returns-then-not-has_all-clause-back : goal.returns-then-not-has_all-clause-back
+returns-then-not-has_all-clause-back g c = refl
+
+pub returns-then-not-has_all-clause-beside : goal.returns-then-not-has_all-clause-beside
+returns-then-not-has_all-clause-beside g c = refl
+
+pub returns-then-is_seen-clause-legal : goal.returns-then-is_seen-clause-legal
+returns-then-is_seen-clause-legal g c = c.into_core-core.ensures.legal
+
+pub returns-then-is_seen-clause-counted : goal.returns-then-is_seen-clause-counted
+returns-then-is_seen-clause-counted g c =
+    subst (λ ks. AreCounted c.into_core-core.result.0.history ks) c.as_mut_slice.ensures.value c.into_core-core.ensures.counted
+
+pub returns-else-is_seen-clause-counted_too : goal.returns-else-is_seen-clause-counted_too
+returns-else-is_seen-clause-counted_too g c =
+    subst (λ ks. AreCounted c.into_core-core.result.0.history ks) c.as_mut_slice.ensures.value c.into_core-core.ensures.counted
