@@ -59,11 +59,7 @@ fn has_turn(worker: &mut Worker) -> bool {
 
 /// Tells the worker the answer to the one step of its next turn, with one further try allowed.
 /// Answers the step, and the outcome of its script, if it ended.
-fn tell(
-    worker: &mut Worker,
-    scripts: &[Script],
-    answer: Answer,
-) -> (Option<Step>, Option<Finish>) {
+fn tell(worker: &mut Worker, scripts: &[Script], answer: Answer) -> (Option<Step>, Option<Finish>) {
     let step = match worker.turn(2) {
         Some(Turn::One(step)) => Some(step),
         _ => None,
