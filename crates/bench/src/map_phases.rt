@@ -4,6 +4,7 @@ use crate::keys::number_at;
 use crate::stopwatch::Stopwatch;
 use anyhow::{Result, anyhow};
 use map_ops::Table;
+use std::alloc::{AllocError, Global};
 use std::collections::{BTreeMap, HashMap};
 use std::time::Clock;
 use txn_trace::{Op, Refusal};
@@ -60,24 +61,38 @@ fn time_map<R: Clock + Eprint, M: AnyMap>(
     Ok(())
 }
 
+/// A table of at most 65,536 buckets.
+fn table_of(alloc: Global) -> Result<Table, AllocError> {
+    Table::new(alloc, BUCKETS, 1)
+}
+
+/// A table of at most 1,048,576 buckets.
+fn large_table(alloc: Global) -> Result<Table, AllocError> {
+    Table::new(alloc, MANY_BUCKETS, 1)
+}
+
+/// Times a new table, which has two buckets, of which it has stored bucket 0.
+fn time_table<R: Clock + Eprint>(
+    rt: &R,
+    name: &str,
+    table: &mut Table,
+    keys: u64,
+    operations: u64,
+) -> Result<()> {
+    store_bucket(table, 1);
+    time_map(rt, name, table, keys, operations)
+}
+
 /// Times the table at two largest sizes, the sorted map and the hash map of the standard library,
-/// one after the other. A new table has two buckets, of which it has stored bucket 0.
+/// one after the other.
 pub(crate) fn time_maps<R: AllocGlobal + Clock + Eprint>(
     rt: &R,
     keys: u64,
     operations: u64,
 ) -> Result<()> {
-    let mut table = Table::new(rt.alloc(), BUCKETS, 1)?;
-    store_bucket(&mut table, 1);
-    time_map(rt, "table", &mut table, keys, operations)?;
-    drop(table);
-    let mut table = Table::new(rt.alloc(), MANY_BUCKETS, 1)?;
-    store_bucket(&mut table, 1);
-    time_map(rt, "large", &mut table, keys, operations)?;
-    drop(table);
-    let mut sorted = BTreeMap::new(rt.alloc());
-    time_map(rt, "sorted", &mut sorted, keys, operations)?;
-    drop(sorted);
-    let mut hashed = HashMap::new(rt.alloc());
-    time_map(rt, "hashed", &mut hashed, keys, operations)
+    let alloc = rt.alloc();
+    time_table(rt, "table", &mut table_of(alloc)?, keys, operations)?;
+    time_table(rt, "large", &mut large_table(alloc)?, keys, operations)?;
+    time_map(rt, "sorted", &mut BTreeMap::new(alloc), keys, operations)?;
+    time_map(rt, "hashed", &mut HashMap::new(alloc), keys, operations)
 }

@@ -51,6 +51,49 @@ fn sweep_some(table: &mut NodeTable, sweeps: u64) -> u64 {
     sum
 }
 
+/// The operation of a phase.
+#[derive(Clone, Copy)]
+enum Phase {
+    Insert,
+    Get,
+    Swap,
+    Mark,
+    Sweep,
+}
+
+/// Does this number of operations of a phase.
+fn run_phase(table: &mut NodeTable, phase: Phase, count: u64) -> Result<u64, SpareFault> {
+    match phase {
+        Phase::Insert => insert_all(table, count),
+        Phase::Get => Ok(get_all(table, count)),
+        Phase::Swap => Ok(swap_all(table, count)),
+        Phase::Mark => Ok(mark_all(table, count)),
+        Phase::Sweep => Ok(sweep_some(table, count)),
+    }
+}
+
+fn time_phase<R: Clock + Eprint>(
+    rt: &R,
+    table: &mut NodeTable,
+    phase: Phase,
+    name: &str,
+    count: u64,
+) -> Result<()> {
+    let watch = Stopwatch::start(rt)?;
+    let sum = run_phase(table, phase, count).map_err(|fault| anyhow!("{fault:?}"))?;
+    watch.report(rt, "nodes", name, count, sum)?;
+    Ok(())
+}
+
+fn time_phases<R: Clock + Eprint>(rt: &R, table: &mut NodeTable, keys: u64) -> Result<()> {
+    time_phase(rt, table, Phase::Insert, "insert", keys)?;
+    time_phase(rt, table, Phase::Get, "get", keys)?;
+    time_phase(rt, table, Phase::Swap, "swap", keys / 2)?;
+    time_phase(rt, table, Phase::Mark, "mark", keys / 4)?;
+    time_phase(rt, table, Phase::Sweep, "sweep", keys / 1000)?;
+    time_phase(rt, table, Phase::Get, "unlink", keys)
+}
+
 /// Times each phase: half of the keys are swapped, and a quarter of all marked. Few of the marked
 /// nodes are swept, since each sweep walks to the first one that is left; the last look-ups unlink
 /// the others.
@@ -58,23 +101,5 @@ pub(crate) fn time_nodes<R: AllocGlobal + Clock + Eprint>(rt: &R, keys: u64) -> 
     let watch = Stopwatch::start(rt)?;
     let mut table = NodeTable::new(rt.alloc()).map_err(|fault| anyhow!("{fault:?}"))?;
     watch.report(rt, "nodes", "dummies", u64::from(SIZE), u64::from(SIZE))?;
-    let watch = Stopwatch::start(rt)?;
-    let inserted = insert_all(&mut table, keys).map_err(|fault| anyhow!("{fault:?}"))?;
-    watch.report(rt, "nodes", "insert", keys, inserted)?;
-    let watch = Stopwatch::start(rt)?;
-    let found = get_all(&mut table, keys);
-    watch.report(rt, "nodes", "get", keys, found)?;
-    let watch = Stopwatch::start(rt)?;
-    let swapped = swap_all(&mut table, keys / 2);
-    watch.report(rt, "nodes", "swap", keys / 2, swapped)?;
-    let watch = Stopwatch::start(rt)?;
-    let marked = mark_all(&mut table, keys / 4);
-    watch.report(rt, "nodes", "mark", keys / 4, marked)?;
-    let watch = Stopwatch::start(rt)?;
-    let swept = sweep_some(&mut table, keys / 1000);
-    watch.report(rt, "nodes", "sweep", keys / 1000, swept)?;
-    let watch = Stopwatch::start(rt)?;
-    let left = get_all(&mut table, keys);
-    watch.report(rt, "nodes", "unlink", keys, left)?;
-    Ok(())
+    time_phases(rt, &mut table, keys)
 }

@@ -15,20 +15,26 @@ pub(crate) struct NodeTable {
     dummies: Vec<NodeRef>,
 }
 
+/// Puts the dummies of all buckets into a new list, each sought from its parent's.
+fn put_dummies(list: &mut NodeList, dummies: &mut Vec<NodeRef>) -> Result<(), SpareFault> {
+    let head = list.head();
+    dummies.push(head).map_err(|_| SpareFault::NoMemory)?;
+    for bucket in 1..SIZE {
+        let before = parent(bucket) as usize;
+        let from = dummies.get(before).copied().unwrap_or(head);
+        if let Some(node) = put(list, from, SortKey::dummy(bucket), Kind::Dummy, 0)? {
+            dummies.push(node).map_err(|_| SpareFault::NoMemory)?;
+        }
+    }
+    Ok(())
+}
+
 impl NodeTable {
     /// The dummies of all buckets, each sought from its parent's.
     pub(crate) fn new(alloc: Global) -> Result<NodeTable, SpareFault> {
         let mut list = NodeList::new(alloc, 0).map_err(|_| SpareFault::NoMemory)?;
-        let head = list.head();
         let mut dummies = Vec::new(alloc);
-        dummies.push(head).map_err(|_| SpareFault::NoMemory)?;
-        for bucket in 1..SIZE {
-            let before = parent(bucket) as usize;
-            let from = dummies.get(before).copied().unwrap_or(head);
-            if let Some(node) = put(&mut list, from, SortKey::dummy(bucket), Kind::Dummy, 0)? {
-                dummies.push(node).map_err(|_| SpareFault::NoMemory)?;
-            }
-        }
+        put_dummies(&mut list, &mut dummies)?;
         Ok(NodeTable { list, dummies })
     }
 

@@ -153,6 +153,58 @@ fn run_all<R: Threads + Wait + Sync>(rt: &R, workers: &mut [Worker], keys: u64, 
     });
 }
 
+/// The numbers of busy stripes and of commits of all workers, and the sum of their answers.
+fn sums_of(workers: &[Worker]) -> Result<(u64, u64, u64)> {
+    let (mut busy, mut commits, mut sum) = (0u64, 0u64, 0u64);
+    for worker in workers {
+        ensure!(worker.refused == 0, "refused");
+        busy = busy.wrapping_add(worker.busy);
+        commits = commits.wrapping_add(worker.commits);
+        sum = sum.wrapping_add(worker.sum);
+    }
+    Ok((busy, commits, sum))
+}
+
+/// Runs all workers, and answers the nanoseconds that this took, by the clock and of the processor.
+fn run_timed<R: Threads + Wait + Sync + Clock + CpuClock>(
+    rt: &R,
+    workers: &mut [Worker],
+    keys: u64,
+    transactions: u64,
+) -> Result<(u128, u128)> {
+    let used = rt.process_cpu_time()?;
+    let start = Instant::now(rt)?;
+    run_all(rt, workers, keys, transactions);
+    let nanos = start.elapsed(rt)?.as_nanos();
+    let spent = rt.process_cpu_time()?;
+    Ok((nanos, spent.as_nanos().wrapping_sub(used.as_nanos())))
+}
+
+/// Writes the line of these workers.
+fn time_workers<R: Threads + Wait + Sync + Clock + CpuClock + Eprint>(
+    rt: &R,
+    workers: &mut [Worker],
+    keys: u64,
+    transactions: u64,
+) -> Result<()> {
+    if let Some(first) = workers.first_mut() {
+        first.fill(keys);
+    }
+    let threads = workers.len() as u64;
+    let (nanos, spent) = run_timed(rt, workers, keys, transactions)?;
+    let (busy, commits, sum) = sums_of(workers)?;
+    let aborts = threads.wrapping_mul(transactions / 10);
+    let all = threads.wrapping_mul(transactions);
+    ensure!(commits == all.wrapping_sub(aborts), "a thread did not run");
+    let second = u128::from(all).wrapping_mul(1_000_000_000) / nanos.max(1);
+    let each = spent / u128::from(all.max(1));
+    eprintln!(rt;
+        "striped: {threads} threads, {keys} keys, {all} transactions, {second} a second, \
+        {each} ns of processor time each, {busy} busy, {commits} commits, sum {sum}"
+    )?;
+    Ok(())
+}
+
 /// Writes one line on standard error: how many transactions a second this number of threads does,
 /// each of them this number, the processor time of one, and the outcomes.
 pub(crate) fn time_striped<R: Threads + Wait + Sync + AllocGlobal + Clock + CpuClock + Eprint>(
@@ -166,32 +218,5 @@ pub(crate) fn time_striped<R: Threads + Wait + Sync + AllocGlobal + Clock + CpuC
         return Err(anyhow!("1 to 4,096 threads and stripes"));
     };
     let mut workers = workers_of(rt.alloc(), callers)?;
-    if let Some(first) = workers.first_mut() {
-        first.fill(keys);
-    }
-    let used = rt.process_cpu_time()?;
-    let start = Instant::now(rt)?;
-    run_all(rt, workers.as_mut_slice(), keys, transactions);
-    let nanos = start.elapsed(rt)?.as_nanos();
-    let spent = rt
-        .process_cpu_time()?
-        .as_nanos()
-        .wrapping_sub(used.as_nanos());
-    let (mut busy, mut commits, mut sum) = (0u64, 0u64, 0u64);
-    for worker in &workers {
-        ensure!(worker.refused == 0, "refused");
-        busy = busy.wrapping_add(worker.busy);
-        commits = commits.wrapping_add(worker.commits);
-        sum = sum.wrapping_add(worker.sum);
-    }
-    let aborts = threads.wrapping_mul(transactions / 10);
-    let all = threads.wrapping_mul(transactions);
-    ensure!(commits == all.wrapping_sub(aborts), "a thread did not run");
-    let second = u128::from(all).wrapping_mul(1_000_000_000) / nanos.max(1);
-    let each = spent / u128::from(all.max(1));
-    eprintln!(rt;
-        "striped: {threads} threads, {keys} keys, {all} transactions, {second} a second, \
-        {each} ns of processor time each, {busy} busy, {commits} commits, sum {sum}"
-    )?;
-    Ok(())
+    time_workers(rt, workers.as_mut_slice(), keys, transactions)
 }

@@ -107,13 +107,29 @@ pub(crate) fn time_words<R: Threads + Wait + Sync + AllocGlobal + Clock + Eprint
 ) -> Result<()> {
     ensure!(1 <= threads && threads <= 64, "1 to 64 threads");
     let mut takers = takers_of(rt.alloc(), threads as usize)?;
-    let start = Instant::now(rt)?;
-    run_all(rt, takers.as_mut_slice(), takes);
-    let nanos = start.elapsed(rt)?.as_nanos();
+    time_takers(rt, takers.as_mut_slice(), threads, takes)
+}
+
+/// The number of takes that were granted.
+fn granted_to(takers: &[Taker]) -> u64 {
     let mut granted = 0u64;
-    for taker in &takers {
+    for taker in takers {
         granted = granted.wrapping_add(taker.granted);
     }
+    granted
+}
+
+/// Writes the line of these takers.
+fn time_takers<R: Threads + Wait + Sync + Clock + Eprint>(
+    rt: &R,
+    takers: &mut [Taker],
+    threads: u64,
+    takes: u64,
+) -> Result<()> {
+    let start = Instant::now(rt)?;
+    run_all(rt, takers, takes);
+    let nanos = start.elapsed(rt)?.as_nanos();
+    let granted = granted_to(takers);
     let each = nanos / u128::from(takes.max(1));
     eprintln!(rt;
         "{threads} threads, {takes} takes each, {each} ns a take and a give, {granted} granted"

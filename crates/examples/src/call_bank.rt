@@ -4,6 +4,7 @@ ghost use Rattle.owned_map.specs.Keeps.{Keeps};
 use anyhow::Result;
 use bank::transfer;
 use owned_map::{OwnedMap, Stop, Transaction};
+use std::io;
 use std::io::Print;
 use txn_trace::Limits;
 
@@ -17,21 +18,36 @@ fn open(t: &mut Transaction<'_>) -> Result<(), Stop>
     Ok(())
 }
 
-/// Caller 0 opens two accounts; caller 1 moves a sum, and then tries one that is too large. Prints
-/// the outcome of both, and the accounts.
-pub(crate) fn show<R: Print + AllocGlobal>(rt: &R) -> Result<()> {
-    let mut accounts = OwnedMap::new(rt.alloc(), Limits::new(2, 8, 8)?)?;
-    accounts.transact(0, |t: &mut Transaction<'_>| open(t))?;
-    println!(rt;
-        "30 moved: {}",
-        transfer(&mut accounts, 1, 1, 2, 30).is_ok()
-    )?;
-    println!(rt;
-        "80 moved: {}",
-        transfer(&mut accounts, 1, 1, 2, 80).is_ok()
-    )?;
+/// Caller 0 opens two accounts.
+fn open_both(accounts: &mut OwnedMap) -> Result<(), Stop> {
+    accounts.transact(0, |t: &mut Transaction<'_>| open(t))
+}
+
+/// Caller 1 tries to move a sum between the accounts. Prints the outcome.
+fn try_transfer<R: Print>(rt: &R, accounts: &mut OwnedMap, sum: u64) -> io::Result<()> {
+    let is_moved = transfer(accounts, 1, 1, 2, sum).is_ok();
+    println!(rt; "{sum} moved: {is_moved}")
+}
+
+/// Prints the accounts.
+fn list<R: Print + AllocGlobal>(rt: &R, accounts: &OwnedMap) -> io::Result<()> {
     for (account, sum) in accounts.core().map(rt.alloc())? {
         println!(rt; "account {account}: {sum}")?;
     }
     Ok(())
+}
+
+/// Opens two accounts, moves a sum, and then tries one that is too large.
+fn work<R: Print + AllocGlobal>(rt: &R, accounts: &mut OwnedMap) -> Result<()> {
+    open_both(accounts)?;
+    try_transfer(rt, accounts, 30)?;
+    try_transfer(rt, accounts, 80)?;
+    list(rt, accounts)?;
+    Ok(())
+}
+
+/// Works on a new map of two callers.
+pub(crate) fn show<R: Print + AllocGlobal>(rt: &R) -> Result<()> {
+    let mut accounts = OwnedMap::new(rt.alloc(), Limits::new(2, 8, 8)?)?;
+    work(rt, &mut accounts)
 }

@@ -1,6 +1,8 @@
 //! Runs the files of the folder `examples`, each by the engine of its command.
 use anyhow::anyhow;
 use boostmap_engine::{Fault, check, mix, replay};
+use std::alloc::Global;
+use std::io::{Read, Write};
 use std::rt::Runtime;
 use std::{fmt, fs, io};
 
@@ -37,16 +39,28 @@ impl fmt::Display for Command {
     }
 }
 
+/// Runs the text of a file by a command.
+fn run_on<I: Read, O: Write>(
+    alloc: Global,
+    command: Command,
+    input: &mut I,
+    output: &mut O,
+) -> Result<(), Fault> {
+    match command {
+        Command::Replay => replay(alloc, input, output),
+        Command::Mix(seed) => mix(alloc, seed, input, output),
+        Command::Check => {
+            check(alloc, input, output)?;
+            Ok(())
+        }
+    }
+}
+
 /// Runs a file by a command.
 fn run<R: Runtime + AllocGlobal>(rt: &R, command: Command, file: &str) -> Result<(), Fault> {
-    let Ok(mut input) = fs::open(rt, file) else {
-        return Err(Fault::Read);
-    };
-    let mut output = io::writer(rt);
-    match command {
-        Command::Replay => replay(rt.alloc(), &mut input, &mut output),
-        Command::Mix(seed) => mix(rt.alloc(), seed, &mut input, &mut output),
-        Command::Check => check(rt.alloc(), &mut input, &mut output).map(|_| ()),
+    match fs::open(rt, file) {
+        Ok(mut input) => run_on(rt.alloc(), command, &mut input, &mut io::writer(rt)),
+        Err(_) => Err(Fault::Read),
     }
 }
 

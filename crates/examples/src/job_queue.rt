@@ -4,8 +4,9 @@
 ghost use Rattle.std.specs.Prelude.{◌≡◌};
 ghost use Rattle.shared_transactions.specs.Keeps.{Keeps};
 
+use crate::transfers::close;
 use boost_core::Core;
-use locked_map::{Caller, Closed, NoSide, SharedMap, Stop};
+use locked_map::{Caller, NoSide, SharedMap, Stop};
 use shared_transactions::{Retry, Transaction, callers_of, transact};
 use std::alloc::{AllocError, Global};
 use std::io::Print;
@@ -58,16 +59,65 @@ fn finish<L: Ledger, R: Wait>(t: &mut Transaction<'_, L, R>, job: u64) -> Result
     Ok(())
 }
 
-/// Begins to finish every job at once, and stops in the middle: all of it is taken back.
-fn crash<L: Ledger, R: Wait>(
+/// What is done in one transaction.
+#[derive(Clone, Copy)]
+enum Task {
+    /// Fills the queue.
+    Fill,
+    /// Claims a job, if it waits.
+    Claim(u64),
+    /// Finishes a job that was claimed.
+    Finish(u64),
+}
+
+/// Does it, and answers whether it has claimed a job.
+fn do_task<L: Ledger, R: Wait>(t: &mut Transaction<'_, L, R>, task: Task) -> Result<bool, Stop>
+    ensures { Keeps t.old.me t.new.me }
+{
+    match task {
+        Task::Fill => {
+            fill(t)?;
+            Ok(false)
+        }
+        Task::Claim(job) => claim(t, job),
+        Task::Finish(job) => {
+            finish(t, job)?;
+            Ok(false)
+        }
+    }
+}
+
+/// Does it in a transaction, which is tried again as often as it takes.
+fn commit<L: Ledger, R: Wait>(t: &mut Transaction<'_, L, R>, task: Task) -> Result<bool, Stop> {
+    let does = |t: &mut Transaction<'_, L, R>| do_task(t, task);
+    let (claimed, _) = transact(&mut *t, Retry::FOREVER, does)?;
+    Ok(claimed)
+}
+
+/// Begins to finish every job at once.
+fn begin_to_finish<L: Ledger, R: Wait>(t: &mut Transaction<'_, L, R>) -> Result<(), Stop> {
+    t.begin()?;
+    for job in 0..JOBS {
+        t.put(job, FINISHED)?;
+    }
+    Ok(())
+}
+
+/// Fills the queue. Then begins to finish every job at once, and stops in the middle: all of it is
+/// taken back, since the transaction is dropped.
+fn fill_and_crash<L: Ledger, R: Wait>(
     rt: &R,
     map: &SharedMap<L>,
     me: &mut Caller<L, NoSide>,
 ) -> Result<(), Stop> {
-    let mut t = Transaction::new(rt, map, me);
-    t.begin()?;
-    for job in 0..JOBS {
-        t.put(job, FINISHED)?;
+    commit(&mut Transaction::new(rt, map, me), Task::Fill)?;
+    begin_to_finish(&mut Transaction::new(rt, map, me))
+}
+
+/// Claims a job, if it waits, and finishes it.
+fn work_on<L: Ledger, R: Wait>(t: &mut Transaction<'_, L, R>, job: u64) -> Result<(), Stop> {
+    if commit(t, Task::Claim(job))? {
+        commit(t, Task::Finish(job))?;
     }
     Ok(())
 }
@@ -79,13 +129,7 @@ fn work<L: Ledger, R: Wait>(
     me: &mut Caller<L, NoSide>,
 ) -> Result<(), Stop> {
     for job in 0..JOBS {
-        let mut t = Transaction::new(rt, map, me);
-        let claims = |t: &mut Transaction<'_, L, R>| claim(t, job);
-        let (claimed, _) = transact(&mut t, Retry::FOREVER, claims)?;
-        if claimed {
-            let finishes = |t: &mut Transaction<'_, L, R>| finish(t, job);
-            transact(&mut t, Retry::FOREVER, finishes)?;
-        }
+        work_on(&mut Transaction::new(rt, map, me), job)?;
     }
     Ok(())
 }
@@ -98,14 +142,7 @@ fn work_all<L: Ledger + Send + Sync, R: Threads + Wait + Sync>(
     callers: &mut [Caller<L, NoSide>],
 ) -> Result<(), Stop> {
     if let Some(first) = callers.first_mut() {
-        let mut t = Transaction::new(rt, map, first);
-        transact(
-            &mut t,
-            Retry::FOREVER,
-            |t: &mut Transaction<'_, L, R>| fill(t),
-        )?;
-        drop(t);
-        crash(rt, map, first)?;
+        fill_and_crash(rt, map, first)?;
     }
     thread::scope(thread::scope_env(), rt, |scope| {
         for me in callers {
@@ -127,13 +164,23 @@ fn do_all<L: Ledger + Send + Sync, R: Threads + Wait + Sync>(
     requires one_each { blank.parts ≡ limits.callers }
 {
     let (map, passes) = SharedMap::<L>::new(alloc, blank, limits)?;
-    let mut callers = callers_of(alloc, passes)?;
-    if let Err(Stop::Refused(refusal)) = work_all(rt, &map, callers.as_mut_slice()) {
-        return Err(refusal);
+    match callers_of(alloc, passes) {
+        Ok(callers) => work_and_close(rt, map, callers),
+        Err(AllocError) => Err(Refusal::NoMemory),
     }
-    match map.close(callers) {
-        Ok(Closed { core, callers: _ }) => Ok(core),
-        Err(_) => Err(Refusal::OutOfStep),
+}
+
+/// The core of a map on which all jobs are done.
+fn work_and_close<L: Ledger + Send + Sync, R: Threads + Wait + Sync>(
+    rt: &R,
+    map: SharedMap<L>,
+    mut callers: Vec<Caller<L, NoSide>>,
+) -> Result<Core, Refusal>
+    requires { map.limits.callers ≡ L.parts }
+{
+    match work_all(rt, &map, callers.as_mut_slice()) {
+        Err(Stop::Refused(refusal)) => Err(refusal),
+        _ => close(map, callers),
     }
 }
 
@@ -151,6 +198,15 @@ fn finished(alloc: Global, core: &Core) -> Result<(u64, u64), AllocError> {
     Ok((jobs, count))
 }
 
+/// Prints how many jobs are finished and how often one was done.
+fn say<R: Print + AllocGlobal>(rt: &R, core: &Core) -> io::Result<()> {
+    let (jobs, count) = finished(rt.alloc(), core)?;
+    println!(rt;
+        "jobs {JOBS}, finished {jobs}, each once: {}",
+        count == jobs
+    )
+}
+
 /// Does all jobs, and prints how many are finished and how often one was done.
 pub(crate) fn show<R: Threads + Wait + Sync + Print + AllocGlobal>(rt: &R) -> io::Result<()> {
     let Ok(limits) = Limits::new(WORKERS, 8, 8) else {
@@ -158,13 +214,7 @@ pub(crate) fn show<R: Threads + Wait + Sync + Print + AllocGlobal>(rt: &R) -> io
     };
     let blank = Blank::new(u64::from(limits.callers()));
     match do_all::<Brand, R>(rt, rt.alloc(), blank, limits) {
-        Ok(core) => {
-            let (jobs, count) = finished(rt.alloc(), &core)?;
-            println!(rt;
-                "jobs {JOBS}, finished {jobs}, each once: {}",
-                count == jobs
-            )
-        }
+        Ok(core) => say(rt, &core),
         Err(refusal) => println!(rt; "refused: {}", refusal.text()),
     }
 }

@@ -76,13 +76,35 @@ impl Transfer {
     }
 }
 
+/// Makes a transfer, or opens the accounts if there is none, in a transaction, which is tried again
+/// as often as it takes.
+fn commit<L: Ledger, R: Wait>(
+    t: &mut Transaction<'_, L, R>,
+    transfer: Option<Transfer>,
+) -> Result<(), Stop> {
+    let work = |t: &mut Transaction<'_, L, R>| make_or_open(t, transfer);
+    transact(&mut *t, Retry::FOREVER, work)?;
+    Ok(())
+}
+
+/// Makes a transfer, or opens the accounts if there is none.
+fn make_or_open<L: Ledger, R: Wait>(
+    t: &mut Transaction<'_, L, R>,
+    transfer: Option<Transfer>,
+) -> Result<(), Stop>
+    ensures { Keeps t.old.me t.new.me }
+{
+    match transfer {
+        Some(transfer) => transfer.make(t),
+        None => open(t),
+    }
+}
+
 /// Makes all transfers of one thread, each in a transaction.
 fn work<L: Ledger, R: Wait>(rt: &R, map: &SharedMap<L>, me: &mut Caller<L, NoSide>) {
     for round in 0..TRANSFERS {
         let transfer = Transfer::of_round(me.number(), round);
-        let mut t = Transaction::new(rt, map, me);
-        let make = |t: &mut Transaction<'_, L, R>| transfer.make(t);
-        let _ = transact(&mut t, Retry::FOREVER, make);
+        let _ = commit(&mut Transaction::new(rt, map, me), Some(transfer));
     }
 }
 
@@ -93,12 +115,7 @@ fn work_all<L: Ledger + Send + Sync, R: Threads + Wait + Sync>(
     callers: &mut [Caller<L, NoSide>],
 ) -> Result<(), Stop> {
     if let Some(first) = callers.first_mut() {
-        let mut t = Transaction::new(rt, map, first);
-        transact(
-            &mut t,
-            Retry::FOREVER,
-            |t: &mut Transaction<'_, L, R>| open(t),
-        )?;
+        commit(&mut Transaction::new(rt, map, first), None)?;
     }
     thread::scope(thread::scope_env(), rt, |scope| {
         for me in callers {
@@ -120,10 +137,33 @@ fn play_all<L: Ledger + Send + Sync, R: Threads + Wait + Sync>(
     requires one_each { blank.parts ≡ limits.callers }
 {
     let (map, passes) = SharedMap::<L>::new(alloc, blank, limits)?;
-    let mut callers = callers_of(alloc, passes)?;
-    if let Err(Stop::Refused(refusal)) = work_all(rt, &map, callers.as_mut_slice()) {
-        return Err(refusal);
+    match callers_of(alloc, passes) {
+        Ok(callers) => work_and_close(rt, map, callers),
+        Err(AllocError) => Err(Refusal::NoMemory),
     }
+}
+
+/// The core of a map on which all transfers are made.
+fn work_and_close<L: Ledger + Send + Sync, R: Threads + Wait + Sync>(
+    rt: &R,
+    map: SharedMap<L>,
+    mut callers: Vec<Caller<L, NoSide>>,
+) -> Result<Core, Refusal>
+    requires { map.limits.callers ≡ L.parts }
+{
+    match work_all(rt, &map, callers.as_mut_slice()) {
+        Err(Stop::Refused(refusal)) => Err(refusal),
+        _ => close(map, callers),
+    }
+}
+
+/// The core of a map that is closed.
+pub(crate) fn close<L: Ledger>(
+    map: SharedMap<L>,
+    callers: Vec<Caller<L, NoSide>>,
+) -> Result<Core, Refusal>
+    requires { map.limits.callers ≡ L.parts }
+{
     match map.close(callers) {
         Ok(Closed { core, callers: _ }) => Ok(core),
         Err(_) => Err(Refusal::OutOfStep),
@@ -139,6 +179,12 @@ fn total(alloc: Global, core: &Core) -> Result<u64, AllocError> {
     Ok(sum)
 }
 
+/// Prints the sum of all accounts.
+fn say<R: Print + AllocGlobal>(rt: &R, core: &Core) -> io::Result<()> {
+    let sum = total(rt.alloc(), core)?;
+    println!(rt; "opening {}, now {sum}", ACCOUNTS * OPENING)
+}
+
 /// Makes all transfers, and prints the sum of all accounts.
 pub(crate) fn show<R: Threads + Wait + Sync + Print + AllocGlobal>(rt: &R) -> io::Result<()> {
     let Ok(limits) = Limits::new(THREADS, 8, 8) else {
@@ -146,11 +192,7 @@ pub(crate) fn show<R: Threads + Wait + Sync + Print + AllocGlobal>(rt: &R) -> io
     };
     let blank = Blank::new(u64::from(limits.callers()));
     match play_all::<Brand, R>(rt, rt.alloc(), blank, limits) {
-        Ok(core) => println!(rt;
-            "opening {}, now {}",
-            ACCOUNTS * OPENING,
-            total(rt.alloc(), &core)?
-        ),
+        Ok(core) => say(rt, &core),
         Err(refusal) => println!(rt; "refused: {}", refusal.text()),
     }
 }

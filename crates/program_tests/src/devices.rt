@@ -2,7 +2,7 @@
 //! system in memory.
 
 use program_host::System;
-use std::alloc::Global;
+use std::alloc::{AllocError, Global};
 use std::io;
 use std::io::{ErrorKind, Read, Write};
 use std::process::Abort;
@@ -172,6 +172,14 @@ impl<'a> Desk<'a> {
     }
 }
 
+/// Adds the words of a text, with blanks between them.
+fn push_words(alloc: Global, words: &mut Vec<String>, text: &str) -> Result<(), AllocError> {
+    for word in text.split(' ') {
+        words.push(word.to_string(alloc)?)?;
+    }
+    Ok(())
+}
+
 impl<'a> System for Desk<'a> {
     type Input = &'a [u8];
 
@@ -180,9 +188,7 @@ impl<'a> System for Desk<'a> {
             return Err(kind.into());
         }
         let mut words = Vec::new(alloc);
-        for word in self.words.split(' ') {
-            words.push(word.to_string(alloc)?)?;
-        }
+        push_words(alloc, &mut words, self.words)?;
         Ok(words)
     }
 

@@ -99,6 +99,20 @@ fn compare_file<T: Abort + Threads + Wait + Sync>(
     }
 }
 
+/// Compares the output of a command for the file with this piece and this filling.
+fn compare_filled<T: Abort + Threads + Wait + Sync>(
+    rt: &T,
+    alloc: Global,
+    files: Files,
+    piece: &str,
+    filling: &str,
+) -> Result<(), Fail> {
+    let text = filled(alloc, files.frame, piece, filling)?;
+    let wanted = (files.printed, files.status);
+    compare_file(rt, alloc, files.command, &text, wanted);
+    Ok(())
+}
+
 /// Compares the output of a command for similar files.
 fn compare_files<T: Abort + Threads + Wait + Sync>(
     rt: &T,
@@ -107,14 +121,7 @@ fn compare_files<T: Abort + Threads + Wait + Sync>(
 ) -> Result<(), Fail> {
     for piece in files.pieces.split('\n') {
         for filling in files.fillings.split(' ') {
-            let text = filled(alloc, files.frame, piece, filling)?;
-            compare_file(
-                rt,
-                alloc,
-                files.command,
-                &text,
-                (files.printed, files.status),
-            );
+            compare_filled(rt, alloc, files, piece, filling)?;
         }
     }
     Ok(())

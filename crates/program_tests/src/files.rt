@@ -8,7 +8,7 @@ mod steps;
 use crate::devices::filled;
 use crate::files::scripts::{ACTIONS_BEHIND, LONG_SCRIPT, SCRIPTS, SCRIPTS_BEHIND};
 use crate::files::steps::{BEYOND_STEPS, FIRST_COMMIT, ONE_STEP};
-use std::alloc::Global;
+use std::alloc::{AllocError, Global};
 use std::process::Abort;
 use std::test::Fail;
 use txn_files::{FileFault, Part, read_history, read_scripts, read_steps};
@@ -47,13 +47,29 @@ fn same_fault(rt: &impl Abort, found: Option<FileFault>, wanted: Option<FileFaul
     assert_eq!(rt; found, wanted, "{row}");
 }
 
+/// Compares the fault of a file with this text.
+fn has_fault(rt: &impl Abort, alloc: Global, kind: Kind, text: &str, wanted: Option<FileFault>) {
+    same_fault(rt, fault_of(alloc, kind, text.as_bytes()), wanted, text);
+}
+
+/// Compares the fault of the file with this piece and this filling.
+fn compare_filled(
+    rt: &impl Abort,
+    alloc: Global,
+    files: Files,
+    piece: &str,
+    filling: &str,
+) -> Result<(), Fail> {
+    let text = filled(alloc, files.frame, piece, filling)?;
+    has_fault(rt, alloc, files.kind, &text, files.fault);
+    Ok(())
+}
+
 /// Compares the faults of similar files.
 fn compare_files(rt: &impl Abort, alloc: Global, files: Files) -> Result<(), Fail> {
     for piece in files.pieces.split('\n') {
         for filling in files.fillings.split(' ') {
-            let text = filled(alloc, files.frame, piece, filling)?;
-            let found = fault_of(alloc, files.kind, text.as_bytes());
-            same_fault(rt, found, files.fault, &text);
+            compare_filled(rt, alloc, files, piece, filling)?;
         }
     }
     Ok(())
@@ -145,46 +161,52 @@ const GROWN: &[Grown] = &[
     ),
 ];
 
-/// This number of times the first text, then the second, and then as many times the third.
-fn grown(alloc: Global, count: usize, texts: [&str; 3]) -> Result<String, Fail> {
-    let mut text = String::new(alloc);
+/// Adds a text this number of times.
+fn add_often(text: &mut String, count: usize, added: &str) -> Result<(), AllocError> {
     for _ in 0..count {
-        text.push_str(texts[0])?;
+        text.push_str(added)?;
     }
+    Ok(())
+}
+
+/// Adds this number of times the first text, then the second, and then as many times the third.
+fn grow(text: &mut String, count: usize, texts: [&str; 3]) -> Result<(), AllocError> {
+    add_often(text, count, texts[0])?;
     text.push_str(texts[1])?;
-    for _ in 0..count {
-        text.push_str(texts[2])?;
-    }
-    Ok(text)
+    add_often(text, count, texts[2])
+}
+
+/// The text of a file that grows.
+fn grown(alloc: Global, frame: &str, count: usize, texts: [&str; 3]) -> Result<String, AllocError> {
+    let mut piece = String::new(alloc);
+    grow(&mut piece, count, texts)?;
+    frame.replace(alloc, "#", &piece)
+}
+
+/// Compares the fault of a file that grows.
+fn compare_grown(rt: &impl Abort, alloc: Global, row: Grown) -> Result<(), Fail> {
+    let (kind, frame, count, texts, wanted) = row;
+    let text = grown(alloc, frame, count, texts)?;
+    has_fault(rt, alloc, kind, &text, wanted);
+    Ok(())
+}
+
+/// A file of step files' largest size and one byte more is too long; without that byte these spaces
+/// are no JSON.
+fn compare_spaces(rt: &impl Abort, alloc: Global, spaces: &[u8]) {
+    let too_long = fault_of(alloc, Kind::Steps, spaces);
+    same_fault(rt, too_long, Some(FileFault::Limit), "too long");
+    let fewer = spaces.get(1..).unwrap_or(&[]);
+    assert!(rt; fewer.len() == 16_777_216);
+    same_fault(rt, fault_of(alloc, Kind::Steps, fewer), NOT_JSON, "spaces");
 }
 
 #[test]
 fn large_files(rt: HostRuntime) -> Result<(), Fail> {
-    for &(kind, frame, count, texts, wanted) in GROWN {
-        let piece = grown(rt.alloc(), count, texts)?;
-        let text = frame.replace(rt.alloc(), "#", &piece)?;
-        same_fault(
-            &rt,
-            fault_of(rt.alloc(), kind, text.as_bytes()),
-            wanted,
-            &text,
-        );
+    for row in GROWN {
+        compare_grown(&rt, rt.alloc(), *row)?;
     }
-    let spaces = vec![in rt.alloc(); b' '; 16_777_217]?;
-    let (_, fewer) = spaces.split_at_checked(1).ok_or("short")?;
-    let too_long = Some(FileFault::Limit);
-    same_fault(
-        &rt,
-        fault_of(rt.alloc(), Kind::Steps, &spaces),
-        too_long,
-        "too long",
-    );
-    same_fault(
-        &rt,
-        fault_of(rt.alloc(), Kind::Steps, fewer),
-        NOT_JSON,
-        "spaces",
-    );
+    compare_spaces(&rt, rt.alloc(), &vec![in rt.alloc(); b' '; 16_777_217]?);
     Ok(())
 }
 
@@ -195,29 +217,30 @@ fn spoilt(alloc: Global, bytes: &[u8], place: usize) -> Result<Vec<u8>, Fail> {
     Ok(spoilt)
 }
 
+/// Checks that these bytes are no JSON.
+fn is_no_json(rt: &impl Abort, alloc: Global, bytes: &[u8], row: &str) {
+    same_fault(rt, fault_of(alloc, Kind::Steps, bytes), NOT_JSON, row);
+}
+
+/// Checks that these bytes are no JSON if they end too early.
+fn compare_cut(rt: &impl Abort, alloc: Global, bytes: &[u8]) -> Result<(), Fail> {
+    for length in 0..bytes.len() {
+        let cut = bytes.get(..length).ok_or("short")?;
+        is_no_json(rt, alloc, cut, "cut");
+    }
+    Ok(())
+}
+
 /// A file that ends too early, or has a byte that is not in any text.
 #[test]
 fn cut_files(rt: HostRuntime) -> Result<(), Fail> {
     let bytes = FIRST_COMMIT.as_bytes();
-    for length in 0..bytes.len() {
-        let cut = bytes.get(..length).ok_or("short")?;
-        same_fault(&rt, fault_of(rt.alloc(), Kind::Steps, cut), NOT_JSON, "cut");
-    }
+    compare_cut(&rt, rt.alloc(), bytes)?;
     for place in [0, 3, 60] {
         let spoilt = spoilt(rt.alloc(), bytes, place)?;
-        same_fault(
-            &rt,
-            fault_of(rt.alloc(), Kind::Steps, &spoilt),
-            NOT_JSON,
-            "spoilt",
-        );
+        is_no_json(&rt, rt.alloc(), &spoilt, "spoilt");
     }
-    same_fault(
-        &rt,
-        fault_of(rt.alloc(), Kind::Steps, &[34, 255, 34]),
-        NOT_JSON,
-        "no text",
-    );
+    is_no_json(&rt, rt.alloc(), &[34, 255, 34], "no text");
     Ok(())
 }
 

@@ -387,16 +387,34 @@ const DRAWINGS: &[Drawings] = &[
     },
 ];
 
+/// Whether the drawing with this text has width 7 and these points, or this fault.
+fn has_content(
+    alloc: Global,
+    text: &str,
+    content: Result<&'static [(u64, u64)], FileFault>,
+) -> bool {
+    match drawing_in(alloc, text) {
+        Ok((width, points)) => width == 7 && content == Ok(points.as_slice()),
+        Err(fault) => content == Err(fault),
+    }
+}
+
+/// Compares the content of a drawing in this version.
+fn compare_version(
+    rt: &impl Abort,
+    alloc: Global,
+    drawings: Drawings,
+    version: &str,
+) -> Result<(), Fail> {
+    let text = filled(alloc, drawings.frame, drawings.points, version)?;
+    assert!(rt; has_content(alloc, &text, drawings.content), "{text}");
+    Ok(())
+}
+
 /// Compares the contents of similar drawings.
 fn compare(rt: &impl Abort, alloc: Global, drawings: Drawings) -> Result<(), Fail> {
     for version in drawings.versions {
-        let text = filled(alloc, drawings.frame, drawings.points, version)?;
-        let is_same = match (drawing_in(alloc, &text), drawings.content) {
-            (Ok((width, points)), Ok(wanted)) => width == 7 && points.as_slice() == wanted,
-            (Err(fault), Err(wanted)) => fault == wanted,
-            _ => false,
-        };
-        assert!(rt; is_same, "{text}");
+        compare_version(rt, alloc, drawings, version)?;
     }
     Ok(())
 }
@@ -468,15 +486,20 @@ fn compare_next(rt: &impl Abort, reader: &mut Reader<'_>, leading: Leading, shap
     }
 }
 
+/// Compares the elements of all arrays of an array.
+fn compare_each(rt: &impl Abort, reader: &mut Reader<'_>) {
+    assert!(rt; begin(reader));
+    for (leading, shapes) in ELEMENTS {
+        compare_next(rt, reader, *leading, *shapes);
+    }
+}
+
 #[test]
 fn elements(rt: HostRuntime) -> Result<(), Fail> {
     let text = r#"[["put",1,18446744073709551615,null],[8,9],[9],[null],[]]"#;
     let mut scratch = Scratch::new(rt.alloc());
     let mut reader = Reader::new(text, &mut scratch)?;
-    assert!(rt; begin(&mut reader));
-    for (leading, shapes) in ELEMENTS {
-        compare_next(&rt, &mut reader, *leading, *shapes);
-    }
+    compare_each(&rt, &mut reader);
     Ok(())
 }
 
@@ -499,17 +522,26 @@ fn next_points(
     Ok((found.pieces, found.count, found.are_all))
 }
 
+/// Compares the points of the next array.
+fn compare_points(rt: &impl Abort, alloc: Global, reader: &mut Reader<'_>) -> Result<(), Fail> {
+    let (points, count, are_all) = next_points(alloc, reader)?;
+    assert!(rt; points.as_slice() == [(1, 2), (3, 4)].as_slice());
+    assert!(rt; count == 2 && !are_all);
+    Ok(())
+}
+
 /// A value that is skipped, and the pieces of the array behind it.
+fn compare_row(rt: &impl Abort, alloc: Global, reader: &mut Reader<'_>) -> Result<(), Fail> {
+    assert!(rt; begin(reader));
+    pass(reader)?;
+    compare_points(rt, alloc, reader)
+}
+
 #[test]
 fn values_in_a_row(rt: HostRuntime) -> Result<(), Fail> {
     let mut scratch = Scratch::new(rt.alloc());
     let mut reader = Reader::new(r#"[{"x":[1,-2.5]},[[1,2],[3,4],0]]"#, &mut scratch)?;
-    assert!(rt; begin(&mut reader));
-    pass(&mut reader)?;
-    let (points, count, are_all) = next_points(rt.alloc(), &mut reader)?;
-    assert!(rt; points.as_slice() == [(1, 2), (3, 4)].as_slice());
-    assert!(rt; count == 2 && !are_all);
-    Ok(())
+    compare_row(&rt, rt.alloc(), &mut reader)
 }
 
 /// The text of a fault.
@@ -527,11 +559,17 @@ const WORDS: &[(FileFault, &str)] = &[
     (FileFault::NoMemory, "14"),
 ];
 
+/// Checks that a fault has this text.
+fn has_words(rt: &impl Abort, alloc: Global, fault: FileFault, wanted: &str) -> Result<(), Fail> {
+    let words = words_of(alloc, fault)?;
+    assert!(rt; words.as_str() == wanted, "{words} for {wanted}");
+    Ok(())
+}
+
 #[test]
 fn words_of_faults(rt: HostRuntime) -> Result<(), Fail> {
     for (fault, wanted) in WORDS {
-        let words = words_of(rt.alloc(), *fault)?;
-        assert!(rt; words.as_str() == *wanted, "{words} for {wanted}");
+        has_words(&rt, rt.alloc(), *fault, wanted)?;
     }
     Ok(())
 }

@@ -142,6 +142,15 @@ pub(crate) fn callers_of<L: Ledger>(
     Ok(callers)
 }
 
+/// The callers of the passes of a test to which no memory is refused.
+pub(crate) fn callers_in<L: Ledger, R: Abort>(
+    rt: &R,
+    alloc: Global,
+    passes: Vec<Pass<L>>,
+) -> Vec<Caller<L, NoSide>> {
+    callers_of(alloc, passes).expect(rt, "callers")
+}
+
 /// Whether the caller at a place has its number, and has seen these entries.
 pub(crate) fn has_seen<L: Ledger>(
     callers: &[Caller<L, NoSide>],
@@ -267,6 +276,18 @@ pub(crate) fn close<L: Ledger, S: Side>(
     match close_or_miss(shared, callers) {
         Ok(closed) => Ok(closed),
         Err(_) => Err("closes".into()),
+    }
+}
+
+/// The parts of a map that must close.
+pub(crate) fn closed_of<L: Ledger, R: Abort>(
+    rt: &R,
+    shared: Shared<L>,
+    callers: Vec<Caller<L, NoSide>>,
+) -> Closed<L, NoSide> {
+    match close_or_miss(shared, callers) {
+        Ok(closed) => closed,
+        Err(_) => panic!(rt; "closes"),
     }
 }
 

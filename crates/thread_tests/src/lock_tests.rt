@@ -65,35 +65,39 @@ fn take_turns<R: Abort>(
     Ok(())
 }
 
+/// Turns on eight stripes.
+static ON_EIGHT: [(usize, Turn); 16] = [
+    (0, Turn::Lock(1, LockAnswer::Granted)),
+    (1, Turn::Lock(2, LockAnswer::Granted)),
+    (0, Turn::Lock(4, LockAnswer::Granted)),
+    (0, Turn::Lock(1, LockAnswer::Granted)),
+    (0, Turn::Lock(6, LockAnswer::Granted)),
+    (1, Turn::Lock(4, LockAnswer::Busy(0))),
+    (63, Turn::Lock(2, LockAnswer::Busy(1))),
+    (0, Turn::Release),
+    (63, Turn::Lock(6, LockAnswer::Granted)),
+    (1, Turn::Lock(4, LockAnswer::Granted)),
+    (0, Turn::Lock(2, LockAnswer::Busy(1))),
+    (0, Turn::Lock(1, LockAnswer::Granted)),
+    (1, Turn::Release),
+    (0, Turn::Lock(2, LockAnswer::Granted)),
+    (0, Turn::Lock(4, LockAnswer::Granted)),
+    (0, Turn::Lock(6, LockAnswer::Busy(63))),
+];
+
+/// Turns on one stripe.
+static ON_ONE: [(usize, Turn); 3] = [
+    (5, Turn::Lock(0, LockAnswer::Granted)),
+    (6, Turn::Release),
+    (6, Turn::Lock(0, LockAnswer::Busy(5))),
+];
+
 /// A stripe that its holder locks once more is granted again. A caller that holds none releases
 /// none.
 #[test]
 fn a_stripe_is_held_until_its_holder_releases(rt: HostRuntime) -> Result<(), Fail> {
-    let turns = [
-        (0, Turn::Lock(1, LockAnswer::Granted)),
-        (1, Turn::Lock(2, LockAnswer::Granted)),
-        (0, Turn::Lock(4, LockAnswer::Granted)),
-        (0, Turn::Lock(1, LockAnswer::Granted)),
-        (0, Turn::Lock(6, LockAnswer::Granted)),
-        (1, Turn::Lock(4, LockAnswer::Busy(0))),
-        (63, Turn::Lock(2, LockAnswer::Busy(1))),
-        (0, Turn::Release),
-        (63, Turn::Lock(6, LockAnswer::Granted)),
-        (1, Turn::Lock(4, LockAnswer::Granted)),
-        (0, Turn::Lock(2, LockAnswer::Busy(1))),
-        (0, Turn::Lock(1, LockAnswer::Granted)),
-        (1, Turn::Release),
-        (0, Turn::Lock(2, LockAnswer::Granted)),
-        (0, Turn::Lock(4, LockAnswer::Granted)),
-        (0, Turn::Lock(6, LockAnswer::Busy(63))),
-    ];
-    take_turns(&rt, rt.alloc(), 8, turns.as_slice())?;
-    let turns = [
-        (5, Turn::Lock(0, LockAnswer::Granted)),
-        (6, Turn::Release),
-        (6, Turn::Lock(0, LockAnswer::Busy(5))),
-    ];
-    take_turns(&rt, rt.alloc(), 1, turns.as_slice())?;
+    take_turns(&rt, rt.alloc(), 8, ON_EIGHT.as_slice())?;
+    take_turns(&rt, rt.alloc(), 1, ON_ONE.as_slice())?;
     Ok(())
 }
 

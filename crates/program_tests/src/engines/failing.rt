@@ -213,17 +213,31 @@ fn line_of(alloc: Global, fault: &Fault) -> Result<(String, String, u8), Fail> {
     Ok((fault.to_string(alloc)?, message, fault.status()))
 }
 
+/// Checks that a fault has this line as its text and as its message, and this status.
+fn has_line(
+    rt: &impl Abort,
+    alloc: Global,
+    fault: &Fault,
+    line: &str,
+    status: u8,
+) -> Result<(), Fail> {
+    let (text, message, ended) = line_of(alloc, fault)?;
+    let are_same = text.as_str() == line && message.as_str() == line;
+    assert!(rt; are_same && ended == status, "{line}");
+    Ok(())
+}
+
+/// Checks that a usage error has its text as its message, and status 2.
+fn has_usage(rt: &impl Abort, alloc: Global) -> Result<(), Fail> {
+    let (text, message, ended) = line_of(alloc, &Fault::Usage)?;
+    assert!(rt; text.as_str() == message.as_str() && ended == 2);
+    Ok(())
+}
+
 #[test]
 fn lines_of_faults(rt: HostRuntime) -> Result<(), Fail> {
     for (fault, line, status) in LINES {
-        let (text, message, ended) = line_of(rt.alloc(), fault)?;
-        assert!(rt;
-            text.as_str() == *line && message.as_str() == *line,
-            "{text}"
-        );
-        assert!(rt; ended == *status, "{text}");
+        has_line(&rt, rt.alloc(), fault, line, *status)?;
     }
-    let (text, message, ended) = line_of(rt.alloc(), &Fault::Usage)?;
-    assert!(rt; text.as_str() == message.as_str() && ended == 2);
-    Ok(())
+    has_usage(&rt, rt.alloc())
 }

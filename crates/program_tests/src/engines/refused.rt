@@ -317,12 +317,10 @@ fn compare_entries(rt: &impl Abort, core: &Core, entries: &[Entry]) {
     assert!(rt; wanted.next().is_none());
 }
 
-/// Compares the numbers of buckets, of keys and of entries owed, and the pairs if there is memory
+/// Compares the numbers of buckets, of keys and of entries owed, and the pairs if there was memory
 /// for them.
-fn compare_map(rt: &impl Abort, alloc: Global, core: &Core, entries: &[Entry]) {
-    let pairs = pairs_of(alloc, core);
-    assert!(rt; pairs.is_some() || is_refused(alloc));
-    let mut found = pairs.iter().flatten();
+fn compare_pairs(rt: &impl Abort, core: &Core, pairs: Option<&[(u64, u64)]>, entries: &[Entry]) {
+    let mut found = pairs.unwrap_or(&[]).iter();
     let mut count: u64 = 0;
     let mut owed: usize = 0;
     for (caller, key) in KEYS {
@@ -336,6 +334,17 @@ fn compare_map(rt: &impl Abort, alloc: Global, core: &Core, entries: &[Entry]) {
     }
     assert!(rt; found.next().is_none());
     assert!(rt; sizes_of(core) == (2, count) && history_of(core).1 == owed);
+}
+
+/// Compares the numbers, and the pairs if there is memory for them.
+fn compare_map(rt: &impl Abort, alloc: Global, core: &Core, entries: &[Entry]) {
+    match pairs_of(alloc, core) {
+        Some(pairs) => compare_pairs(rt, core, Some(&pairs), entries),
+        None => {
+            assert!(rt; is_refused(alloc));
+            compare_pairs(rt, core, None, entries);
+        }
+    }
 }
 
 /// The answer to the onlooker when it asks for a key, after which it aborts; `None` if memory is
@@ -422,11 +431,16 @@ fn abort_all(rt: &impl Abort, core: &mut Core, entries: &[Entry]) {
     assert!(rt; history_of(core).0.len() == wanted_length);
 }
 
+/// The checker's verdict on these entries.
+fn verdict_on(rt: &impl Abort, alloc: Global, entries: &[Entry]) -> Result<Verdict, AllocError> {
+    assert!(rt; entries.iter().all(|entry| entry.caller() < 64));
+    check(alloc, entries, 8, Holder::Now)
+}
+
 /// The checker's verdict on the history.
 fn verdict_of(rt: &impl Abort, alloc: Global, core: &Core) -> Result<Verdict, AllocError> {
     let entries: Vec<Entry> = Unpacked::new(history_of(core).0).collect(alloc)?;
-    assert!(rt; entries.iter().all(|entry| entry.caller() < 64));
-    check(alloc, entries.as_slice(), 8, Holder::Now)
+    verdict_on(rt, alloc, &entries)
 }
 
 /// Has the checker judge the history, which is legal and leaves no caller in a transaction.
@@ -494,17 +508,20 @@ fn play_beside(rt: &impl Abort, alloc: Global, core: &mut Core) {
     }
 }
 
-/// Plays all steps, or the steps beside, on a core of this number of callers, if there is memory
-/// for it.
+/// Plays all steps, or the steps beside.
+fn play_on(rt: &impl Abort, alloc: Global, core: &mut Core, is_all: bool) {
+    if is_all {
+        play_all(rt, alloc, core);
+    } else {
+        play_beside(rt, alloc, core);
+    }
+}
+
+/// Plays the steps on a core of this number of callers, if there is memory for it.
 fn play_on_core(rt: &impl Abort, alloc: Global, callers: u64, is_all: bool) -> Result<(), Fail> {
-    let core = core_if_made(alloc, Limits::new(callers, 8, 8)?);
-    assert!(rt; core.is_some() || is_refused(alloc));
-    if let Some(mut core) = core {
-        if is_all {
-            play_all(rt, alloc, &mut core);
-        } else {
-            play_beside(rt, alloc, &mut core);
-        }
+    match core_if_made(alloc, Limits::new(callers, 8, 8)?) {
+        Some(mut core) => play_on(rt, alloc, &mut core, is_all),
+        None => assert!(rt; is_refused(alloc)),
     }
     Ok(())
 }

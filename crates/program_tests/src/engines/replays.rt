@@ -1,9 +1,12 @@
 //! The output of `replay` for step files.
 
 use super::{Command, Files, run_on};
-use crate::devices::{Narrow, compare_ended};
+use crate::devices::{Ended, Narrow, compare_ended};
 use std::alloc::Global;
+use std::process::Abort;
+use std::sync::Wait;
 use std::test::Fail;
+use std::thread::Threads;
 
 /// A file of some callers and no steps.
 const EMPTY_FILE: &str = r#"{"version":1,"callers":@,"stripes":8,"buckets":8,"steps":[]}"#;
@@ -485,6 +488,14 @@ fn add(steps: &mut String, report: &mut String, part: &str) -> Result<(), Fail> 
     Ok(())
 }
 
+/// Adds the steps of all parts and the answers to them.
+fn add_all(steps: &mut String, report: &mut String, parts: &[&str]) -> Result<(), Fail> {
+    for part in parts {
+        add(steps, report, part)?;
+    }
+    Ok(())
+}
+
 /// The text of a file with these steps.
 fn file_with(alloc: Global, run: Run, steps: &str) -> Result<String, Fail> {
     Ok(format!(in alloc;
@@ -500,36 +511,54 @@ fn file_with(alloc: Global, run: Run, steps: &str) -> Result<String, Fail> {
 fn texts_of(alloc: Global, run: Run, parts: &[&str]) -> Result<(String, String), Fail> {
     let mut steps = String::new(alloc);
     let mut report = String::new(alloc);
-    for part in parts {
-        add(&mut steps, &mut report, part)?;
-    }
+    add_all(&mut steps, &mut report, parts)?;
     report.push_str(run.rest)?;
     Ok((file_with(alloc, run, &steps)?, report))
+}
+
+/// The end of `replay` for a file with this text.
+fn replayed<T: Threads + Wait + Sync>(rt: &T, alloc: Global, text: &str) -> Ended {
+    let input = &mut text.as_bytes();
+    run_on(rt, alloc, Command::Replay, input, Narrow::whole())
+}
+
+/// Compares the report of a run.
+fn compare_report<T: Abort + Threads + Wait + Sync>(
+    rt: &T,
+    alloc: Global,
+    run: Run,
+) -> Result<(), Fail> {
+    let (text, report) = texts_of(alloc, run, run.parts)?;
+    let ended = replayed(rt, alloc, &text);
+    compare_ended(rt, &ended, (&report, "", 0), run.name);
+    Ok(())
 }
 
 #[test]
 fn reports(rt: HostRuntime) -> Result<(), Fail> {
     for run in RUNS {
-        let (text, report) = texts_of(rt.alloc(), *run, run.parts)?;
-        let input = &mut text.as_bytes();
-        let ended = run_on(&rt, rt.alloc(), Command::Replay, input, Narrow::whole());
-        compare_ended(&rt, &ended, (&report, "", 0), run.name);
+        compare_report(&rt, rt.alloc(), *run)?;
     }
     Ok(())
 }
 
+/// Adds the put of a key by three steps, and the answers to them.
+fn add_put(part: &mut String, key: u64) -> Result<(), Fail> {
+    write!(
+        part,
+        "[\"ask\",0,\"put\",{key},{key}],[\"seek\",0],[\"act\",0]"
+    )?;
+    part.push_str(" = asked, placed, done none\n")?;
+    Ok(())
+}
+
 /// A caller begins, and puts this number of keys.
-fn puts_of(alloc: Global, count: u64) -> Result<String, Fail> {
-    let mut part = String::new(alloc);
+fn add_puts(part: &mut String, count: u64) -> Result<(), Fail> {
     part.push_str("[\"begin\",0] = began 1\n")?;
     for key in 0..count {
-        write!(
-            part,
-            "[\"ask\",0,\"put\",{key},{key}],[\"seek\",0],[\"act\",0]"
-        )?;
-        part.push_str(" = asked, placed, done none\n")?;
+        add_put(part, key)?;
     }
-    Ok(part)
+    Ok(())
 }
 
 /// The steps that double a table with 129 keys up to 128 buckets, and then initialise bucket 64,
@@ -559,12 +588,17 @@ const OF_SEGMENTS: Run = Run {
     rest: "size 128 count 129\n0 0\n128 128\n64 64\n",
 };
 
+/// The file and the report of 129 puts and of the steps behind them.
+fn texts_of_segments(alloc: Global) -> Result<(String, String), Fail> {
+    let mut puts = String::new(alloc);
+    add_puts(&mut puts, 129)?;
+    texts_of(alloc, OF_SEGMENTS, &[&puts, SEGMENTS])
+}
+
 #[test]
 fn segments(rt: HostRuntime) -> Result<(), Fail> {
-    let puts = puts_of(rt.alloc(), 129)?;
-    let (text, report) = texts_of(rt.alloc(), OF_SEGMENTS, &[&puts, SEGMENTS])?;
-    let input = &mut text.as_bytes();
-    let ended = run_on(&rt, rt.alloc(), Command::Replay, input, Narrow::whole());
+    let (text, report) = texts_of_segments(rt.alloc())?;
+    let ended = replayed(&rt, rt.alloc(), &text);
     assert!(rt; ended.output.text().starts_with(report.as_str()));
     Ok(())
 }

@@ -150,13 +150,19 @@ fn compare(rt: &impl Abort, alloc: Global, read: Read) -> Result<(), Fail> {
     Ok(())
 }
 
+/// Compares the text that is written for a history.
+fn compare_text(rt: &impl Abort, alloc: Global, read: Read) -> Result<(), Fail> {
+    let text = text_of(alloc, read)?;
+    assert!(rt; text.as_str() == read.text, "{text}");
+    Ok(())
+}
+
 #[test]
 fn contents_of_histories(rt: HostRuntime) -> Result<(), Fail> {
     for read in READ {
         compare(&rt, rt.alloc(), *read)?;
         if read.is_written {
-            let text = text_of(rt.alloc(), *read)?;
-            assert!(rt; text.as_str() == read.text, "{text}");
+            compare_text(&rt, rt.alloc(), *read)?;
         }
     }
     Ok(())

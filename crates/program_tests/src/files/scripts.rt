@@ -117,22 +117,32 @@ fn given_back(alloc: Global, actions: &[Action]) -> Result<(usize, Vec<Action>),
     Ok((script.actions().len(), script.into_actions()))
 }
 
+/// Whether a script file has this content.
+fn has_content(work: &Scripts, read: &Read) -> bool {
+    let wanted = (read.sizes, read.version, read.half_keys);
+    numbers_of(work) == wanted && are_scripts(work.scripts(), read.scripts)
+}
+
+/// Compares the content of a script file.
+fn compare(rt: &impl Abort, alloc: Global, read: &Read) -> Result<(), Fail> {
+    let work = read_scripts(alloc, read.text.as_bytes())?;
+    assert!(rt; has_content(&work, read), "version {}", read.version);
+    Ok(())
+}
+
+/// Checks that a script gives back its actions.
+fn gives_back(rt: &impl Abort, alloc: Global, wanted: &[Action]) -> Result<(), Fail> {
+    let (count, actions) = given_back(alloc, wanted)?;
+    assert!(rt; count == wanted.len() && actions.as_slice() == wanted);
+    Ok(())
+}
+
 #[test]
 fn contents_of_script_files(rt: HostRuntime) -> Result<(), Fail> {
     for read in READ {
-        let work = read_scripts(rt.alloc(), read.text.as_bytes())?;
-        let wanted = (read.sizes, read.version, read.half_keys);
-        assert!(rt; numbers_of(&work) == wanted, "version {}", read.version);
-        assert!(rt;
-            are_scripts(work.scripts(), read.scripts),
-            "version {}",
-            read.version
-        );
+        compare(&rt, rt.alloc(), read)?;
     }
-    let wanted = [Action::Save, Action::Back(0)];
-    let (count, actions) = given_back(rt.alloc(), &wanted)?;
-    assert!(rt; count == 2 && actions.as_slice() == wanted.as_slice());
-    Ok(())
+    gives_back(&rt, rt.alloc(), &[Action::Save, Action::Back(0)])
 }
 
 /// Script files with the same kind of fault.

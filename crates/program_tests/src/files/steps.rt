@@ -160,6 +160,18 @@ fn compare(rt: &impl Abort, alloc: Global, read: Read, piece: &str) -> Result<()
     Ok(())
 }
 
+/// An array of 500 objects that have a member `steps` inside.
+fn nested_objects(alloc: Global) -> Result<String, Fail> {
+    let objects = "{\"\":{\"steps\":[[0,{}]]}},".repeat(alloc, 500)?;
+    Ok(format!(in alloc; "[{objects}[]]")?)
+}
+
+/// Compares the content of files with a member that is skipped.
+fn compare_passed(rt: &impl Abort, alloc: Global, piece: &str) -> Result<(), Fail> {
+    compare(rt, alloc, PASSED_BEFORE, piece)?;
+    compare(rt, alloc, PASSED_BEYOND, piece)
+}
+
 #[test]
 fn contents_of_step_files(rt: HostRuntime) -> Result<(), Fail> {
     for read in READ {
@@ -167,11 +179,7 @@ fn contents_of_step_files(rt: HostRuntime) -> Result<(), Fail> {
             compare(&rt, rt.alloc(), *read, piece)?;
         }
     }
-    let mut objects = "{\"\":{\"steps\":[[0,{}]]}},".repeat(rt.alloc(), 500)?;
-    objects.insert(0, '[')?;
-    objects.push_str("[]]")?;
-    compare(&rt, rt.alloc(), PASSED_BEFORE, &objects)?;
-    compare(&rt, rt.alloc(), PASSED_BEYOND, &objects)
+    compare_passed(&rt, rt.alloc(), &nested_objects(rt.alloc())?)
 }
 
 /// Step files with the same kind of fault.

@@ -2,7 +2,7 @@
 ghost use Rattle.std.specs.Prelude.{◌≡◌};
 ghost use Rattle.locked_map.specs.Tokens.{HasTried};
 
-use crate::devices::{Play, Shared, callers_of, has_seen, play_with};
+use crate::devices::{Play, Shared, callers_in, has_seen, play_with};
 use boost_core::{Call, Core, Drive, End};
 use locked_map::{Booked, Caller, NoSide, Pass};
 use std::alloc::Global;
@@ -37,6 +37,50 @@ fn end_of<L: Ledger>(
     Ok(drive(booked, me, call))
 }
 
+/// Calls of callers 0 and 1, and their ends.
+static TURNS: [(usize, Call, End); 5] = [
+    (0, Call::Begin, End::Answered(Answer::Began(1))),
+    (
+        0,
+        Call::Op(Op::Put(1, 10)),
+        End::Answered(Answer::Done(None)),
+    ),
+    (1, Call::Begin, End::Answered(Answer::Began(2))),
+    (1, Call::Op(Op::Get(9)), End::Busy(0)),
+    (0, Call::Commit, End::Answered(Answer::Committed(1))),
+];
+
+/// The entries that caller 0 has then seen.
+static FIRST: [Entry; 4] = [
+    Entry::Began(0, 1),
+    Entry::Asked(0, Op::Put(1, 10)),
+    Entry::Did(0, None),
+    Entry::Committed(0, 1),
+];
+
+/// The entries that caller 1 has then seen.
+static SECOND: [Entry; 3] = [
+    Entry::Began(1, 2),
+    Entry::Busy(1, Op::Get(9), 0),
+    Entry::Aborted(1),
+];
+
+/// Drives the calls.
+fn take_turns<L: Ledger, R: Abort>(
+    rt: &R,
+    booked: &mut Booked<L>,
+    callers: &mut [Caller<L, NoSide>],
+) -> Result<(), Fail> {
+    for &(place, call, wanted) in &TURNS {
+        let me = callers.get_mut(place).ok_or("a caller")?;
+        let end = end_of(booked, me, call)?;
+        assert!(rt; end == Some(wanted), "caller {place}: {call:?}");
+    }
+    assert!(rt; has_seen(callers, 0, FIRST.as_slice()));
+    assert!(rt; has_seen(callers, 1, SECOND.as_slice()));
+    Ok(())
+}
+
 /// Keys 1 and 9 have the same stripe. Caller 0 finds its word free, and caller 1 finds caller 0
 /// there.
 struct ByTurns;
@@ -49,46 +93,10 @@ impl Play for ByTurns {
         shared: Shared<L>,
         passes: Vec<Pass<L>>,
     ) -> Result<(), Fail> {
-        let mut callers = callers_of(alloc, passes)?;
+        let mut callers = callers_in(rt, alloc, passes);
         let mut booked = shared.map.into_booked();
-        for (place, call, wanted) in [
-            (0, Call::Begin, End::Answered(Answer::Began(1))),
-            (
-                0,
-                Call::Op(Op::Put(1, 10)),
-                End::Answered(Answer::Done(None)),
-            ),
-            (1, Call::Begin, End::Answered(Answer::Began(2))),
-            (1, Call::Op(Op::Get(9)), End::Busy(0)),
-            (0, Call::Commit, End::Answered(Answer::Committed(1))),
-        ] {
-            let me = callers.get_mut(place).ok_or("a caller")?;
-            assert_eq!(rt;
-                end_of(&mut booked, me, call)?,
-                Some(wanted),
-                "caller {place}: {call:?}"
-            );
-        }
-        have_seen(rt, callers.as_slice());
-        Ok(())
+        take_turns(rt, &mut booked, callers.as_mut_slice())
     }
-}
-
-/// The entries that the callers have then seen.
-fn have_seen<L: Ledger, R: Abort>(rt: &R, callers: &[Caller<L, NoSide>]) {
-    let first = [
-        Entry::Began(0, 1),
-        Entry::Asked(0, Op::Put(1, 10)),
-        Entry::Did(0, None),
-        Entry::Committed(0, 1),
-    ];
-    let second = [
-        Entry::Began(1, 2),
-        Entry::Busy(1, Op::Get(9), 0),
-        Entry::Aborted(1),
-    ];
-    assert!(rt; has_seen(callers, 0, first.as_slice()));
-    assert!(rt; has_seen(callers, 1, second.as_slice()));
 }
 
 #[test]
@@ -104,10 +112,27 @@ fn lay_core<L: Ledger>(
     booked: &mut Booked<L>,
     stripes: u64,
 ) -> Result<(), Fail> {
-    let core = Core::with_words(alloc, Limits::new(2, stripes, 8)?)?;
     assert!(rt; booked.core.trace().is_empty());
-    assert!(rt; core.words() && core.trace().is_empty());
-    booked.core = core;
+    let limits = Limits::new(2, stripes, 8)?;
+    booked.core = Core::with_words(alloc, limits)?;
+    assert!(rt; booked.core.words() && booked.core.trace().is_empty());
+    Ok(())
+}
+
+/// Begins a transaction with a core of 4 stripes under the lock, and with one of 8.
+fn begin_with_others<L: Ledger, R: Abort>(
+    rt: &R,
+    alloc: Global,
+    booked: &mut Booked<L>,
+    me: &mut Caller<L, NoSide>,
+) -> Result<(), Fail> {
+    for stripes in [4, 8] {
+        lay_core(rt, alloc, booked, stripes)?;
+        let end = end_of(booked, me, Call::Begin)?;
+        assert!(rt; end == Some(End::Refused(Refusal::OutOfStep)));
+        assert!(rt; booked.core.trace().is_empty());
+    }
+    assert!(rt; me.seen().is_empty());
     Ok(())
 }
 
@@ -123,17 +148,12 @@ impl Play for OtherStripes {
         shared: Shared<L>,
         passes: Vec<Pass<L>>,
     ) -> Result<(), Fail> {
-        let mut callers = callers_of(alloc, passes)?;
-        let me = callers.first_mut().ok_or("caller 0")?;
+        let mut callers = callers_in(rt, alloc, passes);
         let mut booked = shared.map.into_booked();
-        for stripes in [4, 8] {
-            lay_core(rt, alloc, &mut booked, stripes)?;
-            let end = end_of(&mut booked, me, Call::Begin)?;
-            assert_eq!(rt; end, Some(End::Refused(Refusal::OutOfStep)));
-            assert!(rt; booked.core.trace().is_empty());
+        match callers.first_mut() {
+            Some(me) => begin_with_others(rt, alloc, &mut booked, me),
+            None => Err("caller 0".into()),
         }
-        assert!(rt; me.seen().is_empty());
-        Ok(())
     }
 }
 

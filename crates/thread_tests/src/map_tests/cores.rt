@@ -1,9 +1,9 @@
 //! The contents of the lock of a new map, and the core of a map that is closed: no contract sees
 //! through the lock.
-use super::rows::play_rows;
-use crate::devices::{Play, Shared, Told, callers_of, close, play_with};
+use super::rows::{Row, play_rows};
+use crate::devices::{Play, Shared, Told, callers_in, closed_of, play_with};
 use boost_core::{Call, Core};
-use locked_map::Pass;
+use locked_map::{Caller, NoSide, Pass};
 use std::alloc::Global;
 use std::process::Abort;
 use std::sync::Wait;
@@ -12,7 +12,7 @@ use std::test::Fail;
 use txn_trace::{Answer, Limits, Op, Refusal, Step};
 
 /// Takes a step that asks for no operation; `None` for one that does.
-fn step(core: &mut Core, step: Step) -> Option<Answer> {
+pub(super) fn step(core: &mut Core, step: Step) -> Option<Answer> {
     match step {
         Step::Ask(..) => None,
         _ => Some(core.step(step)),
@@ -24,6 +24,32 @@ fn play_steps<R: Abort>(rt: &R, core: &mut Core, steps: &[(Step, Answer)]) {
     for &(what, wanted) in steps {
         assert_eq!(rt; step(core, what), Some(wanted), "{what:?}");
     }
+}
+
+/// Steps on the core of an unused map.
+static FIRST_STEPS: [(Step, Answer); 7] = [
+    (
+        Step::InitLink(0),
+        Answer::Refused(Refusal::HelperOutOfOrder),
+    ),
+    (
+        Step::InitLink(1),
+        Answer::Refused(Refusal::HelperOutOfOrder),
+    ),
+    (Step::Sweep, Answer::Clean),
+    (Step::Double(2), Answer::Light),
+    (Step::InitSeek(0, 0), Answer::Ready),
+    (Step::InitSeek(0, 1), Answer::Placed),
+    (Step::Begin(1), Answer::Began(1)),
+];
+
+/// Looks at the core of an unused map.
+fn is_unused<R: Abort>(rt: &R, core: &mut Core) -> Result<(), Fail> {
+    assert!(rt; core.limits() == Limits::new(2, 8, 8)?);
+    assert!(rt; core.words() && core.trace().is_empty());
+    assert_eq!(rt; core.count(), 0);
+    play_steps(rt, core, FIRST_STEPS.as_slice());
+    Ok(())
 }
 
 /// A map that is closed at once. Its core has two buckets, nothing to sweep, and no helper that has
@@ -38,28 +64,8 @@ impl Play for Unused {
         shared: Shared<L>,
         passes: Vec<Pass<L>>,
     ) -> Result<(), Fail> {
-        let callers = callers_of(alloc, passes)?;
-        let mut closed = close(shared, callers)?;
-        assert!(rt; closed.core.limits() == Limits::new(2, 8, 8)?);
-        assert!(rt; closed.core.words() && closed.core.trace().is_empty());
-        assert_eq!(rt; closed.core.count(), 0);
-        let steps = [
-            (
-                Step::InitLink(0),
-                Answer::Refused(Refusal::HelperOutOfOrder),
-            ),
-            (
-                Step::InitLink(1),
-                Answer::Refused(Refusal::HelperOutOfOrder),
-            ),
-            (Step::Sweep, Answer::Clean),
-            (Step::Double(2), Answer::Light),
-            (Step::InitSeek(0, 0), Answer::Ready),
-            (Step::InitSeek(0, 1), Answer::Placed),
-            (Step::Begin(1), Answer::Began(1)),
-        ];
-        play_steps(rt, &mut closed.core, steps.as_slice());
-        Ok(())
+        let mut closed = closed_of(rt, shared, callers_in(rt, alloc, passes));
+        is_unused(rt, &mut closed.core)
     }
 }
 
@@ -67,6 +73,21 @@ impl Play for Unused {
 fn new_core(rt: HostRuntime) -> Result<(), Fail> {
     play_with(&rt, rt.alloc(), 2, &Unused)
 }
+
+/// A key is put and taken.
+static TAKEN: [Row; 4] = [
+    (0, Call::Begin, Ok(Told::Number(1))),
+    (0, Call::Op(Op::Put(1, 10)), Ok(Told::Replied(None))),
+    (0, Call::Op(Op::Take(1)), Ok(Told::Replied(Some(10)))),
+    (0, Call::Commit, Ok(Told::Committed(1, 1))),
+];
+
+/// Its node is swept.
+static SWEPT: [(Step, Answer); 3] = [
+    (Step::Sweep, Answer::Swept),
+    (Step::Sweep, Answer::Clean),
+    (Step::Begin(0), Answer::Began(2)),
+];
 
 /// The node of a key that is taken is marked, and no one seeks past it: the core of the closed map
 /// still has it.
@@ -80,21 +101,10 @@ impl Play for Marked {
         shared: Shared<L>,
         passes: Vec<Pass<L>>,
     ) -> Result<(), Fail> {
-        let mut callers = callers_of(alloc, passes)?;
-        let rows = [
-            (0, Call::Begin, Ok(Told::Number(1))),
-            (0, Call::Op(Op::Put(1, 10)), Ok(Told::Replied(None))),
-            (0, Call::Op(Op::Take(1)), Ok(Told::Replied(Some(10)))),
-            (0, Call::Commit, Ok(Told::Committed(1, 1))),
-        ];
-        play_rows(rt, &shared, callers.as_mut_slice(), rows.as_slice());
-        let mut closed = close(shared, callers)?;
-        let steps = [
-            (Step::Sweep, Answer::Swept),
-            (Step::Sweep, Answer::Clean),
-            (Step::Begin(0), Answer::Began(2)),
-        ];
-        play_steps(rt, &mut closed.core, steps.as_slice());
+        let mut callers = callers_in(rt, alloc, passes);
+        play_rows(rt, &shared, callers.as_mut_slice(), TAKEN.as_slice());
+        let mut closed = closed_of(rt, shared, callers);
+        play_steps(rt, &mut closed.core, SWEPT.as_slice());
         Ok(())
     }
 }
@@ -102,6 +112,26 @@ impl Play for Marked {
 #[test]
 fn marked_node_at_close(rt: HostRuntime) -> Result<(), Fail> {
     play_with(&rt, rt.alloc(), 1, &Marked)
+}
+
+/// Caller 1 puts a key.
+static PUT_BY_1: [Row; 2] = [
+    (1, Call::Begin, Ok(Told::Number(1))),
+    (1, Call::Op(Op::Put(1, 10)), Ok(Told::Replied(None))),
+];
+
+/// Caller 0 tries a word, and caller 1 puts the key.
+fn try_idly<L: Ledger, R: Wait + Abort>(
+    rt: &R,
+    shared: &Shared<L>,
+    callers: &mut [Caller<L, NoSide>],
+) -> Result<(), Fail> {
+    let me = callers.first_mut().ok_or("caller 0")?;
+    assert_eq!(rt; me.try_word(Op::Get(1)), Err(Refusal::NotOpen));
+    play_rows(rt, shared, callers, PUT_BY_1.as_slice());
+    let idle = callers.iter().map(|me| me.is_idle());
+    assert!(rt; idle.eq([true, false]));
+    Ok(())
 }
 
 /// A token without a transaction tries no word, so no one finds its stripe held.
@@ -115,17 +145,8 @@ impl Play for Idle {
         shared: Shared<L>,
         passes: Vec<Pass<L>>,
     ) -> Result<(), Fail> {
-        let mut callers = callers_of(alloc, passes)?;
-        let me = callers.first_mut().ok_or("caller 0")?;
-        assert_eq!(rt; me.try_word(Op::Get(1)), Err(Refusal::NotOpen));
-        let rows = [
-            (1, Call::Begin, Ok(Told::Number(1))),
-            (1, Call::Op(Op::Put(1, 10)), Ok(Told::Replied(None))),
-        ];
-        play_rows(rt, &shared, callers.as_mut_slice(), rows.as_slice());
-        let idle = callers.iter().map(|me| me.is_idle());
-        assert!(rt; idle.eq([true, false]));
-        Ok(())
+        let mut callers = callers_in(rt, alloc, passes);
+        try_idly(rt, &shared, callers.as_mut_slice())
     }
 }
 

@@ -1,7 +1,9 @@
 //! The state after calls that are refused memory, by `docs/tests/refused.sh`.
-use crate::devices::{Play, Shared, callers_of, close, has_left, is_refused, play_where_made, run};
-use boost_core::{Call, End};
-use locked_map::{Caller, Closed, NoSide, Pass};
+use crate::devices::{
+    Play, Shared, callers_of, closed_of, has_left, is_refused, play_where_made, run,
+};
+use boost_core::{Call, Core, End};
+use locked_map::{Caller, NoSide, Pass};
 use std::alloc::Global;
 use std::process::Abort;
 use std::sync::Wait;
@@ -71,13 +73,19 @@ fn give_up<L: Ledger, R: Wait + Abort>(
 
 /// Calls that are made up to the first that is refused memory twice; then all callers give up. If a
 /// call was refused so, no key is left, and if none was, one key, with this number of entries.
-#[derive(Clone, Copy)]
-struct Refused<'a> {
-    calls: &'a [Wanted],
+#[derive(Drop)]
+struct Refused {
+    calls: &'static [Wanted],
     entries: usize,
 }
 
-impl Play for Refused<'_> {
+/// Looks at the core of the closed map.
+fn is_left<R: Abort>(rt: &R, alloc: Global, core: &Core, is_whole: bool, entries: usize) {
+    assert!(rt; has_left(rt, alloc, core, u64::from(is_whole)));
+    assert!(rt; !is_whole || core.trace().len() == entries);
+}
+
+impl Play for Refused {
     fn play<L: Ledger, R: Wait + Abort>(
         &self,
         rt: &R,
@@ -91,17 +99,15 @@ impl Play for Refused<'_> {
         };
         let whole = is_whole(rt, alloc, &shared, callers.as_mut_slice(), self.calls);
         give_up(rt, &shared, callers.as_mut_slice());
-        let Closed { core, callers: _ } = close(shared, callers)?;
-        assert!(rt; has_left(rt, alloc, &core, u64::from(whole)));
-        assert!(rt; !whole || core.trace().len() == self.entries);
+        let closed = closed_of(rt, shared, callers);
+        is_left(rt, alloc, &closed.core, whole, self.entries);
         Ok(())
     }
 }
 
 /// The calls of `busy_between_callers`.
-#[test]
-fn refused_memory_between_callers(rt: HostRuntime) -> Result<(), Fail> {
-    let calls = [
+static BETWEEN_CALLERS: Refused = Refused {
+    calls: &[
         (0, Call::Begin, End::Answered(Answer::Began(1))),
         (
             0,
@@ -113,36 +119,41 @@ fn refused_memory_between_callers(rt: HostRuntime) -> Result<(), Fail> {
         (1, Call::Begin, End::Answered(Answer::Began(3))),
         (1, Call::Commit, End::Answered(Answer::Committed(1))),
         (0, Call::Commit, End::Answered(Answer::Committed(2))),
-    ];
-    let what = Refused {
-        calls: calls.as_slice(),
-        entries: 9,
-    };
-    play_where_made(&rt, rt.alloc(), 2, &what)
+    ],
+    entries: 9,
+};
+
+#[test]
+fn refused_memory_between_callers(rt: HostRuntime) -> Result<(), Fail> {
+    play_where_made(&rt, rt.alloc(), 2, &BETWEEN_CALLERS)
 }
 
+/// The end of an operation on a key that is not there.
+const DONE: End = End::Answered(Answer::Done(None));
+
+/// The end of an operation on a key with the value 10.
+const HAD: End = End::Answered(Answer::Done(Some(10)));
+
 /// Each kind of call, including a help that doubles and stores buckets.
+static EACH_CALL: Refused = Refused {
+    calls: &[
+        (0, Call::Begin, End::Answered(Answer::Began(1))),
+        (0, Call::Op(Op::PutIf(1, None, 10)), DONE),
+        (0, Call::Save, End::Answered(Answer::Saved(1))),
+        (0, Call::Op(Op::Put(2, 20)), DONE),
+        (0, Call::Op(Op::Put(3, 30)), DONE),
+        (0, Call::Op(Op::Put(4, 40)), DONE),
+        (0, Call::Op(Op::Put(5, 50)), DONE),
+        (1, Call::Help(3), End::Helped),
+        (0, Call::Op(Op::Take(1)), HAD),
+        (0, Call::Back(1), End::Answered(Answer::Returned(1))),
+        (0, Call::Op(Op::Get(1)), HAD),
+        (0, Call::Commit, End::Answered(Answer::Committed(1))),
+    ],
+    entries: 24,
+};
+
 #[test]
 fn refused_memory_in_each_call(rt: HostRuntime) -> Result<(), Fail> {
-    let done = End::Answered(Answer::Done(None));
-    let had = End::Answered(Answer::Done(Some(10)));
-    let calls = [
-        (0, Call::Begin, End::Answered(Answer::Began(1))),
-        (0, Call::Op(Op::PutIf(1, None, 10)), done),
-        (0, Call::Save, End::Answered(Answer::Saved(1))),
-        (0, Call::Op(Op::Put(2, 20)), done),
-        (0, Call::Op(Op::Put(3, 30)), done),
-        (0, Call::Op(Op::Put(4, 40)), done),
-        (0, Call::Op(Op::Put(5, 50)), done),
-        (1, Call::Help(3), End::Helped),
-        (0, Call::Op(Op::Take(1)), had),
-        (0, Call::Back(1), End::Answered(Answer::Returned(1))),
-        (0, Call::Op(Op::Get(1)), had),
-        (0, Call::Commit, End::Answered(Answer::Committed(1))),
-    ];
-    let what = Refused {
-        calls: calls.as_slice(),
-        entries: 24,
-    };
-    play_where_made(&rt, rt.alloc(), 2, &what)
+    play_where_made(&rt, rt.alloc(), 2, &EACH_CALL)
 }

@@ -1,5 +1,5 @@
 //! An observer of releases is told of each hold of the lock, once.
-use crate::devices::{Play, Shared, callers_of, play_with, run_heard};
+use crate::devices::{Play, Shared, callers_in, play_with, run_heard};
 use boost_core::Call;
 use locked_map::{Caller, NoSide, OnRelease, Pass};
 use std::alloc::Global;
@@ -36,8 +36,41 @@ fn releases_of<L: Ledger, R: Wait>(
     count.releases.load(Ordering::SeqCst)
 }
 
-/// One caller. A call that its token refuses takes no lock. A bucket is initialised by three holds,
-/// an operation takes three, and taking changes back takes three and two for each change.
+/// Calls of one caller, each with its releases. A call that its token refuses takes no lock. A
+/// bucket is initialised by three holds, an operation takes three, and taking changes back takes
+/// three and two for each change.
+static RELEASES: [(Call, u64); 16] = [
+    (Call::Commit, 0),
+    (Call::Help(0), 1),
+    (Call::Help(1), 4),
+    (Call::Begin, 1),
+    (Call::Begin, 0),
+    (Call::Op(Op::Put(1, 10)), 3),
+    (Call::Op(Op::Get(1)), 3),
+    (Call::Save, 1),
+    (Call::Op(Op::Put(3, 30)), 3),
+    (Call::Back(1), 5),
+    (Call::Back(2), 0),
+    (Call::Op(Op::PutIf(1, Some(10), 11)), 3),
+    (Call::Commit, 1),
+    (Call::Begin, 1),
+    (Call::Op(Op::Take(1)), 3),
+    (Call::Abort, 5),
+];
+
+/// Makes the calls.
+fn releases_are<L: Ledger, R: Wait + Abort>(
+    rt: &R,
+    shared: &Shared<L>,
+    me: &mut Caller<L, NoSide>,
+) {
+    for &(call, wanted) in &RELEASES {
+        let releases = releases_of(rt, shared, me, call);
+        assert!(rt; releases == wanted, "{call:?}");
+    }
+}
+
+/// One caller makes the calls.
 struct OneEach;
 
 impl Play for OneEach {
@@ -48,28 +81,10 @@ impl Play for OneEach {
         shared: Shared<L>,
         passes: Vec<Pass<L>>,
     ) -> Result<(), Fail> {
-        let mut callers = callers_of(alloc, passes)?;
-        let me = callers.first_mut().ok_or("caller 0")?;
-        for (call, wanted) in [
-            (Call::Commit, 0),
-            (Call::Help(0), 1),
-            (Call::Help(1), 4),
-            (Call::Begin, 1),
-            (Call::Begin, 0),
-            (Call::Op(Op::Put(1, 10)), 3),
-            (Call::Op(Op::Get(1)), 3),
-            (Call::Save, 1),
-            (Call::Op(Op::Put(3, 30)), 3),
-            (Call::Back(1), 5),
-            (Call::Back(2), 0),
-            (Call::Op(Op::PutIf(1, Some(10), 11)), 3),
-            (Call::Commit, 1),
-            (Call::Begin, 1),
-            (Call::Op(Op::Take(1)), 3),
-            (Call::Abort, 5),
-        ] {
-            let releases = releases_of(rt, &shared, me, call);
-            assert_eq!(rt; releases, wanted, "{call:?}");
+        let mut callers = callers_in(rt, alloc, passes);
+        match callers.first_mut() {
+            Some(me) => releases_are(rt, &shared, me),
+            None => panic!(rt; "caller 0"),
         }
         Ok(())
     }

@@ -1,7 +1,8 @@
 //! Calls by their names, in the order of a table, each compared with the answer that it must have.
+use super::cores::step;
 use crate::devices::{
-    Play, Shared, Told, callers_of, close, close_or_miss, has_seen, is_history, is_settled, make,
-    play_with,
+    Play, Shared, Told, callers_in, close, close_or_miss, closed_of, has_seen, is_history,
+    is_settled, make, play_with,
 };
 use boost_core::{Call, Core};
 use locked_map::{Caller, Closed, NoSide, Pass, Stop};
@@ -60,6 +61,52 @@ fn close_missing_caller<L: Ledger, R: Abort>(
     close(shared, callers)
 }
 
+/// Caller 1 finds caller 0's stripe held.
+static BUSY: [Row; 4] = [
+    (0, Call::Begin, Ok(Told::Number(1))),
+    (0, Call::Op(Op::Put(1, 10)), Ok(Told::Replied(None))),
+    (1, Call::Begin, Ok(Told::Number(2))),
+    (1, Call::Op(Op::Get(9)), Err(Stop::Busy { holder: 0 })),
+];
+
+/// The entries that caller 1 has then seen.
+static SEEN: [Entry; 3] = [
+    Entry::Began(1, 2),
+    Entry::Busy(1, Op::Get(9), 0),
+    Entry::Aborted(1),
+];
+
+/// Both commit.
+static REST: [Row; 3] = [
+    (1, Call::Begin, Ok(Told::Number(3))),
+    (1, Call::Commit, Ok(Told::Committed(3, 1))),
+    (0, Call::Commit, Ok(Told::Committed(1, 2))),
+];
+
+/// The whole history.
+static BETWEEN: [Entry; 9] = [
+    Entry::Began(0, 1),
+    Entry::Asked(0, Op::Put(1, 10)),
+    Entry::Did(0, None),
+    Entry::Began(1, 2),
+    Entry::Busy(1, Op::Get(9), 0),
+    Entry::Aborted(1),
+    Entry::Began(1, 3),
+    Entry::Committed(1, 1),
+    Entry::Committed(0, 2),
+];
+
+/// Makes the calls of both callers.
+fn play_between<L: Ledger, R: Wait + Abort>(
+    rt: &R,
+    shared: &Shared<L>,
+    callers: &mut [Caller<L, NoSide>],
+) {
+    play_rows(rt, shared, callers, BUSY.as_slice());
+    assert!(rt; has_seen(callers, 1, SEEN.as_slice()));
+    play_rows(rt, shared, callers, REST.as_slice());
+}
+
 struct BusyBetween;
 
 impl Play for BusyBetween {
@@ -70,46 +117,21 @@ impl Play for BusyBetween {
         shared: Shared<L>,
         passes: Vec<Pass<L>>,
     ) -> Result<(), Fail> {
-        let mut callers = callers_of(alloc, passes)?;
-        let busy = [
-            (0, Call::Begin, Ok(Told::Number(1))),
-            (0, Call::Op(Op::Put(1, 10)), Ok(Told::Replied(None))),
-            (1, Call::Begin, Ok(Told::Number(2))),
-            (1, Call::Op(Op::Get(9)), Err(Stop::Busy { holder: 0 })),
-        ];
-        play_rows(rt, &shared, callers.as_mut_slice(), busy.as_slice());
-        let seen = [
-            Entry::Began(1, 2),
-            Entry::Busy(1, Op::Get(9), 0),
-            Entry::Aborted(1),
-        ];
-        assert!(rt; has_seen(callers.as_slice(), 1, seen.as_slice()));
-        let rest = [
-            (1, Call::Begin, Ok(Told::Number(3))),
-            (1, Call::Commit, Ok(Told::Committed(3, 1))),
-            (0, Call::Commit, Ok(Told::Committed(1, 2))),
-        ];
-        play_rows(rt, &shared, callers.as_mut_slice(), rest.as_slice());
-        let closed = close_missing_caller(rt, alloc, shared, callers)?;
-        counted_entries(rt, &closed);
-        Ok(())
+        let mut callers = callers_in(rt, alloc, passes);
+        play_between(rt, &shared, callers.as_mut_slice());
+        match close_missing_caller(rt, alloc, shared, callers) {
+            Ok(closed) => {
+                counted_entries(rt, &closed);
+                Ok(())
+            }
+            Err(fail) => Err(fail),
+        }
     }
 }
 
 /// The history has nine entries, of which caller 0 saw four and caller 1 five.
 fn counted_entries<L: Ledger, R: Abort>(rt: &R, closed: &Closed<L, NoSide>) {
-    let wanted = [
-        Entry::Began(0, 1),
-        Entry::Asked(0, Op::Put(1, 10)),
-        Entry::Did(0, None),
-        Entry::Began(1, 2),
-        Entry::Busy(1, Op::Get(9), 0),
-        Entry::Aborted(1),
-        Entry::Began(1, 3),
-        Entry::Committed(1, 1),
-        Entry::Committed(0, 2),
-    ];
-    assert!(rt; is_history(closed.core.trace(), wanted.as_slice()));
+    assert!(rt; is_history(closed.core.trace(), BETWEEN.as_slice()));
     assert_eq!(rt; closed.callers.len(), 2);
     for (place, count) in [(0, 4), (1, 5)] {
         let me = figures_of(closed.callers.as_slice(), place);
@@ -134,15 +156,27 @@ fn busy_between_callers(rt: HostRuntime) -> Result<(), Fail> {
 /// Calls, and the state of the core after they are made and the map is closed: its size, its keys
 /// with their values in the order of the list, and its answer to a helper that seeks the position
 /// of a bucket's dummy node.
-#[derive(Clone, Copy)]
-struct Worked<'a> {
-    rows: &'a [Row],
+#[derive(Drop)]
+struct Worked {
+    rows: &'static [Row],
     size: u32,
-    list: &'a [(u64, u64)],
-    seeks: &'a [(u64, Answer)],
+    list: &'static [(u64, u64)],
+    seeks: &'static [(u64, Answer)],
 }
 
-impl Play for Worked<'_> {
+/// Looks at the core of the closed map.
+fn is_left<R: Abort>(rt: &R, alloc: Global, core: &mut Core, worked: &Worked) -> Result<(), Fail> {
+    assert!(rt; is_settled(alloc, core.trace(), 8)?);
+    assert!(rt; core.regular_list(alloc)?.as_slice() == worked.list);
+    assert_eq!(rt; core.size(), worked.size);
+    for &(bucket, wanted) in worked.seeks {
+        let answer = step(core, Step::InitSeek(0, bucket));
+        assert!(rt; answer == Some(wanted), "bucket {bucket}");
+    }
+    Ok(())
+}
+
+impl Play for Worked {
     fn play<L: Ledger, R: Wait + Abort>(
         &self,
         rt: &R,
@@ -150,31 +184,15 @@ impl Play for Worked<'_> {
         shared: Shared<L>,
         passes: Vec<Pass<L>>,
     ) -> Result<(), Fail> {
-        let mut callers = callers_of(alloc, passes)?;
+        let mut callers = callers_in(rt, alloc, passes);
         play_rows(rt, &shared, callers.as_mut_slice(), self.rows);
-        let Closed {
-            mut core,
-            callers: _,
-        } = close(shared, callers)?;
-        assert!(rt; is_settled(alloc, core.trace(), 8)?);
-        assert!(rt; core.regular_list(alloc)?.as_slice() == self.list);
-        assert_eq!(rt; core.size(), self.size);
-        for &(bucket, wanted) in self.seeks {
-            assert_eq!(rt; init_seek(&mut core, bucket), wanted, "bucket {bucket}");
-        }
-        Ok(())
+        let mut closed = closed_of(rt, shared, callers);
+        is_left(rt, alloc, &mut closed.core, self)
     }
 }
 
-/// The answer of the core to helper 0 that seeks the position of a bucket's dummy node.
-fn init_seek(core: &mut Core, bucket: u64) -> Answer {
-    core.step(Step::InitSeek(0, bucket))
-}
-
-/// A help that does nothing would meet its contract; it fails here.
-#[test]
-fn help_grows(rt: HostRuntime) -> Result<(), Fail> {
-    let rows = [
+static HELP_GROWS: Worked = Worked {
+    rows: &[
         (0, Call::Begin, Ok(Told::Number(1))),
         (0, Call::Op(Op::Put(1, 1)), Ok(Told::Replied(None))),
         (0, Call::Op(Op::Put(2, 2)), Ok(Told::Replied(None))),
@@ -183,23 +201,26 @@ fn help_grows(rt: HostRuntime) -> Result<(), Fail> {
         (0, Call::Op(Op::Put(5, 5)), Ok(Told::Replied(None))),
         (0, Call::Help(3), Ok(Told::Done)),
         (0, Call::Commit, Ok(Told::Committed(1, 1))),
-    ];
-    let what = Worked {
-        rows: rows.as_slice(),
-        size: 4,
-        list: [(4, 4), (2, 2), (1, 1), (5, 5), (3, 3)].as_slice(),
-        seeks: [(3, Answer::Ready), (2, Answer::Placed)].as_slice(),
-    };
-    play_with(&rt, rt.alloc(), 2, &what)
+    ],
+    size: 4,
+    list: &[(4, 4), (2, 2), (1, 1), (5, 5), (3, 3)],
+    seeks: &[(3, Answer::Ready), (2, Answer::Placed)],
+};
+
+/// A help that does nothing would meet its contract; it fails here.
+#[test]
+fn help_grows(rt: HostRuntime) -> Result<(), Fail> {
+    play_with(&rt, rt.alloc(), 2, &HELP_GROWS)
 }
 
-/// Two keys of one split key, and puts under a condition.
-#[test]
-fn keys_of_64_bits(rt: HostRuntime) -> Result<(), Fail> {
-    let wide = 9_223_372_036_854_775_809;
-    let rows = [
+static KEYS_OF_64_BITS: Worked = Worked {
+    rows: &[
         (0, Call::Begin, Ok(Told::Number(1))),
-        (0, Call::Op(Op::Put(wide, 11)), Ok(Told::Replied(None))),
+        (
+            0,
+            Call::Op(Op::Put(9_223_372_036_854_775_809, 11)),
+            Ok(Told::Replied(None)),
+        ),
         (0, Call::Op(Op::Put(1, 10)), Ok(Told::Replied(None))),
         (
             0,
@@ -219,28 +240,25 @@ fn keys_of_64_bits(rt: HostRuntime) -> Result<(), Fail> {
         ),
         (0, Call::Op(Op::Put(u64::MAX, 7)), Ok(Told::Replied(None))),
         (0, Call::Commit, Ok(Told::Committed(1, 1))),
-    ];
-    let list = [
+    ],
+    size: 2,
+    list: &[
         (2, 20),
         (1, 12),
         (9_223_372_036_854_775_809, 11),
         (18_446_744_073_709_551_615, 7),
-    ];
-    let what = Worked {
-        rows: rows.as_slice(),
-        size: 2,
-        list: list.as_slice(),
-        seeks: [].as_slice(),
-    };
-    play_with(&rt, rt.alloc(), 2, &what)
+    ],
+    seeks: &[],
+};
+
+/// Two keys of one split key, and puts under a condition.
+#[test]
+fn keys_of_64_bits(rt: HostRuntime) -> Result<(), Fail> {
+    play_with(&rt, rt.alloc(), 2, &KEYS_OF_64_BITS)
 }
 
-/// Rights to stripes are given back at the end of a transaction and not before: keys 1, 9 and 17
-/// have the same stripe. A savepoint and a return to it leave caller 0 its right; an abort, a
-/// commit and a busy stripe give back all.
-#[test]
-fn rights_come_back(rt: HostRuntime) -> Result<(), Fail> {
-    let rows = [
+static RIGHTS_COME_BACK: Worked = Worked {
+    rows: &[
         (0, Call::Begin, Ok(Told::Number(1))),
         (0, Call::Op(Op::Put(1, 10)), Ok(Told::Replied(None))),
         (0, Call::Save, Ok(Told::Number(1))),
@@ -259,12 +277,16 @@ fn rights_come_back(rt: HostRuntime) -> Result<(), Fail> {
         (0, Call::Begin, Ok(Told::Number(5))),
         (0, Call::Op(Op::Get(9)), Ok(Told::Replied(Some(91)))),
         (0, Call::Commit, Ok(Told::Committed(5, 2))),
-    ];
-    let what = Worked {
-        rows: rows.as_slice(),
-        size: 2,
-        list: [(9, 91)].as_slice(),
-        seeks: [].as_slice(),
-    };
-    play_with(&rt, rt.alloc(), 2, &what)
+    ],
+    size: 2,
+    list: &[(9, 91)],
+    seeks: &[],
+};
+
+/// Rights to stripes are given back at the end of a transaction and not before: keys 1, 9 and 17
+/// have the same stripe. A savepoint and a return to it leave caller 0 its right; an abort, a
+/// commit and a busy stripe give back all.
+#[test]
+fn rights_come_back(rt: HostRuntime) -> Result<(), Fail> {
+    play_with(&rt, rt.alloc(), 2, &RIGHTS_COME_BACK)
 }

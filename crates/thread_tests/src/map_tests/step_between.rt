@@ -1,7 +1,7 @@
 //! Another caller's calls between two turns of one call: no lock is held over a whole call.
 use super::rows::play_row;
 use crate::devices::{
-    Play, Shared, Told, callers_of, close, is_history, make, play_with, run_heard,
+    Play, Shared, Told, callers_in, closed_of, is_history, make, play_with, run_heard,
 };
 use boost_core::{Call, End};
 use locked_map::{Caller, NoSide, OnRelease, Pass};
@@ -60,6 +60,34 @@ fn put_two<L: Ledger, R: Wait + Abort>(
     between.other.into_inner()
 }
 
+/// Caller 0 makes its calls, and the other acts in between.
+fn meet<L: Ledger, R: Wait + Abort>(
+    rt: &R,
+    shared: &Shared<L>,
+    callers: &mut Vec<Caller<L, NoSide>>,
+) -> Result<(), Fail> {
+    let Some(other) = callers.pop() else {
+        return Err("caller 1".into());
+    };
+    let Some(me) = callers.first_mut() else {
+        return Err("caller 0".into());
+    };
+    let other = put_two(rt, shared, me, other);
+    callers.push(other)?;
+    Ok(())
+}
+
+/// The whole history.
+static BETWEEN: [Entry; 7] = [
+    Entry::Began(0, 1),
+    Entry::Asked(0, Op::Put(2, 20)),
+    Entry::Began(1, 2),
+    Entry::Asked(1, Op::Put(4, 40)),
+    Entry::Did(1, None),
+    Entry::Committed(1, 1),
+    Entry::Did(0, None),
+];
+
 struct StepBetween;
 
 impl Play for StepBetween {
@@ -70,22 +98,10 @@ impl Play for StepBetween {
         shared: Shared<L>,
         passes: Vec<Pass<L>>,
     ) -> Result<(), Fail> {
-        let mut callers = callers_of(alloc, passes)?;
-        let other = callers.pop().ok_or("caller 1")?;
-        let me = callers.first_mut().ok_or("caller 0")?;
-        let other = put_two(rt, &shared, me, other);
-        callers.push(other)?;
-        let closed = close(shared, callers)?;
-        let wanted = [
-            Entry::Began(0, 1),
-            Entry::Asked(0, Op::Put(2, 20)),
-            Entry::Began(1, 2),
-            Entry::Asked(1, Op::Put(4, 40)),
-            Entry::Did(1, None),
-            Entry::Committed(1, 1),
-            Entry::Did(0, None),
-        ];
-        assert!(rt; is_history(closed.core.trace(), wanted.as_slice()));
+        let mut callers = callers_in(rt, alloc, passes);
+        meet(rt, &shared, &mut callers)?;
+        let closed = closed_of(rt, shared, callers);
+        assert!(rt; is_history(closed.core.trace(), BETWEEN.as_slice()));
         Ok(())
     }
 }

@@ -3,7 +3,7 @@ ghost use Rattle.std.specs.Prelude.{◌≡◌};
 
 use super::rows::{Row, play_row};
 use crate::devices::{
-    Shared, Told, callers_of, close, has_seen, is_history, is_settled, make, open,
+    Shared, Told, callers_in, closed_of, has_seen, is_history, is_settled, make, open,
 };
 use boost_core::Call;
 use locked_map::{Caller, Closed, NoSide, Stop};
@@ -151,16 +151,39 @@ fn play_under<L: Ledger + Send + Sync, R: Threads + Wait + Abort + Sync>(
     requires parts { blank.parts ≡ L.parts }
     requires one_each { blank.parts ≡ limits.callers }
 {
-    let (shared, passes) = open::<L>(alloc, blank, limits).ok_or("no memory for a map")?;
-    let mut callers = callers_of(alloc, passes)?;
+    match open::<L>(alloc, blank, limits) {
+        Some((shared, passes)) => {
+            work_and_close(rt, alloc, shared, callers_in(rt, alloc, passes), what)
+        }
+        None => Err("no memory for a map".into()),
+    }
+}
+
+/// The callers of a map work, and then it is closed.
+fn work_and_close<L: Ledger + Send + Sync, R: Threads + Wait + Abort + Sync>(
+    rt: &R,
+    alloc: Global,
+    shared: Shared<L>,
+    mut callers: Vec<Caller<L, NoSide>>,
+    what: Plan,
+) -> Result<(), Fail> {
     match what {
         Plan::InTurn(rows) => work_in_turn(rt, &shared, callers.as_mut_slice(), rows),
         Plan::AtOnce(seed) => work_at_once(rt, &shared, callers.as_mut_slice(), seed),
     }
-    let closed = close(shared, callers)?;
+    looks_so(rt, alloc, &closed_of(rt, shared, callers), what)
+}
+
+/// Looks at the closed map.
+fn looks_so<L: Ledger, R: Abort>(
+    rt: &R,
+    alloc: Global,
+    closed: &Closed<L, NoSide>,
+    what: Plan,
+) -> Result<(), Fail> {
     assert!(rt; is_settled(alloc, closed.core.trace(), 8)?);
     match what {
-        Plan::InTurn(_) => in_turn(rt, &closed),
+        Plan::InTurn(_) => in_turn(rt, closed),
         Plan::AtOnce(_) => {}
     }
     Ok(())
@@ -178,36 +201,40 @@ fn play<R: Threads + Wait + Abort + Sync>(
     play_under::<Brand, R>(rt, alloc, blank, limits, what)
 }
 
+/// The history of `two_threads_in_turn`.
+static IN_TURN: [Entry; 8] = [
+    Entry::Began(0, 1),
+    Entry::Asked(0, Op::Put(6, 60)),
+    Entry::Did(0, None),
+    Entry::Committed(0, 1),
+    Entry::Began(1, 2),
+    Entry::Asked(1, Op::Get(6)),
+    Entry::Did(1, Some(60)),
+    Entry::Committed(1, 2),
+];
+
 /// Each caller of `two_threads_in_turn` has seen its half of the history.
 fn in_turn<L: Ledger, R: Abort>(rt: &R, closed: &Closed<L, NoSide>) {
-    let wanted = [
-        Entry::Began(0, 1),
-        Entry::Asked(0, Op::Put(6, 60)),
-        Entry::Did(0, None),
-        Entry::Committed(0, 1),
-        Entry::Began(1, 2),
-        Entry::Asked(1, Op::Get(6)),
-        Entry::Did(1, Some(60)),
-        Entry::Committed(1, 2),
-    ];
     let callers = closed.callers.as_slice();
-    assert!(rt; is_history(closed.core.trace(), wanted.as_slice()));
-    assert!(rt; has_seen(callers, 0, &wanted[..4]));
-    assert!(rt; has_seen(callers, 1, &wanted[4..]));
+    assert!(rt; is_history(closed.core.trace(), IN_TURN.as_slice()));
+    assert!(rt; has_seen(callers, 0, &IN_TURN[..4]));
+    assert!(rt; has_seen(callers, 1, &IN_TURN[4..]));
 }
+
+/// Its calls.
+static TWO_IN_TURN: [Row; 6] = [
+    (0, Call::Begin, Ok(Told::Number(1))),
+    (0, Call::Op(Op::Put(6, 60)), Ok(Told::Replied(None))),
+    (0, Call::Commit, Ok(Told::Committed(1, 1))),
+    (1, Call::Begin, Ok(Told::Number(2))),
+    (1, Call::Op(Op::Get(6)), Ok(Told::Replied(Some(60)))),
+    (1, Call::Commit, Ok(Told::Committed(2, 2))),
+];
 
 /// Caller 0 puts 60 at key 6, and caller 1 gets it.
 #[test]
 fn two_threads_in_turn(rt: HostRuntime) -> Result<(), Fail> {
-    let rows = [
-        (0, Call::Begin, Ok(Told::Number(1))),
-        (0, Call::Op(Op::Put(6, 60)), Ok(Told::Replied(None))),
-        (0, Call::Commit, Ok(Told::Committed(1, 1))),
-        (1, Call::Begin, Ok(Told::Number(2))),
-        (1, Call::Op(Op::Get(6)), Ok(Told::Replied(Some(60)))),
-        (1, Call::Commit, Ok(Told::Committed(2, 2))),
-    ];
-    play(&rt, rt.alloc(), 2, Plan::InTurn(rows.as_slice()))
+    play(&rt, rt.alloc(), 2, Plan::InTurn(TWO_IN_TURN.as_slice()))
 }
 
 /// 2 to 8 callers, by the seed.
