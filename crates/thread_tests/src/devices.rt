@@ -151,6 +151,16 @@ pub(crate) fn callers_in<L: Ledger, R: Abort>(
     callers_of(alloc, passes).expect(rt, "callers")
 }
 
+/// The number of a caller.
+pub(crate) fn number_of<L: Ledger, S: Side>(me: &Caller<L, S>) -> u64 {
+    me.number()
+}
+
+/// The number of entries that a caller has seen.
+pub(crate) fn seen_by<L: Ledger, S: Side>(me: &Caller<L, S>) -> usize {
+    me.seen().len()
+}
+
 /// Whether the caller at a place has its number, and has seen these entries.
 pub(crate) fn has_seen<L: Ledger>(
     callers: &[Caller<L, NoSide>],

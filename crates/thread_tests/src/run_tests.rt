@@ -241,11 +241,12 @@ fn run_any_workers(rt: HostRuntime) -> Result<(), Fail> {
 
 /// Script `number` of the four hundred: put, take and put its own key.
 fn script(alloc: Global, number: u64) -> Result<Script, AllocError> {
-    let mut actions = Vec::new(alloc);
-    actions.push(put(number, number))?;
-    actions.push(Action::Op(Op::Take(number)))?;
-    actions.push(put(number, number.wrapping_add(1)))?;
-    Ok(Script::new(actions))
+    let actions = [
+        put(number, number),
+        Action::Op(Op::Take(number)),
+        put(number, number.wrapping_add(1)),
+    ];
+    Ok(Script::new(actions.to_vec(alloc)?))
 }
 
 /// The commit number of script `number`, committed with its replies; else 0.

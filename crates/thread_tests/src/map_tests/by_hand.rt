@@ -104,19 +104,16 @@ fn calls_by_hand(rt: HostRuntime) -> Result<(), Fail> {
     play_with(&rt, rt.alloc(), 2, &ByTurns)
 }
 
-/// Puts another core of this number of stripes, which are words, under the lock. Neither core has a
-/// history.
-fn lay_core<L: Ledger>(
-    rt: &impl Abort,
-    alloc: Global,
-    booked: &mut Booked<L>,
-    stripes: u64,
-) -> Result<(), Fail> {
+/// A core of this number of stripes, which are words.
+fn core_with_words(alloc: Global, stripes: u64) -> Result<Core, Refusal> {
+    Ok(Core::with_words(alloc, Limits::new(2, stripes, 8)?)?)
+}
+
+/// Puts another core, whose stripes are words, under the lock. Neither core has a history.
+fn lay_core<L: Ledger>(rt: &impl Abort, booked: &mut Booked<L>, core: Core) {
     assert!(rt; booked.core.trace().is_empty());
-    let limits = Limits::new(2, stripes, 8)?;
-    booked.core = Core::with_words(alloc, limits)?;
+    booked.core = core;
     assert!(rt; booked.core.words() && booked.core.trace().is_empty());
-    Ok(())
 }
 
 /// Begins a transaction with a core of 4 stripes under the lock, and with one of 8.
@@ -127,7 +124,7 @@ fn begin_with_others<L: Ledger, R: Abort>(
     me: &mut Caller<L, NoSide>,
 ) -> Result<(), Fail> {
     for stripes in [4, 8] {
-        lay_core(rt, alloc, booked, stripes)?;
+        lay_core(rt, booked, core_with_words(alloc, stripes)?);
         let end = end_of(booked, me, Call::Begin)?;
         assert!(rt; end == Some(End::Refused(Refusal::OutOfStep)));
         assert!(rt; booked.core.trace().is_empty());

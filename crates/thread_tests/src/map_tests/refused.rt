@@ -1,6 +1,6 @@
 //! The state after calls that are refused memory, by `docs/tests/refused.sh`.
 use crate::devices::{
-    Play, Shared, callers_of, closed_of, has_left, is_refused, play_where_made, run,
+    Play, Shared, callers_of, closed_of, has_left, is_refused, play_where_made, run, seen_by,
 };
 use boost_core::{Call, Core, End};
 use locked_map::{Caller, NoSide, Pass};
@@ -22,13 +22,13 @@ fn end_of<L: Ledger, R: Wait + Abort>(
     me: &mut Caller<L, NoSide>,
     call: Call,
 ) -> End {
-    let before = me.seen().len();
+    let before = seen_by(me);
     for _ in 0..2 {
         let end = run(rt, shared, me, call);
         if end != End::Refused(Refusal::NoMemory) {
             return end;
         }
-        assert_eq!(rt; me.seen().len(), before);
+        assert_eq!(rt; seen_by(me), before);
     }
     End::Refused(Refusal::NoMemory)
 }

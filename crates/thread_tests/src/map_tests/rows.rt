@@ -2,7 +2,7 @@
 use super::cores::step;
 use crate::devices::{
     Play, Shared, Told, callers_in, close, close_or_miss, closed_of, has_seen, is_history,
-    is_settled, make, play_with,
+    is_settled, make, number_of, play_with, seen_by,
 };
 use boost_core::{Call, Core};
 use locked_map::{Caller, Closed, NoSide, Pass, Stop};
@@ -38,7 +38,7 @@ pub(super) fn play_row<L: Ledger, R: Wait + Abort>(
     wanted: Result<Told, Stop>,
 ) {
     let told = make(rt, shared, me, call);
-    assert_eq!(rt; told, wanted, "caller {}: {call:?}", me.number());
+    assert_eq!(rt; told, wanted, "caller {}: {call:?}", number_of(me));
 }
 
 /// Closes a map without caller 0, which is missing: map and caller 1 are returned. Then closes it
@@ -142,7 +142,7 @@ fn counted_entries<L: Ledger, R: Abort>(rt: &R, closed: &Closed<L, NoSide>) {
 /// The number of the caller at a position, and the number of entries that it has seen.
 fn figures_of<L: Ledger>(callers: &[Caller<L, NoSide>], place: usize) -> Option<(u64, usize)> {
     let me = callers.get(place)?;
-    Some((me.number(), me.seen().len()))
+    Some((number_of(me), seen_by(me)))
 }
 
 /// Caller 1 finds caller 0's stripe held, begins again and commits first. The map is then closed

@@ -4,7 +4,7 @@ ghost use Rattle.std.specs.Prelude.{◌≡◌, [], ◌∷◌, IfSome};
 use super::register::{OfWords, Register, RegisterJob};
 use crate::devices::{Play, Shared, close, has_left, is_refused, play_where_made, run};
 use boost_core::{Call, End};
-use locked_map::{Caller, Closed, Pass, Stop};
+use locked_map::{Caller, Pass, Stop};
 use std::alloc::Global;
 use std::process::Abort;
 use std::sync::Wait;
@@ -111,6 +111,29 @@ fn give_up<L: Ledger, S: Side, R: Wait + Abort>(
     assert_eq!(rt; me.words(), [0, 0, 0, 0]);
 }
 
+/// A list with room for one caller, asked for once more if memory is refused.
+fn room_for_one<T: Drop>(alloc: Global) -> Option<Vec<T>> {
+    let mut list = Vec::new(alloc);
+    if list.reserve(1).is_err() && list.reserve(1).is_err() {
+        return None;
+    }
+    Some(list)
+}
+
+/// Closes the map of a caller that has put nothing, which this list has room for.
+fn close_in<L: Ledger, S: Side, R: Abort>(
+    rt: &R,
+    alloc: Global,
+    shared: Shared<L>,
+    mut callers: Vec<Caller<L, S>>,
+    me: Caller<L, S>,
+) -> Result<(), Fail> {
+    callers.push(me)?;
+    let closed = close(shared, callers)?;
+    assert!(rt; has_left(rt, alloc, &closed.core, 0));
+    Ok(())
+}
+
 /// Closes the map of a caller that has put nothing, if there is memory for a list of callers.
 fn close_alone<L: Ledger, S: Side, R: Abort>(
     rt: &R,
@@ -118,15 +141,13 @@ fn close_alone<L: Ledger, S: Side, R: Abort>(
     shared: Shared<L>,
     me: Caller<L, S>,
 ) -> Result<(), Fail> {
-    let mut callers = Vec::new(alloc);
-    if callers.reserve(1).is_err() && callers.reserve(1).is_err() {
-        assert!(rt; is_refused(alloc));
-        return Ok(());
+    match room_for_one(alloc) {
+        Some(callers) => close_in(rt, alloc, shared, callers, me),
+        None => {
+            assert!(rt; is_refused(alloc));
+            Ok(())
+        }
     }
-    callers.push(me)?;
-    let Closed { core, callers: _ } = close(shared, callers)?;
-    assert!(rt; has_left(rt, alloc, &core, 0));
-    Ok(())
 }
 
 /// Runs `words_there` with a new caller, which then aborts in any case, and has left nothing.

@@ -1,8 +1,6 @@
 //! Another caller's calls between two turns of one call: no lock is held over a whole call.
 use super::rows::play_row;
-use crate::devices::{
-    Play, Shared, Told, callers_in, closed_of, is_history, make, play_with, run_heard,
-};
+use crate::devices::{Play, Shared, Told, callers_in, closed_of, is_history, play_with, run_heard};
 use boost_core::{Call, End};
 use locked_map::{Caller, NoSide, OnRelease, Pass};
 use std::alloc::Global;
@@ -41,22 +39,32 @@ fn put_four<L: Ledger, R: Wait + Abort>(rt: &R, shared: &Shared<L>, me: &mut Cal
     }
 }
 
-/// Caller 0 begins and puts 20 at key 2, and the other caller acts in between. It is returned.
+/// Caller 0 begins and puts 20 at key 2, whose releases of the lock are heard.
+fn begin_and_put<L: Ledger, R: Wait + Abort>(
+    rt: &R,
+    shared: &Shared<L>,
+    me: &mut Caller<L, NoSide>,
+    between: &Between<'_, '_, L, R>,
+) {
+    play_row(rt, shared, me, Call::Begin, Ok(Told::Number(1)));
+    let end = run_heard(rt, shared, me, Call::Op(Op::Put(2, 20)), between);
+    assert_eq!(rt; end, End::Answered(Answer::Done(None)));
+}
+
+/// Caller 0 begins and puts, and the other caller acts in between. It is returned.
 fn put_two<L: Ledger, R: Wait + Abort>(
     rt: &R,
     shared: &Shared<L>,
     me: &mut Caller<L, NoSide>,
     other: Caller<L, NoSide>,
 ) -> Caller<L, NoSide> {
-    assert_eq!(rt; make(rt, shared, me, Call::Begin), Ok(Told::Number(1)));
     let between = Between {
         rt,
         shared,
         other: Mutex::new(other),
         releases: AtomicU64::new(0),
     };
-    let end = run_heard(rt, shared, me, Call::Op(Op::Put(2, 20)), &between);
-    assert_eq!(rt; end, End::Answered(Answer::Done(None)));
+    begin_and_put(rt, shared, me, &between);
     between.other.into_inner()
 }
 

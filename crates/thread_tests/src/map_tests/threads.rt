@@ -3,7 +3,7 @@ ghost use Rattle.std.specs.Prelude.{◌≡◌};
 
 use super::rows::{Row, play_row};
 use crate::devices::{
-    Shared, Told, callers_in, closed_of, has_seen, is_history, is_settled, make, open,
+    Shared, Told, callers_in, closed_of, has_seen, is_history, is_settled, make, number_of, open,
 };
 use boost_core::Call;
 use locked_map::{Caller, Closed, NoSide, Stop};
@@ -34,8 +34,9 @@ fn play_own<L: Ledger, R: Wait + Abort>(
     me: &mut Caller<L, NoSide>,
     rows: &[Row],
 ) {
+    let own = number_of(me);
     for &(place, call, wanted) in rows {
-        if place as u64 == me.number() {
+        if place as u64 == own {
             play_row(rt, shared, me, call, wanted);
         }
     }
