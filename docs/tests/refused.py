@@ -25,9 +25,9 @@ LENGTHS = [1, 8, 2**62]
 PASSING = """
 table_tests node_list_tests::refused_allocations
 table_tests bucket_table_tests::refused_allocations
-table_tests map_ops_tests::refused_memory_for_puts
-table_tests map_ops_tests::refused_memory_for_a_preparation
-table_tests map_ops_tests::refused_memory_for_a_link
+table_tests map_ops_tests::refused::refused_memory_for_puts
+table_tests map_ops_tests::refused::refused_memory_for_a_preparation
+table_tests map_ops_tests::refused::refused_memory_for_a_link
 table_tests probe_map_tests::refused_memory
 table_tests stripe_part_tests::refused_memory
 striped_tests refused::refused_memory

@@ -1,0 +1,524 @@
+//! Runs of steps on a table, in tables of rows: each step with its answer.
+ghost use Rattle.std.specs.Prelude.{◌≡◌, true};
+ghost use Rattle.txn_trace.specs.Map.{Map, get};
+ghost use Rattle.map_ops.specs.Jobs.{IsDue, key_of_job, spare_of_job};
+ghost use Rattle.map_ops.specs.Changes.{OwnsIf};
+ghost use Rattle.map_ops.specs.TableAt.{Follows, KeepsSpares};
+
+use super::{
+    apply, do_at_once, figures, finish, has_pairs, new_table, pairs_of, small_table, there_and_back,
+};
+use map_ops::{Act, Double, InitLink, InitSeek, MapJob, SweepOutcome, Table, Undo};
+use std::alloc::Global;
+use std::process::Abort;
+use std::test::Fail;
+use txn_trace::{Op, Refusal, Reply};
+
+/// Replaces the table by a new one.
+fn begin(alloc: Global, table: &mut Table) -> Result<Answer, Fail> {
+    *table = new_table(alloc)?;
+    Ok(Answer::Done)
+}
+
+/// Replaces the table by a new one of two buckets.
+fn begin_small(alloc: Global, table: &mut Table) -> Result<Answer, Fail> {
+    *table = small_table(alloc)?;
+    Ok(Answer::Done)
+}
+
+/// A step of a run.
+#[derive(Clone, Copy)]
+enum Step {
+    /// Makes a new table.
+    Begin,
+    /// Makes a new table of two buckets.
+    BeginSmall,
+    /// Does an operation.
+    Do(Op),
+    /// Does an operation, and takes it back.
+    Return(Op),
+    /// Does an operation, and takes it back at a cursor.
+    ReturnAt(Op),
+    /// Does an operation, and discards its job.
+    Discard(Op),
+    /// Prepares an operation, and withdraws it.
+    Withdraw(Op),
+    Sweep,
+    Double(u64),
+    Seek(u64, u64),
+    Link(u64),
+    Store(u64),
+    /// Puts a value at a key, and keeps the job.
+    Put(u64, u64),
+    /// Takes back the newest of the puts whose jobs are kept.
+    TakeBack,
+    /// Takes the one key that is there, and takes that back.
+    TakeThereAndBack(u64),
+    /// Prepares and places a put, puts value 40 at key 4, reads the key, and then does the put;
+    /// keeps both jobs, that of key 4 as the newer one.
+    PutLate(u64, u64),
+    /// Looks at the newest of the jobs that are kept.
+    Newest,
+    /// Looks at the pair of a rank.
+    Pair(usize),
+    /// Reads the size, the count and the change number.
+    Read,
+}
+
+/// The effect of a job: its key, and the value that the key gets back.
+#[derive(Clone, Copy, PartialEq, Eq)]
+enum Inverse {
+    Unput(u64),
+    Restore(u64, u64),
+    Relink(u64, u64),
+}
+
+/// The answer to a step.
+#[derive(Clone, Copy, PartialEq, Eq)]
+enum Answer {
+    Done,
+    Reply(Reply),
+    Withdrawn(Op, u64),
+    /// Whether the cursor no longer fitted; the replies to the put of key 4, the read and the put.
+    Late(bool, Reply, Reply, Reply),
+    /// The reply to a take, and the effect of its job.
+    Taken(Reply, Inverse),
+    Job(Inverse),
+    Swept(SweepOutcome),
+    Double(Double),
+    Seek(Result<InitSeek, Refusal>),
+    Link(Result<InitLink, Refusal>),
+    Store(Result<(), Refusal>),
+    Pair(u64, u64),
+    End,
+    Figures(u32, u64, u64),
+}
+
+/// The answer of a reply.
+fn replied(reply: Result<Reply, Refusal>) -> Result<Answer, Fail> {
+    Ok(Answer::Reply(reply?))
+}
+
+/// Does an operation, and takes it back at a cursor.
+fn back_at_a_cursor(table: &mut Table, op: Op) -> Result<Answer, Fail> {
+    let (reply, job) = apply(table, op)?;
+    let Some(job) = job else {
+        return Err("no job".into());
+    };
+    let cursor = table.place_job(&job);
+    match table.undo(job, cursor) {
+        Undo::Undone => Ok(Answer::Reply(reply)),
+        Undo::Again(_) => Err("the cursor does not fit".into()),
+    }
+}
+
+/// Does an operation, and discards its job.
+fn discarded(table: &mut Table, op: Op) -> Result<Answer, Fail> {
+    let (reply, job) = apply(table, op)?;
+    let Some(job) = job else {
+        return Err("no job".into());
+    };
+    table.discard(job);
+    Ok(Answer::Reply(reply))
+}
+
+/// Prepares an operation and withdraws it. Answers the operation that was prepared, and its key.
+fn withdrawn(table: &mut Table, op: Op) -> Result<Answer, Fail> {
+    let pending = table.prepare(op)?;
+    let (op, key) = (pending.op(), pending.key().number());
+    table.withdraw(pending);
+    Ok(Answer::Withdrawn(op, key))
+}
+
+/// The pair of a rank, if the content and the count agree with the list of pairs.
+fn pair_of_rank(alloc: Global, table: &Table, rank: usize) -> Result<Answer, Fail> {
+    let pairs = pairs_of(alloc, table)?;
+    if !has_pairs(alloc, table, &pairs)? {
+        return Err("the content is not as the list".into());
+    }
+    Ok(match pairs.get(rank) {
+        Some((key, value)) => Answer::Pair(*key, *value),
+        None => Answer::End,
+    })
+}
+
+/// Puts a value at a key, and keeps the job.
+fn put_with_job(
+    table: &mut Table,
+    jobs: &mut Vec<MapJob>,
+    key: u64,
+    value: u64,
+) -> Result<Answer, Fail> {
+    let (reply, job) = table.apply(Op::Put(key, value))?;
+    jobs.push(job.ok_or("no job")?)?;
+    Ok(Answer::Reply(reply))
+}
+
+/// Whether a job is due if its key has this value.
+fn is_due(value: Reply, job: &MapJob) -> bool
+    ensures { (m : Map) → get m (key_of_job job.now) ≡ value → result ≡ true → IsDue m job.now }
+{
+    match job {
+        MapJob::Unput(_) => value.is_some(),
+        MapJob::Restore(_, _) => value.is_some(),
+        MapJob::Relink(_, _, _) => value.is_none(),
+    }
+}
+
+/// Takes a change back, if it is due.
+fn take_back(table: &mut Table, job: MapJob) -> Result<Answer, Fail>
+    requires { OwnsIf table.old (spare_of_job job) }
+{
+    let (value, _) = table.apply(Op::Get(job.key().number()))?;
+    if !is_due(value, &job) {
+        return Err("the job is not due".into());
+    }
+    table.take_back(job);
+    Ok(Answer::Done)
+}
+
+/// Takes back the newest of these puts.
+fn take_newest_back(table: &mut Table, jobs: &mut Vec<MapJob>) -> Result<Answer, Fail> {
+    match jobs.pop().ok_or("no job")? {
+        MapJob::Unput(key) => take_back(table, MapJob::Unput(key)),
+        MapJob::Restore(key, old) => take_back(table, MapJob::Restore(key, old)),
+        MapJob::Relink(_, _, _) => Err("a job of a take".into()),
+    }
+}
+
+/// The effect of a job.
+fn inverse_of(job: &MapJob) -> Inverse {
+    let key = job.key().number();
+    match job {
+        MapJob::Unput(_) => Inverse::Unput(key),
+        MapJob::Restore(_, old) => Inverse::Restore(key, *old),
+        MapJob::Relink(_, old, _) => Inverse::Relink(key, *old),
+    }
+}
+
+/// The effect of the newest of these jobs.
+fn newest_of(jobs: &[MapJob]) -> Result<Answer, Fail> {
+    let job = jobs.last().ok_or("no job")?;
+    Ok(Answer::Job(inverse_of(job)))
+}
+
+/// Takes the one key that is there, and takes that back.
+fn take_there_and_back(alloc: Global, table: &mut Table, key: u64) -> Result<Answer, Fail> {
+    let (reply, job) = apply(table, Op::Take(key))?;
+    if !has_pairs(alloc, table, &[])? {
+        return Err("a key is left".into());
+    }
+    let Some(job) = job else {
+        return Err("no job".into());
+    };
+    let inverse = inverse_of(&job);
+    table.take_back(job);
+    Ok(Answer::Taken(reply, inverse))
+}
+
+/// Puts a value at a key by `apply`.
+fn put(table: &mut Table, key: u64, value: u64) -> Result<(Reply, Option<MapJob>), Refusal>
+    ensures spares { KeepsSpares table.old table.new }
+    ensures follows { Follows table.old table.new }
+{
+    table.apply(Op::Put(key, value))
+}
+
+/// Reads a key by `apply`.
+fn read(table: &mut Table, key: u64) -> Result<(Reply, Option<MapJob>), Refusal>
+    ensures spares { KeepsSpares table.old table.new }
+    ensures follows { Follows table.old table.new }
+{
+    table.apply(Op::Get(key))
+}
+
+/// Keeps the job of a put of a new key.
+fn keep_unput(jobs: &mut Vec<MapJob>, job: Option<MapJob>) -> Result<(), Fail> {
+    let job = job.ok_or("no job")?;
+    if !matches!(job, MapJob::Unput(_)) {
+        return Err("another job".into());
+    }
+    jobs.push(job)?;
+    Ok(())
+}
+
+/// Prepares and places a put, puts value 40 at key 4, reads the key, and then does the put.
+fn put_late(
+    table: &mut Table,
+    jobs: &mut Vec<MapJob>,
+    key: u64,
+    value: u64,
+) -> Result<Answer, Fail> {
+    let pending = table.prepare(Op::Put(key, value))?;
+    let cursor = table.place(&pending);
+    let (other, newer) = put(table, 4, 40)?;
+    let (there, _) = read(table, key)?;
+    let (is_again, (own, job)) = match table.act(pending, cursor) {
+        Act::Acted(reply, job) => (false, (reply, job)),
+        Act::Again(pending) => (true, finish(table, pending)),
+    };
+    keep_unput(jobs, job)?;
+    keep_unput(jobs, newer)?;
+    Ok(Answer::Late(is_again, other, there, own))
+}
+
+/// Takes a step of the buckets, or reads.
+fn take_bucket_step(table: &mut Table, step: Step) -> Result<Answer, Fail> {
+    Ok(match step {
+        Step::Double(seen) => Answer::Double(table.double(seen)),
+        Step::Seek(helper, bucket) => Answer::Seek(table.init_seek(helper, bucket)),
+        Step::Link(helper) => Answer::Link(table.init_link(helper)),
+        Step::Store(helper) => Answer::Store(table.init_store(helper)),
+        Step::Sweep => Answer::Swept(table.sweep()),
+        Step::Read => {
+            let (size, count, changes) = figures(table);
+            Answer::Figures(size, count, changes)
+        }
+        _ => return Err("another step".into()),
+    })
+}
+
+/// Takes a step.
+fn take_step(
+    alloc: Global,
+    table: &mut Table,
+    jobs: &mut Vec<MapJob>,
+    step: Step,
+) -> Result<Answer, Fail> {
+    match step {
+        Step::Begin => begin(alloc, table),
+        Step::BeginSmall => begin_small(alloc, table),
+        Step::Do(op) => replied(do_at_once(table, op)),
+        Step::Return(op) => replied(there_and_back(table, op)),
+        Step::ReturnAt(op) => back_at_a_cursor(table, op),
+        Step::Discard(op) => discarded(table, op),
+        Step::Withdraw(op) => withdrawn(table, op),
+        Step::Put(key, value) => put_with_job(table, jobs, key, value),
+        Step::TakeBack => take_newest_back(table, jobs),
+        Step::TakeThereAndBack(key) => take_there_and_back(alloc, table, key),
+        Step::PutLate(key, value) => put_late(table, jobs, key, value),
+        Step::Newest => newest_of(jobs),
+        Step::Pair(rank) => pair_of_rank(alloc, table, rank),
+        other => take_bucket_step(table, other),
+    }
+}
+
+/// Runs of steps, with the answer to each. Each run begins with a new table.
+const STEPS: [(Step, Answer); 118] = [
+    // Each operation there and back.
+    (Step::Begin, Answer::Done),
+    (Step::Do(Op::Put(1, 10)), Answer::Reply(None)),
+    (Step::Return(Op::Put(1, 11)), Answer::Reply(Some(10))),
+    (Step::Pair(0), Answer::Pair(1, 10)),
+    (Step::Pair(1), Answer::End),
+    (Step::Return(Op::Put(3, 30)), Answer::Reply(None)),
+    (Step::Pair(0), Answer::Pair(1, 10)),
+    (Step::Pair(1), Answer::End),
+    (Step::Return(Op::Take(1)), Answer::Reply(Some(10))),
+    (Step::Pair(0), Answer::Pair(1, 10)),
+    (Step::Pair(1), Answer::End),
+    (Step::Return(Op::Take(5)), Answer::Reply(None)),
+    (Step::Pair(0), Answer::Pair(1, 10)),
+    (Step::Pair(1), Answer::End),
+    (Step::Return(Op::Get(1)), Answer::Reply(Some(10))),
+    (Step::Pair(0), Answer::Pair(1, 10)),
+    (Step::Pair(1), Answer::End),
+    (
+        Step::Return(Op::PutIf(1, Some(10), 12)),
+        Answer::Reply(Some(10)),
+    ),
+    (Step::Pair(0), Answer::Pair(1, 10)),
+    (Step::Pair(1), Answer::End),
+    (
+        Step::Return(Op::PutIf(1, None, 12)),
+        Answer::Reply(Some(10)),
+    ),
+    (Step::Pair(0), Answer::Pair(1, 10)),
+    (Step::Pair(1), Answer::End),
+    (Step::Return(Op::PutIf(3, None, 30)), Answer::Reply(None)),
+    (Step::Pair(0), Answer::Pair(1, 10)),
+    (Step::Pair(1), Answer::End),
+    (Step::Return(Op::PutIf(3, Some(5), 6)), Answer::Reply(None)),
+    (Step::Pair(0), Answer::Pair(1, 10)),
+    (Step::Pair(1), Answer::End),
+    // Keys are ordered by their split keys.
+    (Step::Begin, Answer::Done),
+    (Step::Do(Op::Put(1, 10)), Answer::Reply(None)),
+    (Step::Do(Op::Put(2, 20)), Answer::Reply(None)),
+    (Step::Do(Op::Put(3, 30)), Answer::Reply(None)),
+    (Step::Do(Op::Put(4, 40)), Answer::Reply(None)),
+    (Step::Double(2), Answer::Double(Double::Light)),
+    (Step::Do(Op::Put(5, 50)), Answer::Reply(None)),
+    (Step::Pair(0), Answer::Pair(4, 40)),
+    (Step::Pair(1), Answer::Pair(2, 20)),
+    (Step::Pair(2), Answer::Pair(1, 10)),
+    (Step::Pair(3), Answer::Pair(5, 50)),
+    (Step::Pair(4), Answer::Pair(3, 30)),
+    (Step::Pair(5), Answer::End),
+    // Buckets are initialised after their parents.
+    (Step::Double(2), Answer::Double(Double::Doubled(4))),
+    (Step::Double(2), Answer::Double(Double::Moved(4))),
+    (Step::Double(4), Answer::Double(Double::Light)),
+    (Step::Seek(0, 3), Answer::Seek(Err(Refusal::ParentMissing))),
+    (Step::Seek(0, 4), Answer::Seek(Err(Refusal::NoSuchBucket))),
+    (Step::Seek(2, 3), Answer::Seek(Err(Refusal::NoSuchHelper))),
+    (Step::Link(0), Answer::Link(Err(Refusal::HelperOutOfOrder))),
+    (Step::Seek(0, 1), Answer::Seek(Ok(InitSeek::Placed))),
+    (Step::Link(0), Answer::Link(Ok(InitLink::Linked))),
+    (Step::Store(0), Answer::Store(Ok(()))),
+    (Step::Seek(0, 3), Answer::Seek(Ok(InitSeek::Placed))),
+    (Step::Seek(1, 3), Answer::Seek(Ok(InitSeek::Placed))),
+    (Step::Link(0), Answer::Link(Ok(InitLink::Linked))),
+    (Step::Link(1), Answer::Link(Ok(InitLink::Again))),
+    (Step::Seek(1, 3), Answer::Seek(Ok(InitSeek::Placed))),
+    (Step::Link(1), Answer::Link(Ok(InitLink::Present))),
+    (Step::Store(0), Answer::Store(Ok(()))),
+    (Step::Store(1), Answer::Store(Ok(()))),
+    (Step::Seek(1, 3), Answer::Seek(Ok(InitSeek::Ready))),
+    (Step::Read, Answer::Figures(4, 5, 7)),
+    (Step::Pair(0), Answer::Pair(4, 40)),
+    (Step::Pair(1), Answer::Pair(2, 20)),
+    (Step::Pair(2), Answer::Pair(1, 10)),
+    (Step::Pair(3), Answer::Pair(5, 50)),
+    (Step::Pair(4), Answer::Pair(3, 30)),
+    (Step::Pair(5), Answer::End),
+    // Two buckets are at the limit.
+    (Step::BeginSmall, Answer::Done),
+    (Step::Double(4), Answer::Double(Double::Moved(2))),
+    (Step::Double(2), Answer::Double(Double::AtLimit)),
+    // Keys of 64 bits.
+    (Step::Begin, Answer::Done),
+    (
+        Step::Do(Op::Put(9223372036854775809, 11)),
+        Answer::Reply(None),
+    ),
+    (Step::Do(Op::Put(1, 10)), Answer::Reply(None)),
+    (Step::Do(Op::PutIf(1, None, 12)), Answer::Reply(Some(10))),
+    (
+        Step::Do(Op::PutIf(1, Some(10), 12)),
+        Answer::Reply(Some(10)),
+    ),
+    (Step::Do(Op::PutIf(2, None, 20)), Answer::Reply(None)),
+    (Step::Do(Op::PutIf(3, Some(5), 6)), Answer::Reply(None)),
+    (
+        Step::Do(Op::Put(18446744073709551615, 7)),
+        Answer::Reply(None),
+    ),
+    (Step::Read, Answer::Figures(2, 4, 5)),
+    (Step::Pair(0), Answer::Pair(2, 20)),
+    (Step::Pair(1), Answer::Pair(1, 12)),
+    (Step::Pair(2), Answer::Pair(9223372036854775809, 11)),
+    (Step::Pair(3), Answer::Pair(18446744073709551615, 7)),
+    (Step::Pair(4), Answer::End),
+    // A sweep unlinks the node that was taken.
+    (Step::Begin, Answer::Done),
+    (Step::Return(Op::Put(1, 10)), Answer::Reply(None)),
+    (Step::Read, Answer::Figures(2, 0, 2)),
+    (Step::Sweep, Answer::Swept(SweepOutcome::Swept)),
+    (Step::Sweep, Answer::Swept(SweepOutcome::Clean)),
+    (Step::Read, Answer::Figures(2, 0, 3)),
+    (Step::Pair(0), Answer::End),
+    // The nodes are in the order 2, 1, 3. No seek passes a marked one, since key 1 is between them.
+    (Step::Begin, Answer::Done),
+    (Step::Do(Op::Put(1, 10)), Answer::Reply(None)),
+    (Step::Return(Op::Put(3, 30)), Answer::Reply(None)),
+    (Step::Return(Op::Put(2, 20)), Answer::Reply(None)),
+    (Step::Read, Answer::Figures(2, 1, 5)),
+    (Step::Sweep, Answer::Swept(SweepOutcome::Swept)),
+    (Step::Read, Answer::Figures(2, 1, 6)),
+    (Step::Sweep, Answer::Swept(SweepOutcome::Swept)),
+    (Step::Read, Answer::Figures(2, 1, 7)),
+    (Step::Sweep, Answer::Swept(SweepOutcome::Clean)),
+    (Step::Read, Answer::Figures(2, 1, 7)),
+    // An operation that is given up changes nothing, and a discarded change stays.
+    (
+        Step::Withdraw(Op::Put(2, 20)),
+        Answer::Withdrawn(Op::Put(2, 20), 2),
+    ),
+    (Step::Pair(0), Answer::Pair(1, 10)),
+    (Step::Pair(1), Answer::End),
+    (Step::Discard(Op::Take(1)), Answer::Reply(Some(10))),
+    (Step::Pair(0), Answer::End),
+    // A job is run at a cursor.
+    (Step::Begin, Answer::Done),
+    (Step::ReturnAt(Op::Put(2, 20)), Answer::Reply(None)),
+    (Step::Pair(0), Answer::End),
+    // The cursor of key 3 is behind key 1, which is behind key 4: it still fits.
+    (Step::Begin, Answer::Done),
+    (Step::Do(Op::Put(1, 10)), Answer::Reply(None)),
+    (Step::PutLate(3, 30), Answer::Late(false, None, None, None)),
+    (Step::Pair(0), Answer::Pair(4, 40)),
+    (Step::Pair(1), Answer::Pair(1, 10)),
+    (Step::Pair(2), Answer::Pair(3, 30)),
+    (Step::Pair(3), Answer::End),
+];
+
+/// Three changes of one key. Their jobs are run after later operations, the newest first.
+const APPLY_THEN_TAKE_BACK: [(Step, Answer); 12] = [
+    (Step::Put(2, 20), Answer::Reply(None)),
+    (Step::Newest, Answer::Job(Inverse::Unput(2))),
+    (Step::Put(2, 21), Answer::Reply(Some(20))),
+    (Step::Newest, Answer::Job(Inverse::Restore(2, 20))),
+    (
+        Step::TakeThereAndBack(2),
+        Answer::Taken(Some(21), Inverse::Relink(2, 21)),
+    ),
+    (Step::Pair(0), Answer::Pair(2, 21)),
+    (Step::Pair(1), Answer::End),
+    (Step::TakeBack, Answer::Done),
+    (Step::Pair(0), Answer::Pair(2, 20)),
+    (Step::Pair(1), Answer::End),
+    (Step::TakeBack, Answer::Done),
+    (Step::Pair(0), Answer::End),
+];
+
+/// The cursor of key 2 is at the position where key 4 is put.
+const STALE_PENDING: [(Step, Answer); 11] = [
+    (Step::PutLate(2, 20), Answer::Late(true, None, None, None)),
+    (Step::Pair(0), Answer::Pair(4, 40)),
+    (Step::Pair(1), Answer::Pair(2, 20)),
+    (Step::Pair(2), Answer::End),
+    (Step::Newest, Answer::Job(Inverse::Unput(4))),
+    (Step::TakeBack, Answer::Done),
+    (Step::Pair(0), Answer::Pair(2, 20)),
+    (Step::Pair(1), Answer::End),
+    (Step::Newest, Answer::Job(Inverse::Unput(2))),
+    (Step::TakeBack, Answer::Done),
+    (Step::Pair(0), Answer::End),
+];
+
+/// Takes steps, and compares the answer to each.
+fn take_each(
+    rt: &impl Abort,
+    alloc: Global,
+    table: &mut Table,
+    jobs: &mut Vec<MapJob>,
+    steps: &[(Step, Answer)],
+) -> Result<(), Fail> {
+    for (row, (step, answer)) in steps.iter().enumerate() {
+        let found = take_step(alloc, table, jobs, *step)?;
+        assert!(rt; found == *answer, "row {row}");
+    }
+    Ok(())
+}
+
+/// Takes steps on a new table, and compares the answer to each.
+fn take_steps(rt: &impl Abort, alloc: Global, steps: &[(Step, Answer)]) -> Result<(), Fail> {
+    let mut table = new_table(alloc).expect(rt, "a table");
+    take_each(rt, alloc, &mut table, &mut Vec::new(alloc), steps)
+}
+
+#[test]
+fn worked_runs(rt: HostRuntime) -> Result<(), Fail> {
+    take_steps(&rt, rt.alloc(), &STEPS)
+}
+
+#[test]
+fn apply_then_take_back(rt: HostRuntime) -> Result<(), Fail> {
+    take_steps(&rt, rt.alloc(), &APPLY_THEN_TAKE_BACK)
+}
+
+#[test]
+fn stale_pending(rt: HostRuntime) -> Result<(), Fail> {
+    take_steps(&rt, rt.alloc(), &STALE_PENDING)
+}

@@ -1,0 +1,51 @@
+//! Keys that share a split key.
+use super::{do_at_once, figures, new_table, there_and_back};
+use map_ops::Table;
+use std::process::Abort;
+use std::test::Fail;
+use txn_trace::{Op, Refusal};
+
+const HALF: u64 = 1 << 63;
+
+/// Puts a key, and the one that is higher by 2^63. Answers whether both were new.
+fn are_put(table: &mut Table, key: u64) -> Result<bool, Refusal> {
+    let (high, value) = (key.wrapping_add(HALF), key.wrapping_add(100));
+    let higher = do_at_once(table, Op::Put(high, value))?;
+    Ok(higher.is_none() && do_at_once(table, Op::Put(key, key))?.is_none())
+}
+
+/// Takes a key out, and changes it and the higher one and takes that back. Answers whether each
+/// reply is that of the right key.
+fn is_one_taken(table: &mut Table, key: u64) -> Result<bool, Refusal> {
+    let (high, value) = (key.wrapping_add(HALF), key.wrapping_add(100));
+    let low_replies = [
+        do_at_once(table, Op::Take(key))?,
+        there_and_back(table, Op::Put(key, 7))?,
+        do_at_once(table, Op::Get(key))?,
+    ];
+    let high_replies = [
+        there_and_back(table, Op::Take(high))?,
+        there_and_back(table, Op::PutIf(high, Some(value), 9))?,
+        do_at_once(table, Op::Get(high))?,
+    ];
+    Ok(low_replies == [Some(key), None, None] && high_replies == [Some(value); 3])
+}
+
+/// Puts sixteen keys with the higher ones, and takes the lower ones.
+fn share_split_keys(rt: &impl Abort, table: &mut Table) -> Result<(), Fail> {
+    for key in 0..16 {
+        assert!(rt; are_put(table, key)?, "{key}");
+    }
+    for key in 0..16 {
+        assert!(rt; is_one_taken(table, key)?, "{key}");
+    }
+    assert!(rt; figures(table).1 == 16);
+    Ok(())
+}
+
+/// Two keys that differ by 2^63 have one split key and one bucket: neither is mistaken for the
+/// other.
+#[test]
+fn keys_that_share_a_split_key(rt: HostRuntime) -> Result<(), Fail> {
+    share_split_keys(&rt, &mut new_table(rt.alloc()).expect(&rt, "a table"))
+}
