@@ -8,11 +8,12 @@
 # Rattle, and the same from C. It prints the median nanoseconds and, with valgrind, the instructions of a transaction in both, and
 # how much more each of its six calls takes from C; last, the nanoseconds of a call that is refused at once.
 #
-# BENCH may name the program `bench`; otherwise it is proved and built. Usage: docs/speed/c.sh [ROUNDS]
+# BENCH may name the program `bench`; otherwise it is proved and built. CXX may name another compiler than `c++`: with clang++ both
+# sides of the crossing are compiled by LLVM. Usage: docs/speed/c.sh [ROUNDS]
 source "$(dirname "${BASH_SOURCE[0]}")/common.sh"
 rounds=${1:-9}
 quietly bindings/install.sh "$work/usr"
-quietly c++ -std=c++17 -O2 -I"$work/usr/include" docs/speed/c_map.cpp -L"$work/usr/lib" -lboostmap -pthread -o "$work/c_map"
+quietly "${CXX:-c++}" -std=c++17 -O2 -I"$work/usr/include" docs/speed/c_map.cpp -L"$work/usr/lib" -lboostmap -pthread -o "$work/c_map"
 
 # The median of the first column of the lines of a file, and the one sum of their second.
 median() {

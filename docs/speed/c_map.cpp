@@ -288,7 +288,9 @@ template <class Map> static void in_threads(word keys, word count, word threads)
     print(began, count / threads * threads, sum);
 }
 
-// The transactions that the program `bench` makes inside Rattle, by the same draws.
+// The transactions that the program `bench` makes inside Rattle, by the same draws. A draw is divided
+// in 32 bits, as it is there: LLVM tests that both numbers fit, and GCC would divide in 64, which takes
+// several times as long.
 static void as_bench(word keys, word count) {
     auto callers = striped::open(1, 1024);
     striped &map = *callers[0];
@@ -303,7 +305,7 @@ static void as_bench(word keys, word count) {
     for (word t = 0; t < count; t++) {
         word key[4], kind[4];
         for (int i = 0; i < 4; i++) {
-            key[i] = drawn(seed) % keys;
+            key[i] = static_cast<std::uint32_t>(drawn(seed)) % static_cast<std::uint32_t>(keys);
             kind[i] = drawn(seed) % 4;
         }
         map.begin();

@@ -1,4 +1,5 @@
 pub mod Held
+pub mod Lends
 pub mod Replies
 pub mod Calls
 pub mod Entries

@@ -19,8 +19,9 @@
 //!                          +---> the striped map, which it shares with the other callers
 //! ```
 //!
-//! A call takes the object out of the handle, makes the library's call, puts the object back, and
-//! tells C the answer by a status and at most one word:
+//! A call takes the object out of the handle, makes the library's call and puts the object back; a
+//! call of a striped map's caller borrows the member through the pointer instead. It tells C the
+//! answer by a status and at most one word:
 //!
 //! | Status | Meaning | The transaction then |
 //! |---|---|---|

@@ -1,5 +1,5 @@
-//! The handle of a striped map's caller, and the ways of a member out of it and back, as in
-//! `handle` for a map.
+//! The handle of a striped map's caller, and the ways of a member into it and out of it, as in
+//! `handle` for a map. A call of the caller borrows the member, and leaves the handle as it is.
 ghost use Rattle.std.specs.Prelude.{◌≡◌, Some, None, IfSome, IsNone, IsSome, true, false, is_some};
 
 use crate::handle::sends;
@@ -32,25 +32,6 @@ impl CallerHandle {
     {
         self.tag == LIVE
     }
-}
-
-/// Takes the member out of a handle for the time of a call, which ends with `put_back`: the tag
-/// stays meanwhile.
-pub(crate) fn lift(alloc: Global, held: &mut MemberPointer) -> Box<Member, Global>
-    requires { IsSome held.old.member }
-    ensures member { held.old.member ≡ Some result.value }
-    ensures none { held.new.member ≡ None }
-{
-    let lifted = mem::replace(held, MemberPointer::null());
-    lifted.restore().into_box(alloc)
-}
-
-/// Puts a member back that was lifted.
-pub(crate) fn put_back(held: &mut MemberPointer, member: Box<Member, Global>)
-    ensures member { held.new.member ≡ Some member.value }
-    ensures some { is_some held.new.member ≡ true }
-{
-    *held = MemberPointer::erase(OwnedPointer::from_box(member));
 }
 
 /// Takes the member out of a handle, if it has one; the handle is then all zeros.

@@ -25,6 +25,9 @@ impl Model for MemberPointer {
 }
 
 impl MemberPointer {
+    ghost use types.Logic.{sem};
+    ghost use Rattle.boostmap_c.specs.Lends.{LendsMember};
+
     /// A pointer to no member.
     pub(crate) fn null() -> MemberPointer
         ensures { result.member ≡ None }
@@ -51,5 +54,14 @@ impl MemberPointer {
         OwnedPointer {
             at: at as *mut Member,
         }
+    }
+
+    /// The member, to be read and changed in place.
+    pub(crate) fn get_mut(&mut self) -> &mut Member
+        requires { IsSome self.old.member }
+        ensures* writes_back { sem 𝓛 (LendsMember self.entry result) }
+        ensures value { self.old.member ≡ Some result.now }
+    {
+        unsafe { &mut *(self.at as *mut Member) }
     }
 }

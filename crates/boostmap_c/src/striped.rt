@@ -125,15 +125,15 @@ pub extern "C" fn boostmap_striped_join(
     if next.is_live() {
         return FULL;
     }
-    let Some(mut member) = take_out(alloc, first) else {
+    if !first.is_live() {
         return EMPTY;
-    };
+    }
+    let member = first.held.get_mut();
     let number = member.waiting.len() as u64;
-    let made = next_member(alloc, &mut member);
-    put_in(first, member);
+    let made = next_member(alloc, member);
     match made {
-        Ok(member) => {
-            put_in(next, member);
+        Ok(joined) => {
+            put_in(next, joined);
             *word = number;
             DONE
         }

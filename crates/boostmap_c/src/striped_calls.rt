@@ -4,10 +4,9 @@ ghost use Rattle.std.specs.Prelude.{Some, None};
 ghost use Rattle.boostmap_c.specs.Members.{Ends, Numbers, Replies};
 ghost use Rattle.boostmap_c.specs.Striped.{Aborts, Begins, Commits, Operates, Returns, Saves};
 
-use crate::member_handle::{CallerHandle, lift, put_back};
+use crate::member_handle::CallerHandle;
 use crate::status::EMPTY;
 use crate::stops::{tell_end, tell_number, tell_reply};
-use std::alloc::Global;
 use txn_trace::Op;
 
 /// Begins a transaction.
@@ -17,15 +16,14 @@ use txn_trace::Op;
 /// 3 if the handle has no caller, 20 (`AlreadyOpen`) if the caller is in a transaction, which goes
 /// on.
 #[unsafe(no_mangle)]
-pub extern "C" fn boostmap_striped_begin(alloc: Global, caller: &mut CallerHandle) -> u32
+pub extern "C" fn boostmap_striped_begin(caller: &mut CallerHandle) -> u32
     ensures { Ends Begins caller.old.held.member result caller.new.held.member }
 {
     if !caller.is_live() {
         return EMPTY;
     }
-    let mut member = lift(alloc, &mut caller.held);
+    let member = caller.held.get_mut();
     let answer = member.caller.begin();
-    put_back(&mut caller.held, member);
     tell_end(answer)
 }
 
@@ -41,21 +39,15 @@ pub extern "C" fn boostmap_striped_begin(alloc: Global, caller: &mut CallerHandl
 ///
 /// That of `striped_map::Caller::get`.
 #[unsafe(no_mangle)]
-pub extern "C" fn boostmap_striped_get(
-    alloc: Global,
-    caller: &mut CallerHandle,
-    key: u64,
-    word: &mut u64,
-) -> u32
+pub extern "C" fn boostmap_striped_get(caller: &mut CallerHandle, key: u64, word: &mut u64) -> u32
     ensures { Replies (Operates (Op.Get key)) caller.old.held.member result word.old word.new
         caller.new.held.member }
 {
     if !caller.is_live() {
         return EMPTY;
     }
-    let mut member = lift(alloc, &mut caller.held);
+    let member = caller.held.get_mut();
     let answer = member.caller.get(key);
-    put_back(&mut caller.held, member);
     tell_reply(answer, word)
 }
 
@@ -72,7 +64,6 @@ pub extern "C" fn boostmap_striped_get(
 /// That of `striped_map::Caller::put`.
 #[unsafe(no_mangle)]
 pub extern "C" fn boostmap_striped_put(
-    alloc: Global,
     caller: &mut CallerHandle,
     key: u64,
     value: u64,
@@ -84,9 +75,8 @@ pub extern "C" fn boostmap_striped_put(
     if !caller.is_live() {
         return EMPTY;
     }
-    let mut member = lift(alloc, &mut caller.held);
+    let member = caller.held.get_mut();
     let answer = member.caller.put(key, value);
-    put_back(&mut caller.held, member);
     tell_reply(answer, word)
 }
 
@@ -102,21 +92,15 @@ pub extern "C" fn boostmap_striped_put(
 ///
 /// That of `striped_map::Caller::take`.
 #[unsafe(no_mangle)]
-pub extern "C" fn boostmap_striped_take(
-    alloc: Global,
-    caller: &mut CallerHandle,
-    key: u64,
-    word: &mut u64,
-) -> u32
+pub extern "C" fn boostmap_striped_take(caller: &mut CallerHandle, key: u64, word: &mut u64) -> u32
     ensures { Replies (Operates (Op.Take key)) caller.old.held.member result word.old word.new
         caller.new.held.member }
 {
     if !caller.is_live() {
         return EMPTY;
     }
-    let mut member = lift(alloc, &mut caller.held);
+    let member = caller.held.get_mut();
     let answer = member.caller.take(key);
-    put_back(&mut caller.held, member);
     tell_reply(answer, word)
 }
 
@@ -134,7 +118,6 @@ pub extern "C" fn boostmap_striped_take(
 /// That of `striped_map::Caller::put_if`.
 #[unsafe(no_mangle)]
 pub extern "C" fn boostmap_striped_put_if_absent(
-    alloc: Global,
     caller: &mut CallerHandle,
     key: u64,
     value: u64,
@@ -146,9 +129,8 @@ pub extern "C" fn boostmap_striped_put_if_absent(
     if !caller.is_live() {
         return EMPTY;
     }
-    let mut member = lift(alloc, &mut caller.held);
+    let member = caller.held.get_mut();
     let answer = member.caller.put_if(key, None, value);
-    put_back(&mut caller.held, member);
     tell_reply(answer, word)
 }
 
@@ -166,7 +148,6 @@ pub extern "C" fn boostmap_striped_put_if_absent(
 /// That of `striped_map::Caller::put_if`.
 #[unsafe(no_mangle)]
 pub extern "C" fn boostmap_striped_put_if_equal(
-    alloc: Global,
     caller: &mut CallerHandle,
     key: u64,
     expected: u64,
@@ -179,9 +160,8 @@ pub extern "C" fn boostmap_striped_put_if_equal(
     if !caller.is_live() {
         return EMPTY;
     }
-    let mut member = lift(alloc, &mut caller.held);
+    let member = caller.held.get_mut();
     let answer = member.caller.put_if(key, Some(expected), value);
-    put_back(&mut caller.held, member);
     tell_reply(answer, word)
 }
 
@@ -196,19 +176,14 @@ pub extern "C" fn boostmap_striped_put_if_equal(
 ///
 /// That of `striped_map::Caller::save`.
 #[unsafe(no_mangle)]
-pub extern "C" fn boostmap_striped_save(
-    alloc: Global,
-    caller: &mut CallerHandle,
-    word: &mut u64,
-) -> u32
+pub extern "C" fn boostmap_striped_save(caller: &mut CallerHandle, word: &mut u64) -> u32
     ensures { Numbers Saves caller.old.held.member result word.old word.new caller.new.held.member }
 {
     if !caller.is_live() {
         return EMPTY;
     }
-    let mut member = lift(alloc, &mut caller.held);
+    let member = caller.held.get_mut();
     let answer = member.caller.save();
-    put_back(&mut caller.held, member);
     tell_number(answer, word)
 }
 
@@ -224,15 +199,14 @@ pub extern "C" fn boostmap_striped_save(
 ///
 /// A step for each change that is taken back; takes no memory.
 #[unsafe(no_mangle)]
-pub extern "C" fn boostmap_striped_back(alloc: Global, caller: &mut CallerHandle, level: u64) -> u32
+pub extern "C" fn boostmap_striped_back(caller: &mut CallerHandle, level: u64) -> u32
     ensures { Ends (Returns level) caller.old.held.member result caller.new.held.member }
 {
     if !caller.is_live() {
         return EMPTY;
     }
-    let mut member = lift(alloc, &mut caller.held);
+    let member = caller.held.get_mut();
     let answer = member.caller.back(level);
-    put_back(&mut caller.held, member);
     tell_end(answer)
 }
 
@@ -246,20 +220,15 @@ pub extern "C" fn boostmap_striped_back(alloc: Global, caller: &mut CallerHandle
 ///
 /// A step for each change and each stripe; takes no memory.
 #[unsafe(no_mangle)]
-pub extern "C" fn boostmap_striped_commit(
-    alloc: Global,
-    caller: &mut CallerHandle,
-    word: &mut u64,
-) -> u32
+pub extern "C" fn boostmap_striped_commit(caller: &mut CallerHandle, word: &mut u64) -> u32
     ensures { Numbers Commits caller.old.held.member result word.old word.new
         caller.new.held.member }
 {
     if !caller.is_live() {
         return EMPTY;
     }
-    let mut member = lift(alloc, &mut caller.held);
+    let member = caller.held.get_mut();
     let answer = member.caller.commit();
-    put_back(&mut caller.held, member);
     tell_number(answer, word)
 }
 
@@ -273,14 +242,13 @@ pub extern "C" fn boostmap_striped_commit(
 ///
 /// A step for each change and each stripe; takes no memory.
 #[unsafe(no_mangle)]
-pub extern "C" fn boostmap_striped_abort(alloc: Global, caller: &mut CallerHandle) -> u32
+pub extern "C" fn boostmap_striped_abort(caller: &mut CallerHandle) -> u32
     ensures { Ends Aborts caller.old.held.member result caller.new.held.member }
 {
     if !caller.is_live() {
         return EMPTY;
     }
-    let mut member = lift(alloc, &mut caller.held);
+    let member = caller.held.get_mut();
     let answer = member.caller.abort();
-    put_back(&mut caller.held, member);
     tell_end(answer)
 }

@@ -3,11 +3,10 @@
 ghost use Rattle.boostmap_c.specs.Members.{Numbers};
 ghost use Rattle.boostmap_c.specs.StripedContents.{Counts, ReadsMap};
 
-use crate::member_handle::{CallerHandle, lift, put_back};
+use crate::member_handle::CallerHandle;
 use crate::read::{CPair, lay_all};
 use crate::status::EMPTY;
 use crate::stops::{tell_number, tell_stop};
-use std::alloc::Global;
 
 /// Takes every stripe; the word is the number of keys of the map, with the transaction's own
 /// changes. The stripes stay held to the transaction's end.
@@ -22,20 +21,15 @@ use std::alloc::Global;
 ///
 /// That of `striped_map::Caller::len`.
 #[unsafe(no_mangle)]
-pub extern "C" fn boostmap_striped_count(
-    alloc: Global,
-    caller: &mut CallerHandle,
-    word: &mut u64,
-) -> u32
+pub extern "C" fn boostmap_striped_count(caller: &mut CallerHandle, word: &mut u64) -> u32
     ensures { Numbers Counts caller.old.held.member result word.old word.new
         caller.new.held.member }
 {
     if !caller.is_live() {
         return EMPTY;
     }
-    let mut member = lift(alloc, &mut caller.held);
+    let member = caller.held.get_mut();
     let answer = member.caller.len();
-    put_back(&mut caller.held, member);
     tell_number(answer, word)
 }
 
@@ -53,7 +47,6 @@ pub extern "C" fn boostmap_striped_count(
 /// That of `striped_map::Caller::pairs`, and memory in proportion to the pairs while it runs.
 #[unsafe(no_mangle)]
 pub extern "C" fn boostmap_striped_read(
-    alloc: Global,
     caller: &mut CallerHandle,
     pairs: &mut [CPair],
     word: &mut u64,
@@ -64,9 +57,8 @@ pub extern "C" fn boostmap_striped_read(
     if !caller.is_live() {
         return EMPTY;
     }
-    let mut member = lift(alloc, &mut caller.held);
+    let member = caller.held.get_mut();
     let answer = member.caller.pairs();
-    put_back(&mut caller.held, member);
     match answer {
         Ok(listed) => lay_all(&listed, pairs, word),
         Err(stop) => tell_stop(stop, word),

@@ -48,12 +48,12 @@ module _ (R : RattleType) where
 
   module _ {M : Type 1} {𝓤 : Ura M} {𝓛 : Logic 𝓤} {K : Type 0} {Γ : List (Item 𝓤)} {G : Goal 𝓤 𝓛.H} where
     pub opens_pointer : K → (d : Pointer.Denot) (vs : List Val)
-        → ((heap : Global) (b o : ℕ) → vs ≡ word (block_ptr b o) ∷ [] → Seq K 𝓛 (‵ (box_owns (ghosts.dealloc_token heap) R (block_ptr b o) d.value) ∷ Γ) G)
+        → ((heap : Global) (b o : ℕ) → d.at ≡ block_ptr b o → vs ≡ word (block_ptr b o) ∷ [] → Seq K 𝓛 (‵ (box_owns (ghosts.dealloc_token heap) R (block_ptr b o) d.value) ∷ Γ) G)
         → Seq K 𝓛 (‵ (Pointer.own_val d vs) ∷ Γ) G
     opens_pointer t d vs k =
         fsplit t $ opens_word (pointer.the_type R) t d.at vs (λ is. fpick t (λ heap.
         in_a_block t d.at (λ p. block heap p d.value) (fst∗ 𝓤 (never 𝓤) (sem 𝓛 (ghosts.dealloc_token heap (bare (lone R.mir)) null_ptr))) (λ b o here.
-        k heap b o (is ∙ ap (λ (p : Ptr). word p ∷ []) here))))
+        k heap b o here (is ∙ ap (λ (p : Ptr). word p ∷ []) here))))
 
     pub makes_pointer : K → (heap : Global) (b o : ℕ) (x : R.Denot)
         → Step K 𝓛 (‵ (Pointer.own_val (record { at = block_ptr b o; value = x }) (word (block_ptr b o) ∷ [])) ∷ Γ) G

@@ -37,7 +37,7 @@ erase_spec 𝓤 𝓛 𝓜 𝓡 wired =
     proved_at 𝓛 ended hs c 𝓜 𝓡 (Goes-blank 𝓛 0 (plain (λ _. P)) yes (λ κs x f. tt), tt) #self fn (code.unfolded 𝓤 𝓛.H 𝓜 𝓡 wired) (λ z are.
     let v = z.0.3.0 in let Post : Val → SProp 𝓤 = (walk_of 𝓛 ended hs c).post z in let runs : List Val → SProp 𝓤 = λ ws. WpFn 𝓤 𝓛.H 𝓣.C 𝓣.Λ fn ws Post in
     qed 𝓛 ((‵ ftrue ⊛ ‵ (owns (types_at ended.signature.params z.0.0) z.0.3 z.0.4)) ∷ ‵ ftrue ∷ []) ∵
-    split ! $ move ! (1 ∷ []) $ fsplit ! $ opens_pointer member.the_row ! v z.0.4.0 (λ heap b o spelled. keep ! (0 ∷ []) $
+    split ! $ move ! (1 ∷ []) $ fsplit ! $ opens_pointer member.the_row ! v z.0.4.0 (λ heap b o here spelled. keep ! (0 ∷ []) $
     let p = block_ptr b o in let ws = word p ∷ [] in
     suffices ! (runs ws) (subst (λ (us : List Val). ent 𝓤 (runs ws) (runs us)) (sym (λ i. spelled i ++ [])) (id⊢ 𝓤 (runs ws))) $
     enter ! 𝓣.C 𝓣.Λ fn ws Post $ alloc_all ! (λ l. pass_all ! refl ((tt, (tt, tt)), tt) $

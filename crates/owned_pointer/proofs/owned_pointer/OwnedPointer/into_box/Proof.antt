@@ -58,7 +58,7 @@ into_box_spec {M = M} 𝓤 𝓛 𝓜 𝓡 wired T L lets_go gone =
     let runs : List Val → SProp 𝓤 = λ ws. WpFn 𝓤 𝓛.H 𝓣.C 𝓣.Λ fn ws Post in
     qed 𝓛 (((‵ (flft κ q) ⊛ ‵ ftrue) ⊛ ‵ (owns (types_at S.signature.params z.0.0) z.0.3 z.0.4)) ∷ raw ((c z.0.0 z.0.3).requires z.1) ∷ []) ∵
     move ! (1 ∷ []) $ use1 𝓛 (raw (fact 𝓤 (κ ⊑ T.lives)) ⊛ ‵ ftrue) (id⊢ 𝓤 _) $ split ! $ heard ! (κ ⊑ T.lives) (λ lives. drop ! $
-    split ! $ split ! $ move ! (2 ∷ []) $ fsplit ! $ opens_pointer (param 0 T) ! v z.0.4.0 (λ freed b o spelled.
+    split ! $ split ! $ move ! (2 ∷ []) $ fsplit ! $ opens_pointer (param 0 T) ! v z.0.4.0 (λ freed b o here spelled.
     move ! (1 ∷ []) $ fsplit ! $ handle_tells the_heap ! a z.0.4.1.0 (λ h handed fits.
     -- [the handle; no further parameter; the block; the token; no further token]
     let w : Val = word (block_ptr b o) in let us : List Val = w ∷ h ∷ [] in let B : RattleType = form.B E in
