@@ -3,7 +3,7 @@
 //!
 //! `Box::into_raw` and `Box::from_raw` state in separation logic what changes hands: the block of
 //! memory, with its value, and the right to free it. A caller of them needs a proof by hand. An
-//! `OwnedPointer` owns exactly that besides its address, so its functions are plain calls with
+//! `OwnedPointer` owns exactly that besides its address, so its two functions are plain calls with
 //! plain contracts, and the proof by hand is made once, for every type.
 //!
 //! ```text
@@ -13,11 +13,10 @@
 //! ```
 //!
 //! The model is the value that is kept. Proved: a box that was turned into a pointer and back has
-//! the same value, or the last that was written through `get_mut`; nothing is freed on the way, and
-//! nothing leaks unless a pointer is lost without `into_box`, which the type forbids: it is no
-//! `Drop`.
+//! the same value; nothing is freed on the way, and nothing leaks unless a pointer is lost without
+//! `into_box`, which the type forbids: it is no `Drop`.
 //!
-//! Each function takes constant time and no memory: a pointer is one word, and its heap needs none.
+//! Both functions take constant time and no memory: a pointer is one word, and its heap needs none.
 #![tactic(auto)]
 
 mod owned_pointer;

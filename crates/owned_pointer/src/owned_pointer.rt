@@ -1,6 +1,5 @@
-//! The pointer, its conversions from and to a box, and the reference to its value. Its field is
-//! public, so that a crate with its own proof can keep the address elsewhere, for instance as a
-//! pointer whose type is erased.
+//! The pointer, and its conversions from and to a box. Its field is public, so that a crate with
+//! its own proof can keep the address elsewhere, for instance as a pointer whose type is erased.
 ghost use Rattle.std.specs.Prelude.{◌≡◌};
 
 use std::alloc::Global;
@@ -19,19 +18,6 @@ impl<T> Model for OwnedPointer<T> {
     ghost use Rattle.owned_pointer.specs.Blocks.{owns_block};
 
     ghost also_owns = { λ p. owns_block T.row p.at p.value };
-}
-
-impl<T> OwnedPointer<T> {
-    ghost use types.Logic.{sem};
-    ghost use Rattle.owned_pointer.specs.Lends.{LendsValue};
-
-    /// The value, to be read and changed in place. The pointer stays where it is.
-    pub fn get_mut(&mut self) -> &mut T
-        ensures* writes_back { sem 𝓛 (LendsValue T.row self.entry result) }
-        ensures value { result.now ≡ self.old.value }
-    {
-        unsafe { &mut *self.at }
-    }
 }
 
 impl<T: Drop> OwnedPointer<T> {
