@@ -1,8 +1,7 @@
 #!/usr/bin/env bash
 # Lays out a new repository in the folder NAME, with one caller of the map of threads: the folders that it needs, their
 # lines of crates.txt, HANDLES, and a crate that counts in a map from two threads. docs/LIBRARY.md describes it. `rt check`
-# in NAME/crates/counter proves it, in some 14 processor minutes the first time, three of them for the crate itself. Proofs
-# that another copy on the machine has made are reused.
+# in NAME/crates/counter proves it, in some 14 processor minutes the first time, less than two of them for the crate itself.
 # Usage: docs/library/new.sh NAME
 set -eu
 [ $# = 1 ] || { echo "usage: docs/library/new.sh NAME" >&2; exit 2; }
@@ -34,3 +33,4 @@ touch "$there/crates/counter/specs/Lib.antt" "$there/crates/counter/proofs/Lib.a
 mkdir -p "$there/crates/counter/proofs/counter/count_all"
 cp "$here/docs/library/counter/Invariants.antt.txt" "$there/crates/counter/proofs/counter/count_all/Invariants.antt"
 printf 'counted to 200\n' >"$there/crates/counter/stdout"
+echo "laid out. Next: cd $there/crates/counter && rt try"
