@@ -9,7 +9,7 @@ ghost use Rattle.bad_entry.specs.Changes.{is_change, last_change, waiting_after}
 
 use crate::desks::Desks;
 use std::alloc::{AllocError, Global};
-use txn_trace::{Entry, Op, PackedEntry, Reply};
+use txn_trace::{Entry, Op, Reply, SmallEntry};
 
 /// A change of a key.
 #[derive(Clone, Copy, Debug, PartialEq, Eq)]
@@ -63,7 +63,7 @@ fn change_at(desks: &Desks, key: u64, index: u64, entry: Entry) -> Option<Change
 /// Constant time an entry; memory for 64 callers.
 pub fn last_change(
     alloc: Global,
-    entries: &[PackedEntry],
+    entries: &[SmallEntry],
     key: u64,
 ) -> Result<Option<Change>, AllocError>
     requires { All (λ entry. caller_of entry < 64) entries.now }
@@ -135,7 +135,7 @@ fn above_after(caller: u64, waiting: Option<Op>, above: u64, entry: Entry) -> u6
 }
 
 /// What became of a change, by the entries after its Did.
-fn fate_in(after: &[PackedEntry], caller: u64) -> Fate
+fn fate_in(after: &[SmallEntry], caller: u64) -> Fate
     ensures { result ≡ fate_from caller None 0 after.now }
 {
     let mut waiting = None;
@@ -156,7 +156,7 @@ fn fate_in(after: &[PackedEntry], caller: u64) -> Fate
 /// # Cost
 ///
 /// A step for each entry after the change; takes no memory.
-pub fn fate_of(entries: &[PackedEntry], change: Change) -> Fate
+pub fn fate_of(entries: &[SmallEntry], change: Change) -> Fate
     ensures { result ≡ fate_of entries.now change }
 {
     let did = change.did as usize;

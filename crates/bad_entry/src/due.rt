@@ -13,12 +13,12 @@ ghost use Rattle.serial_check.specs.Serializable.{IsSerializable};
 ghost use Rattle.bad_entry.specs.Commits.{IsTornSince, last_commit, settled};
 
 use std::alloc::{AllocError, Global};
-use txn_trace::{Entry, Holder, PackedEntry, Reply};
+use txn_trace::{Entry, Holder, Reply, SmallEntry};
 
 /// A checker by locks that was fed these entries.
 pub(crate) fn fed_by_locks(
     alloc: Global,
-    entries: &[PackedEntry],
+    entries: &[SmallEntry],
     stripes: u64,
     holder: Holder,
 ) -> Result<history_check::Checker, AllocError>
@@ -36,7 +36,7 @@ pub(crate) fn fed_by_locks(
 /// A checker by the order of commits that was fed these entries.
 pub(crate) fn fed_by_commits(
     alloc: Global,
-    entries: &[PackedEntry],
+    entries: &[SmallEntry],
 ) -> Result<serial_check::Checker, AllocError>
     requires { All (λ entry. caller_of entry < 64) entries.now }
     ensures { IfOk result (commits.IsFed entries.now) }
@@ -60,7 +60,7 @@ pub(crate) fn fed_by_commits(
 /// That of `history_check`'s checker for each entry.
 pub fn value_now(
     alloc: Global,
-    entries: &[PackedEntry],
+    entries: &[SmallEntry],
     stripes: u64,
     holder: Holder,
     key: u64,
@@ -86,7 +86,7 @@ pub fn value_now(
 /// That of `serial_check`'s checker for each entry, and two looks at the key.
 pub fn last_commit(
     alloc: Global,
-    entries: &[PackedEntry],
+    entries: &[SmallEntry],
     key: u64,
 ) -> Result<Option<(u64, u64)>, AllocError>
     requires { All (λ entry. caller_of entry < 64) entries.now }
@@ -116,7 +116,7 @@ pub fn last_commit(
 /// That of `serial_check`'s checker for each entry.
 pub fn torn_since(
     alloc: Global,
-    entries: &[PackedEntry],
+    entries: &[SmallEntry],
     caller: u64,
 ) -> Result<Option<u64>, AllocError>
     requires caller { caller < 64 }

@@ -9,7 +9,7 @@ ghost use Rattle.bad_entry.specs.Holding.{IsHeld, asked_in, held_since, next_hol
 
 use crate::desks::Desks;
 use std::alloc::{AllocError, Global};
-use txn_trace::{Entry, PackedEntry};
+use txn_trace::{Entry, SmallEntry};
 
 /// Who holds a stripe.
 #[derive(Clone, Copy, Debug, PartialEq, Eq)]
@@ -36,7 +36,7 @@ fn next_holder(held: Option<u64>, stripes: u64, stripe: u64, entry: Entry) -> Op
 }
 
 /// The holder of a stripe after a legal history.
-fn holder_in(entries: &[PackedEntry], stripes: u64, stripe: u64) -> Option<u64>
+fn holder_in(entries: &[SmallEntry], stripes: u64, stripe: u64) -> Option<u64>
     requires { 0 < stripes }
     ensures { result ≡ fold (next_holder stripes stripe) None entries.now }
 {
@@ -81,7 +81,7 @@ fn next_txn(txn: Option<u64>, caller: u64, entry: Entry) -> Option<u64>
 /// # Cost
 ///
 /// Constant time an entry; takes no memory.
-pub fn txn_of(entries: &[PackedEntry], caller: u64) -> Option<u64>
+pub fn txn_of(entries: &[SmallEntry], caller: u64) -> Option<u64>
     ensures { result ≡ txn_in entries.now caller }
 {
     let mut txn = None;
@@ -94,7 +94,7 @@ pub fn txn_of(entries: &[PackedEntry], caller: u64) -> Option<u64>
 /// The index of the first Asked of a transaction for a key of a stripe.
 fn held_since(
     alloc: Global,
-    entries: &[PackedEntry],
+    entries: &[SmallEntry],
     txn: Option<u64>,
     stripes: u64,
     stripe: u64,
@@ -127,7 +127,7 @@ fn held_since(
 /// Constant time an entry; memory for 64 callers.
 pub fn held_by(
     alloc: Global,
-    entries: &[PackedEntry],
+    entries: &[SmallEntry],
     stripes: u64,
     stripe: u64,
 ) -> Result<Option<Held>, AllocError>

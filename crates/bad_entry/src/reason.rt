@@ -19,7 +19,7 @@ use crate::due::{fed_by_commits, fed_by_locks, last_commit, torn_since, value_no
 use crate::held::{Held, held_by, txn_of};
 use history_check::{Callers, Rule};
 use std::alloc::{AllocError, Global};
-use txn_trace::{Entry, Holder, Op, PackedEntry, Phase, Reply};
+use txn_trace::{Entry, Holder, Op, Phase, Reply, SmallEntry};
 
 /// What leads to a bad entry.
 #[derive(Clone, Copy, Debug, PartialEq, Eq)]
@@ -77,7 +77,7 @@ pub enum Reason {
 /// The last change of a key, and what became of it.
 fn last_in(
     alloc: Global,
-    entries: &[PackedEntry],
+    entries: &[SmallEntry],
     key: u64,
 ) -> Result<Option<(Change, Fate)>, AllocError>
     requires { All (λ entry. caller_of entry < 64) entries.now }
@@ -90,7 +90,7 @@ fn last_in(
 }
 
 /// The operation that a caller waits with after a history.
-fn waiting_in(alloc: Global, entries: &[PackedEntry], caller: u64) -> Result<Option<Op>, AllocError>
+fn waiting_in(alloc: Global, entries: &[SmallEntry], caller: u64) -> Result<Option<Op>, AllocError>
     requires caller { caller < 64 }
     requires callers { All (λ entry. caller_of entry < 64) entries.now }
     ensures { IfOk result (λ op. op ≡ waiting_in entries.now caller) }
@@ -105,7 +105,7 @@ fn waiting_in(alloc: Global, entries: &[PackedEntry], caller: u64) -> Result<Opt
 /// What leads to a wrong reply, by locks.
 fn reply_reason(
     alloc: Global,
-    entries: &[PackedEntry],
+    entries: &[SmallEntry],
     stripes: u64,
     holder: Holder,
     caller: u64,
@@ -127,7 +127,7 @@ fn reply_reason(
 /// What leads to a lock that is held, or is not.
 fn lock_reason(
     alloc: Global,
-    entries: &[PackedEntry],
+    entries: &[SmallEntry],
     stripes: u64,
     op: Op,
 ) -> Result<Reason, AllocError>
@@ -142,7 +142,7 @@ fn lock_reason(
 }
 
 /// How many transactions began in a history.
-fn began_in(entries: &[PackedEntry]) -> u64 {
+fn began_in(entries: &[SmallEntry]) -> u64 {
     entries
         .iter()
         .filter(|packed| matches!(packed.entry(), Entry::Began(..)))
@@ -173,7 +173,7 @@ fn shape_reason(callers: &Callers, began: u64, caller: u64) -> Reason
 /// That of `history_check`'s checker for each entry, a few times.
 pub fn by_locks(
     alloc: Global,
-    entries: &[PackedEntry],
+    entries: &[SmallEntry],
     bad: &Entry,
     rule: Rule,
     stripes: u64,
@@ -203,7 +203,7 @@ pub fn by_locks(
 }
 
 /// What leads to a transaction that may not commit.
-fn commit_reason(alloc: Global, entries: &[PackedEntry], caller: u64) -> Result<Reason, AllocError>
+fn commit_reason(alloc: Global, entries: &[SmallEntry], caller: u64) -> Result<Reason, AllocError>
     requires caller { caller < 64 }
     requires callers { All (λ entry. caller_of entry < 64) entries.now }
     ensures { IfOk result (λ reason. IsSerializable entries.now →
@@ -235,7 +235,7 @@ fn commit_reason(alloc: Global, entries: &[PackedEntry], caller: u64) -> Result<
 /// That of `serial_check`'s checker for each entry, twice.
 pub fn by_commits(
     alloc: Global,
-    entries: &[PackedEntry],
+    entries: &[SmallEntry],
     bad: &Entry,
     rule: Rule,
 ) -> Result<Reason, AllocError>

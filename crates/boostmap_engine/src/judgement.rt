@@ -11,7 +11,7 @@ use crate::fault::Fault;
 use history_check::{Verdict, check_packed};
 use std::alloc::{AllocError, Global};
 use txn_files::{FileFault, read_packed_history};
-use txn_trace::{Holder, PackedEntry};
+use txn_trace::{Holder, SmallEntry};
 
 /// The last version of history files in which a Busy names a caller that holds the stripe.
 const LAST_OF_NOW: u64 = 2;
@@ -29,7 +29,7 @@ fn holder_in(version: u64) -> Holder
 
 /// The stripes, the entries and the version of the history file that the bytes are. The bytes are
 /// dropped.
-fn history_in(alloc: Global, bytes: Vec<u8>) -> Result<(u32, Vec<PackedEntry>, u64), FileFault>
+fn history_in(alloc: Global, bytes: Vec<u8>) -> Result<(u32, Vec<SmallEntry>, u64), FileFault>
     ensures { Gives (λ file. (file.0, file.1.items, file.2)) result (history_of bytes.items) }
 {
     read_packed_history(alloc, &bytes)

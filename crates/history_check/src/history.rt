@@ -8,7 +8,7 @@ ghost use Rattle.history_check.specs.Verdicts.{IsVerdictOn};
 use crate::checker::Checker;
 use crate::verdict::Verdict;
 use std::alloc::{AllocError, Global};
-use txn_trace::{Entry, Holder, PackedEntry};
+use txn_trace::{Entry, Holder, SmallEntry};
 
 /// Judges a whole history of a map with so many stripes, whose callers are below 64 and whose Busy
 /// entries may name such a caller.
@@ -56,7 +56,7 @@ pub fn check(
 /// That of `check`.
 pub fn check_packed(
     alloc: Global,
-    entries: &[PackedEntry],
+    entries: &[SmallEntry],
     stripes: u64,
     holder: Holder,
 ) -> Result<Verdict, AllocError>

@@ -13,7 +13,7 @@ use crate::lines::{lines_by_commits, lines_by_locks};
 use history_check::Verdict;
 use std::alloc::{AllocError, Global};
 use txn_files::{FileFault, read_packed_history};
-use txn_trace::{Holder, PackedEntry};
+use txn_trace::{Holder, SmallEntry};
 
 /// The last version of history files in which a Busy names a caller that holds the stripe.
 const LAST_OF_NOW: u64 = 2;
@@ -30,14 +30,14 @@ fn holder_in(version: u64) -> Holder
 
 /// The stripes, the entries and the version of the history file that bytes are. The bytes are
 /// dropped.
-fn history_in(alloc: Global, bytes: Vec<u8>) -> Result<(u32, Vec<PackedEntry>, u64), FileFault>
+fn history_in(alloc: Global, bytes: Vec<u8>) -> Result<(u32, Vec<SmallEntry>, u64), FileFault>
     ensures { Gives (λ file. (file.0, file.1.items, file.2)) result (history_of bytes.items) }
 {
     read_packed_history(alloc, &bytes)
 }
 
 /// The verdict on entries in the order of their commits.
-fn in_order_of_commits(alloc: Global, entries: &[PackedEntry]) -> Result<Verdict, AllocError>
+fn in_order_of_commits(alloc: Global, entries: &[SmallEntry]) -> Result<Verdict, AllocError>
     requires { All (λ entry. caller_of entry < 64) entries.now }
     ensures { IfOk result (IsVerdictBy bases.Commits entries.now) }
 {
@@ -47,7 +47,7 @@ fn in_order_of_commits(alloc: Global, entries: &[PackedEntry]) -> Result<Verdict
 /// The verdict on entries by locks.
 fn by_locks(
     alloc: Global,
-    entries: &[PackedEntry],
+    entries: &[SmallEntry],
     stripes: u64,
     holder: Holder,
 ) -> Result<Verdict, AllocError>

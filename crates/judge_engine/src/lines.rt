@@ -10,7 +10,7 @@ use entry_lines::history_lines;
 use history_check::{Callers, Rule, Verdict};
 use std::alloc::{AllocError, Global};
 use std::fmt;
-use txn_trace::{Entry, Holder, PackedEntry, Phase, Reply};
+use txn_trace::{Entry, Holder, Phase, Reply, SmallEntry};
 
 /// A value, or none.
 #[derive(Clone, Copy)]
@@ -80,7 +80,7 @@ fn is_on(callers: &Callers, entry: Entry, key: u64) -> bool
 fn put_entries_on(
     alloc: Global,
     text: &mut String,
-    entries: &[PackedEntry],
+    entries: &[SmallEntry],
     key: u64,
     from: u64,
 ) -> Result<(), AllocError>
@@ -102,7 +102,7 @@ fn put_entries_on(
 fn put_since_commit(
     alloc: Global,
     text: &mut String,
-    entries: &[PackedEntry],
+    entries: &[SmallEntry],
     key: u64,
     commit: Option<(u64, u64)>,
 ) -> Result<(), AllocError>
@@ -130,7 +130,7 @@ fn put_since_commit(
 fn put_transaction(
     alloc: Global,
     text: &mut String,
-    entries: &[PackedEntry],
+    entries: &[SmallEntry],
     caller: u64,
 ) -> Result<(), AllocError> {
     let txn = txn_of(entries, caller);
@@ -167,7 +167,7 @@ fn put_last(text: &mut String, key: u64, last: Option<(Change, Fate)>) -> Result
 /// The last change of a key, and what became of it.
 fn last_in(
     alloc: Global,
-    entries: &[PackedEntry],
+    entries: &[SmallEntry],
     key: u64,
 ) -> Result<Option<(Change, Fate)>, AllocError>
     requires { All (λ entry. caller_of entry < 64) entries.now }
@@ -182,7 +182,7 @@ fn last_in(
 fn put_first_torn(
     alloc: Global,
     text: &mut String,
-    entries: &[PackedEntry],
+    entries: &[SmallEntry],
     since: Option<u64>,
 ) -> Result<(), AllocError> {
     let Some(index) = since else {
@@ -261,7 +261,7 @@ fn put_named(text: &mut String, entry: Entry, holder: Holder) -> Result<(), Allo
 fn put_reason(
     alloc: Global,
     text: &mut String,
-    entries: &[PackedEntry],
+    entries: &[SmallEntry],
     bad: Entry,
     reason: Reason,
 ) -> Result<(), AllocError>
@@ -313,7 +313,7 @@ fn put_reason(
 /// The lines that lead to the bad entry of a verdict by locks; none for a verdict of legal.
 pub(crate) fn lines_by_locks(
     alloc: Global,
-    entries: &[PackedEntry],
+    entries: &[SmallEntry],
     verdict: Verdict,
     stripes: u64,
     holder: Holder,
@@ -340,7 +340,7 @@ pub(crate) fn lines_by_locks(
 /// legal.
 pub(crate) fn lines_by_commits(
     alloc: Global,
-    entries: &[PackedEntry],
+    entries: &[SmallEntry],
     verdict: Verdict,
 ) -> Result<String, AllocError>
     requires { All (λ entry. caller_of entry < 64) entries.now }

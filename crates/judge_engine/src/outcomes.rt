@@ -13,7 +13,7 @@ use std::alloc::{AllocError, Global};
 use std::fmt;
 use std::io::{Read, Write};
 use txn_files::{FileFault, read_packed_history, read_scripts};
-use txn_trace::{Action, PackedEntry, Script, Scripts};
+use txn_trace::{Action, Script, Scripts, SmallEntry};
 
 /// Why there are no outcomes, and which file is at fault. It is printed as one line without its
 /// line feed.
@@ -216,7 +216,7 @@ fn scripts_in<R: Read + Drop>(alloc: Global, input: R) -> Result<Scripts, Outcom
 }
 
 /// The entries of the history file that a reader has left.
-fn entries_in<R: Read + Drop>(alloc: Global, input: R) -> Result<Vec<PackedEntry>, OutcomesFault>
+fn entries_in<R: Read + Drop>(alloc: Global, input: R) -> Result<Vec<SmallEntry>, OutcomesFault>
     ensures ok { IfOk result (λ entries. OfFile (R.remaining input)
         (HistoryOf entries.items)) }
     ensures err { IfErr result (FailsForHistory (R.remaining input)) }

@@ -7,7 +7,7 @@ ghost use Rattle.script_outcomes.specs.Ways.{AreFresh, AreNone};
 use crate::outcome::Outcome;
 use crate::way::{Way, Work};
 use std::alloc::{AllocError, Global};
-use txn_trace::{PackedEntry, Scripts};
+use txn_trace::{Scripts, SmallEntry};
 
 /// The ways of this many workers before the first entry.
 fn new_ways(alloc: Global, workers: usize) -> Result<Vec<Way>, AllocError>
@@ -55,7 +55,7 @@ fn none_yet(alloc: Global, scripts: usize) -> Result<Vec<Outcome>, AllocError>
 pub fn outcomes(
     alloc: Global,
     scripts: &Scripts,
-    entries: &[PackedEntry],
+    entries: &[SmallEntry],
 ) -> Result<Vec<Outcome>, AllocError>
     ensures { IfOk result (λ outcomes. AreOutcomes scripts.now.sizes.callers scripts.now.scripts
         entries.now outcomes.items) }

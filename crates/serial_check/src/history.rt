@@ -8,7 +8,7 @@ ghost use Rattle.serial_check.specs.Verdicts.{IsVerdictOn};
 use crate::checker::Checker;
 use history_check::Verdict;
 use std::alloc::{AllocError, Global};
-use txn_trace::{Entry, PackedEntry};
+use txn_trace::{Entry, SmallEntry};
 
 /// Judges a whole history, whose callers are below 64, by the order of its commits.
 ///
@@ -46,7 +46,7 @@ pub fn check(alloc: Global, entries: &[Entry]) -> Result<Verdict, AllocError>
 /// # Cost
 ///
 /// That of `check`.
-pub fn check_packed(alloc: Global, entries: &[PackedEntry]) -> Result<Verdict, AllocError>
+pub fn check_packed(alloc: Global, entries: &[SmallEntry]) -> Result<Verdict, AllocError>
     requires { All (λ entry. caller_of entry < 64) entries.now }
     ensures { IfOk result (IsVerdictOn entries.now) }
 {

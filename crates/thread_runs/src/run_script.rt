@@ -47,14 +47,17 @@ pub(crate) struct Heard {
 }
 
 impl Heard {
-    /// The first attempt, before its first call.
-    fn new(alloc: Global) -> Heard
+    /// The first attempt at a script of this many actions, before its first call. Room for all
+    /// replies is made at once; if that is refused, each call makes its own.
+    fn new(alloc: Global, actions: usize) -> Heard
         ensures { heard_of result ≡ first_heard }
     {
+        let mut replies = Vec::new(alloc);
+        let _room = replies.reserve(actions);
         Heard {
             attempt: Attempt::first(),
             txn: 0,
-            replies: Vec::new(alloc),
+            replies,
         }
     }
 
@@ -167,7 +170,7 @@ pub(crate) fn run_script<L: Ledger, G: Gate, R: Wait>(
 {
     let worker = me.number() as usize;
     let freed = Freed { gate, worker };
-    let mut heard = Heard::new(alloc);
+    let mut heard = Heard::new(alloc, script.len());
     for _ in rt.forever() {
         if let Stage::Acting(action) = heard.attempt.stage {
             gate.before(worker, number, action);

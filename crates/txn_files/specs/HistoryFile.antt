@@ -1,9 +1,12 @@
 -- The history file that bytes are, or its first fault.
-use Rattle.std.specs.Prelude.{ℕ, List, [], ◌∷◌, Bool, ◌-◌, ◌&&◌, nat_le, Result, Ok, Err, if◌then◌else◌, codes}
+use Rattle.std.specs.Prelude.{ℕ, List, [], ◌∷◌, Bool, ◌-◌, ◌&&◌, nat_le, Option, None, option_map, Result, Ok, Err, if◌then◌else◌, codes}
 use Rattle.std.specs.List.{list_all}
 use Rattle.txn_trace.specs.declared.entry.Entry.{Entry}
-use Rattle.txn_trace.specs.declared.entry.Entry.TheVariants.{Busy}
+use Rattle.txn_trace.specs.declared.entry.Entry.TheVariants.{Asked, Saved, Busy}
+use Rattle.serde_json.specs.Data.{Data}
+use Rattle.txn_trace.specs.declared.op.Op.TheVariants.{PutIf}
 use Rattle.txn_trace.specs.History.{caller_of}
+use Rattle.txn_trace.specs.Packed.{is_small}
 use Rattle.txn_trace.specs.Sizes.{max_callers, max_stripes}
 use Rattle.piece_files.specs.declared.part.Part.TheVariants as parts
 use Rattle.piece_files.specs.declared.file_fault.FileFault.{FileFault}
@@ -50,3 +53,31 @@ entries_from version other entries = Err Member
 -- The history file that the bytes are: its stripes, its entries and its version.
 abbrev pub history_of : List ℕ → Result (ℕ × List Entry × ℕ) FileFault
 history_of bytes = contents history_file bytes >>= λ file. entries_from file.0 file.1 file.2
+
+-- What is kept of an entry while a file is read: the entry, if it is small enough to be packed;
+-- otherwise one that is out of range as well, and that version 1 has if it has the entry.
+abbrev pub kept : Entry → Entry
+kept e =
+    if is_small e then e
+    else if is_old_entry e then Saved 65535
+    else Asked 65535 (PutIf 0 None 0)
+
+-- What is kept of the entry that an array in JSON is.
+unfoldable pub kept_of : List Data → Option Entry
+kept_of ds = option_map kept (entry_of ds)
+
+-- History files of which that is kept.
+abbrev pub kept_file : FileKind Entry
+kept_file = record {
+  numbers = codes "stripes" ∷ [];
+  pieces = codes "entries";
+  of = kept_of;
+  is_old = is_old_entry;
+  part = parts.Entry;
+  most = max_entries;
+}
+
+-- The history file that bytes are, if of each entry is kept what is packed: it is `history_of`.
+abbrev pub kept_history_of : List ℕ → Result (ℕ × List Entry × ℕ) FileFault
+kept_history_of bytes =
+    contents kept_file bytes >>= λ file. entries_from file.0 file.1 file.2

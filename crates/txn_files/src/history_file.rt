@@ -1,11 +1,12 @@
 //! History files: entries as pieces, which are kept packed, and the numbers around them. The loops
-//! over tokens are those of `piece_files`; this file says which shapes and ranges entries have.
+//! over tokens are those of `piece_files`; this file says which shapes and ranges entries have. An
+//! entry whose callers are too large to be packed is replaced by one that is out of range as well.
 ghost use Rattle.std.specs.Prelude.{◌≡◌, map, true, false, IfOk};
 ghost use Rattle.std.specs.List.{list_all};
 ghost use Rattle.piece_files.specs.Plain.{data_of};
 ghost use Rattle.piece_files.specs.Faults.{Gives};
 ghost use Rattle.txn_files.specs.Entries.{busy_of, entry_named, entry_of, is_old_entry, transaction_entry};
-ghost use Rattle.txn_files.specs.HistoryFile.{max_entries, is_in_range, is_history, entries_from, history_of};
+ghost use Rattle.txn_files.specs.HistoryFile.{max_entries, is_in_range, is_history, entries_from, history_of, kept, kept_of, kept_history_of};
 
 use crate::operation::{is_old_op, leading_op_in, op_in};
 use arrayvec::ArrayVec;
@@ -15,10 +16,14 @@ use piece_files::{
     plain_elements, read_file, word_in,
 };
 use std::alloc::{AllocError, Global};
-use txn_trace::{Entry, Limits, PackedEntry};
+use txn_trace::{Entry, Limits, Op, SmallEntry};
 
 /// The largest number that a caller may have.
 const MAX_CALLER: u64 = Limits::MAX_CALLERS - 1;
+
+/// The caller of an entry that replaces one with too large a caller: out of range, and small enough
+/// to be packed.
+const TOO_LARGE: u64 = 65_535;
 
 /// The most entries that a file may have.
 const MAX_ENTRIES: usize = 1_000_000;
@@ -88,22 +93,51 @@ fn entry_in(values: &[Plain<'_>]) -> Option<Entry>
     entry_named_in(name, caller, rest)
 }
 
-/// The entry that has these elements, packed.
-fn packed_entry_in(values: &[Plain<'_>]) -> Option<PackedEntry>
-    ensures { result ≡ entry_of (map data_of values.now) }
+/// Whether version 1 has an entry too.
+fn is_old_entry(entry: Entry) -> bool
+    ensures { result ≡ is_old_entry entry }
 {
-    Some(PackedEntry::new(entry_in(values)?))
+    match entry {
+        Entry::Asked(_, op) | Entry::Busy(_, op, _) => is_old_op(op),
+        _ => true,
+    }
 }
 
-/// Entries, as pieces of a history file. They are kept packed.
+/// The entry, packed; one that is too large for that is replaced.
+fn kept(entry: Entry) -> SmallEntry
+    ensures { result ≡ kept entry }
+{
+    if let Some(small) = SmallEntry::new(entry) {
+        return small;
+    }
+    let replaced = if is_old_entry(entry) {
+        Entry::Saved(TOO_LARGE)
+    } else {
+        Entry::Asked(TOO_LARGE, Op::PutIf(0, None, 0))
+    };
+    let Some(small) = SmallEntry::new(replaced) else {
+        unreachable!()
+    };
+    small
+}
+
+/// What is kept of the entry that has these elements.
+#[tactic(auto, unfolding(crate::specs::HistoryFile::kept_of))]
+fn kept_entry_in(values: &[Plain<'_>]) -> Option<SmallEntry>
+    ensures { result ≡ kept_of (map data_of values.now) }
+{
+    Some(kept(entry_in(values)?))
+}
+
+/// Entries, as pieces of a history file: what is kept of each.
 struct EntryKind;
 
 impl PieceKind for EntryKind {
     ghost use Rattle.piece_files.specs.declared.part.Part.TheVariants as parts;
 
-    type Piece = PackedEntry;
+    type Piece = SmallEntry;
 
-    ghost of = { entry_of };
+    ghost of = { kept_of };
 
     ghost is_old = { is_old_entry };
 
@@ -117,26 +151,23 @@ impl PieceKind for EntryKind {
         Part::Entry
     }
 
-    fn is_old(entry: &PackedEntry) -> bool {
-        match entry.entry() {
-            Entry::Asked(_, op) | Entry::Busy(_, op, _) => is_old_op(op),
-            _ => true,
-        }
+    fn is_old(entry: &SmallEntry) -> bool {
+        is_old_entry(entry.entry())
     }
 
     fn most() -> usize {
         MAX_ENTRIES
     }
 
-    #[tactic(auto, using(crate::proofs::PlainPieces::no_entry))]
+    #[tactic(auto, using(crate::proofs::Kept::none_kept))]
     fn read(
         _alloc: Global,
         reader: &mut Reader<'_>,
         depth: usize,
-    ) -> Result<Option<PackedEntry>, Stop> {
+    ) -> Result<Option<SmallEntry>, Stop> {
         let mut elements = ArrayVec::<Plain<'_>, MAX_ELEMENTS>::new();
         if plain_elements(reader, depth, &mut elements)? {
-            Ok(packed_entry_in(&elements))
+            Ok(kept_entry_in(&elements))
         } else {
             Ok(None)
         }
@@ -147,18 +178,18 @@ impl PieceKind for EntryKind {
         text: &str,
         at: &mut usize,
         _depth: usize,
-    ) -> Result<Option<PackedEntry>, AllocError> {
+    ) -> Result<Option<SmallEntry>, AllocError> {
         let mut elements = ArrayVec::<Plain<'_>, MAX_ELEMENTS>::new();
         let Some(end) = elements_at(text, *at, &mut elements) else {
             return Ok(None);
         };
         *at = end;
-        Ok(packed_entry_in(&elements))
+        Ok(kept_entry_in(&elements))
     }
 }
 
 /// Whether the callers of an entry are in range.
-fn is_in_range(entry: &PackedEntry) -> bool
+fn is_in_range(entry: &SmallEntry) -> bool
     ensures { result ≡ is_in_range entry.now }
 {
     match entry.entry() {
@@ -176,14 +207,14 @@ fn is_in_range(entry: &PackedEntry) -> bool
 }
 
 /// Whether the callers of all entries are in range.
-fn are_in_range(entries: &[PackedEntry]) -> bool
+fn are_in_range(entries: &[SmallEntry]) -> bool
     ensures { result ≡ list_all is_in_range entries.now }
 {
     entries.iter().all(|entry| is_in_range(entry))
 }
 
 /// Whether the number of stripes and the callers of a history are in range.
-fn is_history(stripes: u64, entries: &[PackedEntry]) -> bool
+fn is_history(stripes: u64, entries: &[SmallEntry]) -> bool
     ensures { result ≡ is_history stripes entries.now }
 {
     1 <= stripes && stripes <= Limits::MAX_STRIPES && are_in_range(entries)
@@ -195,8 +226,8 @@ fn is_history(stripes: u64, entries: &[PackedEntry]) -> bool
 fn entries_in(
     version: u64,
     numbers: [u64; 1],
-    entries: Vec<PackedEntry>,
-) -> Result<(u32, Vec<PackedEntry>, u64), FileFault>
+    entries: Vec<SmallEntry>,
+) -> Result<(u32, Vec<SmallEntry>, u64), FileFault>
     ensures { Gives (λ file. (file.0, file.1.items, file.2)) result
         (entries_from version numbers entries.items) }
 {
@@ -247,7 +278,7 @@ pub fn read_history(alloc: Global, bytes: &[u8]) -> Result<(u32, Vec<Entry>, u64
 /// # Errors
 ///
 /// `AllocError` if memory is refused.
-fn unpacked(alloc: Global, packed: &[PackedEntry]) -> Result<Vec<Entry>, AllocError>
+fn unpacked(alloc: Global, packed: &[SmallEntry]) -> Result<Vec<Entry>, AllocError>
     ensures { IfOk result (λ entries. entries.items ≡ packed.now) }
 {
     let mut entries = Vec::with_capacity(alloc, packed.len())?;
@@ -258,7 +289,7 @@ fn unpacked(alloc: Global, packed: &[PackedEntry]) -> Result<Vec<Entry>, AllocEr
 }
 
 /// The number of stripes, the packed entries and the version of a history file, as `read_history`
-/// reads it. Packed entries take three quarters of the memory.
+/// reads it. Packed entries take half of the memory.
 ///
 /// # Errors
 ///
@@ -270,8 +301,16 @@ fn unpacked(alloc: Global, packed: &[PackedEntry]) -> Result<Vec<Entry>, AllocEr
 pub fn read_packed_history(
     alloc: Global,
     bytes: &[u8],
-) -> Result<(u32, Vec<PackedEntry>, u64), FileFault>
+) -> Result<(u32, Vec<SmallEntry>, u64), FileFault>
     ensures { Gives (λ file. (file.0, file.1.items, file.2)) result (history_of bytes.now) }
+{
+    kept_history(alloc, bytes)
+}
+
+/// The history file that there is if of each entry is kept what is packed. No history in range has
+/// an entry that is replaced, so it is the file's.
+fn kept_history(alloc: Global, bytes: &[u8]) -> Result<(u32, Vec<SmallEntry>, u64), FileFault>
+    ensures { Gives (λ file. (file.0, file.1.items, file.2)) result (kept_history_of bytes.now) }
 {
     let (version, numbers, entries) = read_file::<EntryKind, 1>(
         alloc,
