@@ -63,6 +63,15 @@ moved_none map a b x c same = record {
   goes = subst (Extends (stripes_of map) (known a.seat).number (known a.seat).seen []) (sym (ap (λ z. (known z).seen) same)) x.goes;
 }
 
+-- The same of a hand whose seat knows the same.
+pub moved_known : (map : StripedMap) (a b : Hand) (es : List Entry) → Moves map a es b → (c : Hand) → known c.seat ≡ known b.seat → Moves map a es c
+moved_known map a b es x c same = record {
+  number_is = ap (λ (v : View). v.number) same ∙ x.number_is;
+  retired_is = ap (λ (v : View). v.retired) same ∙ x.retired_is;
+  made_is = ap (λ (v : View). v.made) same ∙ x.made_is;
+  goes = subst (λ (v : View). Extends (stripes_of map) (known a.seat).number (known a.seat).seen es v.seen) (sym same) x.goes;
+}
+
 -- Nothing was added, and nothing seen.
 pub moved_still : (map : StripedMap) (a : Hand) → IsOf a.seat map → Moves map a [] a
 moved_still map a of = record { number_is = refl; retired_is = refl; made_is = refl; goes = extends_none (stripes_of map) (known a.seat).number (known a.seat).seen (subst (λ z. IsLegal Begun z.slots (known a.seat).seen) of a.sound.legal) }

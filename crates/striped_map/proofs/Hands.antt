@@ -22,11 +22,12 @@ use Rattle.txn_trace.proofs.Table.{get-set_at}
 use Rattle.stripe_part.specs.PartAt.{PartAt}
 use Rattle.stripe_part.specs.Calls.{Does, TakesBack}
 use Rattle.striped_map.specs.declared.view.View.{View}
-use Rattle.striped_map.specs.declared.held.Held.{Held}
+use Rattle.striped_map.specs.declared.seat.MapSeat.{MapSeat}
 use Rattle.striped_map.specs.Rule.{times, Holds, Fits}
+use Rattle.striped_map.specs.Seats.{HoldsAll, LeavesOthers, part_in}
 use Rattle.striped_map.specs.Steps.{Extends, TakesIn, removed, lost, undone}
 use Rattle.striped_map.specs.Handling.{under}
-use Rattle.striped_map.specs.Sound.{stripes_in, owed_in, at_place, of_job, Change, Spot, AreHeld, AreLogged}
+use Rattle.striped_map.specs.Sound.{Held, parts_of, stripes_in, with_part, owed_in, at_place, of_job, Change, Spot, AreHeld, AreLogged}
 use Rattle.striped_map.proofs.Lands.{own-append, own-none}
 
 abbrev pub Job : Type 0
@@ -67,9 +68,9 @@ place_in (x ∷ xs) zero a e = omega arith
 place_in (x ∷ xs) (suc i) a e = let lt : i < length xs = place_in xs i a e in omega arith
 
 -- What is read at a place.
-pub read_at : (xs : List Held) (k : ℕ) (h : Held) → k < length xs → h ≡ get_or xs k h → slice_get xs k ≡ Some h
+pub read_at : (xs : List ℕ) (k h : ℕ) → k < length xs → h ≡ get_or xs k h → slice_get xs k ≡ Some h
 read_at [] k h lt e = absurd (omega arith)
-read_at (x ∷ xs) zero h lt e = ap (λ (y : Held). Some y) (sym e)
+read_at (x ∷ xs) zero h lt e = ap (λ (y : ℕ). Some y) (sym e)
 read_at (x ∷ xs) (suc k) h lt e = read_at xs k h (omega arith) e
 
 -- The stripes of parts.
@@ -91,6 +92,32 @@ pub stripes_set : (held : List Held) (j : ℕ) (h new : Held) → slice_get held
 stripes_set [] j h new at same = refl
 stripes_set (x ∷ held) zero h new at same = ap (λ (k : ℕ). k ∷ stripes_in held) (same ∙ ap (λ (y : Held). y.stripe) (sym (some_same x h at)))
 stripes_set (x ∷ held) (suc j) h new at same = ap (λ (l : List ℕ). x.stripe ∷ l) (stripes_set held j h new at same)
+
+-- Stripes with their parts.
+pub stripes_with : (f : ℕ → PartAt) (ks : List ℕ) → stripes_in (map (with_part f) ks) ≡ ks
+stripes_with f [] = refl
+stripes_with f (k ∷ ks) = ap (λ (l : List ℕ). k ∷ l) (stripes_with f ks)
+
+pub with_at : (f : ℕ → PartAt) (ks : List ℕ) (i k : ℕ) → slice_get ks i ≡ Some k → slice_get (map (with_part f) ks) i ≡ Some (with_part f k)
+with_at f [] i k e = absurd (none_some k e)
+with_at f (x ∷ ks) zero k e = ap (λ (y : ℕ). Some (with_part f y)) (some_same x k e)
+with_at f (x ∷ ks) (suc i) k e = with_at f ks i k e
+
+pub with_push : (f : ℕ → PartAt) (ks : List ℕ) (k : ℕ) → map (with_part f) (ks ++ k ∷ []) ≡ map (with_part f) ks ++ with_part f k ∷ []
+with_push f [] k = refl
+with_push f (x ∷ ks) k = ap (λ (l : List Held). with_part f x ∷ l) (with_push f ks k)
+
+-- The parts of other stripes are the same.
+pub with_same : (f g : ℕ → PartAt) (ks : List ℕ) → ((i k : ℕ) → slice_get ks i ≡ Some k → g k ≡ f k) → map (with_part g) ks ≡ map (with_part f) ks
+with_same f g [] same = refl
+with_same f g (x ∷ ks) same = ap (λ (p : PartAt). (record { stripe = x; part = p }) ∷ map (with_part g) ks) (same 0 x refl) ∙ ap (λ (l : List Held). with_part f x ∷ l) (with_same f g ks (λ i k at. same (suc i) k at))
+
+pub with_set : (f g : ℕ → PartAt) (ks : List ℕ) (j k : ℕ) → slice_get ks j ≡ Some k → ((i : ℕ) → slice_get ks i ≡ Some k → i ≡ j) → ((other : ℕ) → other ≢ k → g other ≡ f other) → map (with_part g) ks ≡ set (map (with_part f) ks) j (with_part g k)
+with_set f g [] j k at apart same = absurd (none_some k at)
+with_set f g (x ∷ ks) zero k at apart same = ap (λ (y : ℕ). with_part g y ∷ map (with_part g) ks) (some_same x k at)
+    ∙ ap (λ (l : List Held). with_part g k ∷ l) (with_same f g ks (λ i other there. same other (λ e. absurd (let z = apart (suc i) (there ∙ ap (λ (y : ℕ). Some y) e) in omega arith))))
+with_set f g (x ∷ ks) (suc j) k at apart same = ap (λ (p : PartAt). (record { stripe = x; part = p }) ∷ map (with_part g) ks) (same x (λ e. absurd (let z = apart 0 (ap (λ (y : ℕ). Some y) e) in omega arith)))
+    ∙ ap (λ (l : List Held). with_part f x ∷ l) (with_set f g ks j k at (λ i there. let z = apart (suc i) there in omega arith) same)
 
 -- Which stripes are held.
 times_same : (k : ℕ) (ks : List ℕ) → times k (k ∷ ks) ≡ 1 + times k ks
@@ -154,6 +181,33 @@ parts_taken n k v w held part s none t = let new : Held = record { stripe = k; p
           (λ (x : slice_get held i ≡ Some h). λ q in_k. s.fits i h x q in_k ∙ sym (t.still q (subst (Holds v) (sym in_k) (holds_at n v held (now v.seen) s i h.stripe (stripe_at held i h x)))))
           (λ (x : (i ≡ length held) × (new ≡ h)). subst (λ (y : Held). Fits n y.stripe y.part (now w.seen)) x.1 t.part_is.fits) (push_at held new h i at);
     }
+
+-- The stripes of a seat's parts.
+pub stripe_in : (seat : MapSeat) (ks : List ℕ) (i k : ℕ) → slice_get ks i ≡ Some k → slice_get (stripes_in (parts_of seat ks)) i ≡ Some k
+stripe_in seat ks i k at = ap (λ (l : List ℕ). slice_get l i) (stripes_with (part_in seat) ks) ∙ at
+
+pub none_in : (seat : MapSeat) (ks : List ℕ) (k : ℕ) → ((i : ℕ) → slice_get ks i ≢ Some k) → (i : ℕ) → slice_get (stripes_in (parts_of seat ks)) i ≢ Some k
+none_in seat ks k none i at = none i (ap (λ (l : List ℕ). slice_get l i) (sym (stripes_with (part_in seat) ks)) ∙ at)
+
+pub apart_in : (n : ℕ) (v : View) (seat : MapSeat) (ks : List ℕ) (m : Map) → AreHeld n v (parts_of seat ks) m → (i j k : ℕ) → slice_get ks i ≡ Some k → slice_get ks j ≡ Some k → i ≡ j
+apart_in n v seat ks m s i j k x y = s.apart i j k (stripe_in seat ks i k x) (stripe_in seat ks j k y)
+
+pub holds_in : (n : ℕ) (v : View) (seat : MapSeat) (ks : List ℕ) (m : Map) → AreHeld n v (parts_of seat ks) m → HoldsAll v ks
+holds_in n v seat ks m s i k at = holds_at n v (parts_of seat ks) m s i k (stripe_in seat ks i k at)
+
+-- The parts of a seat that has one more stripe, of one whose part of one stripe is another, and of
+-- one that gave a stripe back.
+pub parts_pushed : (a b : MapSeat) (ks : List ℕ) (k : ℕ) → ((i : ℕ) → slice_get ks i ≢ Some k) → LeavesOthers k a b → parts_of b (ks ++ k ∷ []) ≡ parts_of a ks ++ with_part (part_in b) k ∷ []
+parts_pushed a b ks k none others = with_push (part_in b) ks k ∙ ap (λ (l : List Held). l ++ with_part (part_in b) k ∷ [])
+    (with_same (part_in a) (part_in b) ks (λ i other at. others other (λ e. none i (at ∙ ap (λ (x : ℕ). Some x) e))))
+
+pub parts_worked : (n : ℕ) (v : View) (a b : MapSeat) (ks : List ℕ) (m : Map) → AreHeld n v (parts_of a ks) m → (j k : ℕ) → slice_get ks j ≡ Some k → LeavesOthers k a b → parts_of b ks ≡ set (parts_of a ks) j (with_part (part_in b) k)
+parts_worked n v a b ks m s j k at others = with_set (part_in a) (part_in b) ks j k at (λ i there. apart_in n v a ks m s i j k there at) others
+
+pub parts_less : (n : ℕ) (v : View) (a b : MapSeat) (ks : List ℕ) (k : ℕ) (m : Map) → AreHeld n v (parts_of a (ks ++ k ∷ [])) m → LeavesOthers k a b → parts_of b ks ≡ parts_of a ks
+parts_less n v a b ks k m s others = with_same (part_in a) (part_in b) ks (λ i other at. others other (λ e.
+    let last : i ≡ length ks = apart_in n v a (ks ++ k ∷ []) m s i (length ks) k (push_old ks k k i (at ∙ ap (λ (x : ℕ). Some x) e)) (push_last ks k) in
+    let lt : i < length ks = place_in ks i other at in omega arith))
 
 -- The changes of a stripe.
 owed_mine : (n k : ℕ) (job : Job) (jobs : List Job) → stripe_of n job.0 ≡ k → owed_in n k (job ∷ jobs) ≡ owed_in n k jobs + 1

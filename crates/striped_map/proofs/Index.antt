@@ -1,17 +1,13 @@
 -- The index by stripe: which places it has once parts are taken or given back.
-use Rattle.std.proofs.Common.{◌≡◌, ◌≢◌, ℕ, zero, suc, ◌<◌, ◌≤◌, ◌==◌, true, false, ◌||◌, List, [], ◌∷◌, ◌++◌, length, set, take, reverse, None, Some, slice_get, sym, refl, ◌∙◌, ap, subst, ⊎_elim, arith, ne_eqb}
+use Rattle.std.proofs.Common.{◌≡◌, ◌≢◌, ℕ, zero, suc, ◌<◌, ◌≤◌, true, false, ◌||◌, List, [], ◌∷◌, ◌++◌, length, set, take, None, Some, slice_get, sym, refl, ◌∙◌, ap, ⊎_elim, arith, ne_eqb}
 use mathlib.Core.Logic.{dite}
 use native.Mathlib.Decide.{ℕ_discrete}
 use Rattle.std.specs.List.{AllByRecursion, IsDistinct, list_any}
 use Rattle.std.proofs.Math.Dec.{eqb}
 use Rattle.std.proofs.lemmas.Bool.{false≢true}
 use Rattle.std.proofs.lemmas.Map.Steps.{length-le_from_distinct_below}
-use Rattle.std.proofs.lemmas.List.{reverse-reverse}
-use Rattle.txn_trace.specs.Map.{Map}
-use Rattle.striped_map.specs.declared.view.View.{View}
-use Rattle.striped_map.specs.declared.held.Held.{Held}
-use Rattle.striped_map.specs.Sound.{AreHeld, IsIndexed, stripes_in}
-use Rattle.striped_map.proofs.Hands.{none_some, some_same, part_at, push_at, stripe_at, stripes_push}
+use Rattle.striped_map.specs.Sound.{IsIndexed}
+use Rattle.striped_map.proofs.Hands.{none_some, some_same, push_at}
 
 -- What a longer list has, and one with another element.
 pub resized_at : (xs ys : List ℕ) (n i a : ℕ) → length xs ≤ n → slice_get xs i ≡ Some a → slice_get (take n xs ++ ys) i ≡ Some a
@@ -32,43 +28,34 @@ set_away (x ∷ xs) zero (suc j) a b ne e = e
 set_away (x ∷ xs) (suc i) zero a b ne e = e
 set_away (x ∷ xs) (suc i) (suc j) a b ne e = set_away xs i j a b (λ same. ne (ap suc same)) e
 
--- No part has a stripe for which the index has no place, a place without a part, or that of another.
-pub none_indexed : (held : List Held) (index : List ℕ) → IsIndexed held index → (stripe : ℕ) → slice_get index stripe ≡ None → (other : ℕ) → slice_get (stripes_in held) other ≢ Some stripe
-none_indexed held index is stripe none other at = none_some other (sym none ∙ is other stripe at)
+-- No place has a stripe for which the index has no place, a place past the end, or that of another.
+pub none_indexed : (ks index : List ℕ) → IsIndexed ks index → (stripe : ℕ) → slice_get index stripe ≡ None → (other : ℕ) → slice_get ks other ≢ Some stripe
+none_indexed ks index is stripe none other at = none_some other (sym none ∙ is other stripe at)
 
-pub none_placed : (held : List Held) (index : List ℕ) → IsIndexed held index → (stripe place : ℕ) → slice_get index stripe ≡ Some place → slice_get held place ≡ None → (other : ℕ) → slice_get (stripes_in held) other ≢ Some stripe
-none_placed held index is stripe place found none other at =
+pub none_placed : (ks index : List ℕ) → IsIndexed ks index → (stripe place : ℕ) → slice_get index stripe ≡ Some place → slice_get ks place ≡ None → (other : ℕ) → slice_get ks other ≢ Some stripe
+none_placed ks index is stripe place found none other at =
     let same : other ≡ place = some_same other place (sym (is other stripe at) ∙ found) in
-    let part = part_at held other stripe at in
-    none_some part.0 (sym none ∙ ap (slice_get held) (sym same) ∙ part.1)
+    none_some stripe (sym none ∙ ap (slice_get ks) (sym same) ∙ at)
 
-pub none_other : (held : List Held) (index : List ℕ) → IsIndexed held index → (stripe place : ℕ) (h : Held) → slice_get index stripe ≡ Some place → slice_get held place ≡ Some h → h.stripe ≢ stripe → (other : ℕ) → slice_get (stripes_in held) other ≢ Some stripe
-none_other held index is stripe place h found part ne other at =
+pub none_other : (ks index : List ℕ) → IsIndexed ks index → (stripe place k : ℕ) → slice_get index stripe ≡ Some place → slice_get ks place ≡ Some k → k ≢ stripe → (other : ℕ) → slice_get ks other ≢ Some stripe
+none_other ks index is stripe place k found there ne other at =
     let same : other ≡ place = some_same other place (sym (is other stripe at) ∙ found) in
-    ne (some_same h.stripe stripe (sym (stripe_at held place h part) ∙ ap (slice_get (stripes_in held)) (sym same) ∙ at))
+    ne (some_same k stripe (sym there ∙ ap (slice_get ks) (sym same) ∙ at))
 
--- The parts of the same stripes; a longer index; no parts.
-pub indexed_same : (held new : List Held) (index : List ℕ) → stripes_in new ≡ stripes_in held → IsIndexed held index → IsIndexed new index
-indexed_same held new index same is place stripe at = is place stripe (ap (λ (l : List ℕ). slice_get l place) (sym same) ∙ at)
+-- A longer index; no stripes; one stripe more.
+pub indexed_longer : (ks index later : List ℕ) → ((stripe place : ℕ) → slice_get index stripe ≡ Some place → slice_get later stripe ≡ Some place) → IsIndexed ks index → IsIndexed ks later
+indexed_longer ks index later keeps is place stripe at = keeps stripe place (is place stripe at)
 
-pub indexed_longer : (held : List Held) (index later : List ℕ) → ((stripe place : ℕ) → slice_get index stripe ≡ Some place → slice_get later stripe ≡ Some place) → IsIndexed held index → IsIndexed held later
-indexed_longer held index later keeps is place stripe at = keeps stripe place (is place stripe at)
+pub indexed_none : (ks index : List ℕ) → ks ≡ [] → IsIndexed ks index
+indexed_none ks index none place stripe at = absurd (none_some stripe (sym (ap (λ (l : List ℕ). slice_get l place) none) ∙ at))
 
-pub indexed_none : (held : List Held) (index : List ℕ) → held ≡ [] → IsIndexed held index
-indexed_none held index none place stripe at = absurd (none_some stripe (sym (ap (λ (l : List Held). slice_get (stripes_in l) place) none) ∙ at))
-
--- One more part.
-pub indexed_taken : (held : List Held) (index : List ℕ) (new : Held) (place : ℕ) → ((i : ℕ) → slice_get (stripes_in held) i ≢ Some new.stripe) → new.stripe < length index → place ≡ length (stripes_in held) → IsIndexed held index → IsIndexed (held ++ new ∷ []) (set index new.stripe place)
-indexed_taken held index new place none lt long is i stripe at =
-    ⊎_elim (λ (old : slice_get (stripes_in held) i ≡ Some stripe).
-    set_away index new.stripe stripe place i (λ same. none i (old ∙ ap (λ (k : ℕ). Some k) same)) (is i stripe old))
-    (λ (last : (i ≡ length (stripes_in held)) × (new.stripe ≡ stripe)).
-    ap (slice_get (set index new.stripe place)) (sym last.1) ∙ set_here index new.stripe place lt ∙ ap (λ (k : ℕ). Some k) (long ∙ sym last.0))
-    (push_at (stripes_in held) new.stripe stripe i (ap (λ (l : List ℕ). slice_get l i) (sym (stripes_push held new)) ∙ at))
-
--- The parts of a seat that holds the same stripes.
-pub same_stripes : (n k : ℕ) (v : View) (held new : List Held) (m l : Map) → AreHeld n v held m → AreHeld k v new l → stripes_in new ≡ stripes_in held
-same_stripes n k v held new m l old later = sym (reverse-reverse (stripes_in new)) ∙ ap reverse (sym later.kept ∙ old.kept) ∙ reverse-reverse (stripes_in held)
+pub indexed_taken : (ks index : List ℕ) (k place : ℕ) → ((i : ℕ) → slice_get ks i ≢ Some k) → k < length index → place ≡ length ks → IsIndexed ks index → IsIndexed (ks ++ k ∷ []) (set index k place)
+indexed_taken ks index k place none lt long is i stripe at =
+    ⊎_elim (λ (old : slice_get ks i ≡ Some stripe).
+    set_away index k stripe place i (λ same. none i (old ∙ ap (λ (x : ℕ). Some x) same)) (is i stripe old))
+    (λ (last : (i ≡ length ks) × (k ≡ stripe)).
+    ap (slice_get (set index k place)) (sym last.1) ∙ set_here index k place lt ∙ ap (λ (x : ℕ). Some x) (long ∙ sym last.0))
+    (push_at ks k stripe i at)
 
 -- A list whose numbers differ and are below n is no longer than n.
 others_apart : (k : ℕ) (ks : List ℕ) → ((i : ℕ) → slice_get ks i ≢ Some k) → AllByRecursion (λ other. eqb k other ≡ false) ks

@@ -1,5 +1,5 @@
 -- The pairs of the parts of all stripes are the pairs of the map.
-use Rattle.std.proofs.Common.{◌≡◌, ◌≢◌, ℕ, zero, suc, ◌+◌, ◌*◌, ◌/◌, ◌%◌, ◌<◌, ◌≤◌, ◌==◌, Bool, cond, T, List, [], ◌∷◌, ◌++◌, length, map, filter, flat_map, sum_by, reverse, Some, slice_get, sym, refl, ◌∙◌, ap, subst, arith, eq-eqb, ne_eqb, IsPermutation, is_lt, nat_cmp, Less, le_of_eq, lt_of_not-le, mod-lt}
+use Rattle.std.proofs.Common.{take, drop, append-nil, append_assoc, ◌≡◌, ◌≢◌, ℕ, zero, suc, ◌+◌, ◌*◌, ◌/◌, ◌%◌, ◌<◌, ◌≤◌, ◌==◌, Bool, cond, T, List, [], ◌∷◌, ◌++◌, length, map, filter, flat_map, sum_by, reverse, Some, slice_get, sym, refl, ◌∙◌, ap, subst, arith, eq-eqb, ne_eqb, IsPermutation, is_lt, nat_cmp, Less, le_of_eq, lt_of_not-le, mod-lt}
 use mathlib.Core.Logic.{dite}
 use native.Mathlib.Decide.{ℕ_discrete}
 use Rattle.std.specs.FinMap.{nat_cmp-IsAntisymmetric}
@@ -14,12 +14,12 @@ use Rattle.txn_trace.specs.Locks.{stripe_of}
 use Rattle.txn_trace.specs.Map.{Map, get}
 use Rattle.txn_trace.proofs.Order.{pair_parts, pair_both}
 use Rattle.stripe_part.proofs.Rows.{below_is}
-use Rattle.striped_map.specs.declared.held.Held.{Held}
+use Rattle.stripe_part.specs.PartAt.{PartAt}
 use Rattle.striped_map.specs.declared.view.View.{View}
 use Rattle.striped_map.specs.Rule.{times, Holds, Fits}
-use Rattle.striped_map.specs.Sound.{AreHeld, stripes_in}
+use Rattle.striped_map.specs.Sound.{Held, AreHeld, stripes_in, with_part}
 use Rattle.striped_map.specs.Contents.{count_at, pairs_at, pairs_in, whole}
-use Rattle.striped_map.proofs.Hands.{at_times, holds_at, stripe_at, times_reverse}
+use Rattle.striped_map.proofs.Hands.{at_times, holds_at, none_some, some_same, stripe_at, times_reverse}
 
 abbrev Pair : Type 0
 Pair = ℕ × ℕ
@@ -177,6 +177,18 @@ all_pairs n v held m some s all inside = subst (IsPermutation m.rows)
     once : (k : ℕ) → k < n → times k (stripes_in held) ≡ 1
     once k lt = let some : 0 < times k (reverse (stripes_in held)) = subst (λ (ks : List ℕ). 0 < times k ks) s.kept (all k lt) in
         omega (arith, some, times_reverse k (stripes_in held), times_once k (stripes_in held) s.apart)
+
+-- The parts up to a place, one after the other: how many pairs are left to count, and which were added.
+pub sum_drop : (f : ℕ → PartAt) (ks : List ℕ) (i k : ℕ) → slice_get ks i ≡ Some k → sum_by count_at (map (with_part f) (drop i ks)) ≡ count_at (with_part f k) + sum_by count_at (map (with_part f) (drop (suc i) ks))
+sum_drop f [] i k at = absurd (none_some k at)
+sum_drop f (x ∷ ks) zero k at = sum_by-cons count_at (with_part f x) (map (with_part f) ks) ∙ ap (λ (y : ℕ). count_at (with_part f y) + sum_by count_at (map (with_part f) ks)) (some_same x k at)
+sum_drop f (x ∷ ks) (suc i) k at = sum_drop f ks i k at
+
+pub pairs_take : (n : ℕ) (f : ℕ → PartAt) (ks : List ℕ) (i k : ℕ) → slice_get ks i ≡ Some k → pairs_in n (map (with_part f) (take (suc i) ks)) ≡ pairs_in n (map (with_part f) (take i ks)) ++ pairs_at n (with_part f k)
+pairs_take n f [] i k at = absurd (none_some k at)
+pairs_take n f (x ∷ ks) zero k at = append-nil (pairs_at n (with_part f x)) ∙ ap (λ (y : ℕ). pairs_at n (with_part f y)) (some_same x k at)
+pairs_take n f (x ∷ ks) (suc i) k at = ap (λ (l : List Pair). pairs_at n (with_part f x) ++ l) (pairs_take n f ks i k at)
+    ∙ sym (append_assoc (pairs_at n (with_part f x)) (pairs_in n (map (with_part f) (take i ks))) (pairs_at n (with_part f k)))
 
 -- How many there are.
 length_pairs : (n : ℕ) (held : List Held) → length (pairs_in n held) ≡ sum_by count_at held

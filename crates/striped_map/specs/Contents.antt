@@ -1,7 +1,7 @@
 -- What the parts of stripes have together.
 use Rattle.std.specs.Prelude.{ℕ, ◌+◌, ◌*◌, List, map, flat_map}
 use Rattle.txn_trace.specs.Map.{count_of}
-use Rattle.striped_map.specs.declared.held.Held.{Held}
+use Rattle.striped_map.specs.Sound.{Held}
 
 -- How many pairs a part has.
 abbrev pub count_at : Held → ℕ

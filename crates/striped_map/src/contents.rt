@@ -1,20 +1,31 @@
-//! What parts have together: how many pairs, and the pairs under their whole keys.
+//! What the parts of stripes that a seat holds have together: how many pairs, and the pairs under
+//! their whole keys.
 //!
 //! A part has the pairs of its stripe under sub-keys. The two functions read parts and change
 //! nothing; each takes time in proportion to the parts and what it answers.
 ghost use Rattle.std.specs.Prelude.{◌≡◌, ◌+◌, ◌*◌, ◌++◌, sum_by, IfOk, IfSome, OnOk};
 ghost use Rattle.striped_map.specs.Contents.{count_at, pairs_at, pairs_in};
+ghost use Rattle.striped_map.specs.Rule.{Holds};
+ghost use Rattle.striped_map.specs.Seats.{HoldsAll, IsOf, known, part_in, stripes_of};
+ghost use Rattle.striped_map.specs.Sound.{parts_of, with_part};
 
-use crate::held::Held;
+use crate::map::StripedMap;
+use crate::seat::MapSeat;
 use std::alloc::{AllocError, Global};
 
 /// How many pairs the parts have, if 64 bits can count them.
-pub(crate) fn count_of(held: &Vec<Held>) -> Option<u64>
-    ensures { IfSome result (λ count. count ≡ sum_by count_at held.now.items) }
+pub(crate) fn count_of(map: &StripedMap, seat: &mut MapSeat, held: &Vec<usize>) -> Option<u64>
+    requires seat { IsOf seat.old map.now }
+    requires held { HoldsAll (known seat.old) held.now.items }
+    ensures seat { IsOf seat.new map.now }
+    ensures known { known seat.new ≡ known seat.old }
+    ensures parts { part_in seat.new ≡ part_in seat.old }
+    ensures count { IfSome result (λ count. count
+        ≡ sum_by count_at (parts_of seat.old held.now.items)) }
 {
     let mut count: u64 = 0;
     for place in 0..held.len() {
-        count = count.checked_add(held[place].part.len())?;
+        count = count.checked_add(map.count(seat, held[place]))?;
     }
     Some(count)
 }
@@ -29,16 +40,24 @@ fn whole_key(stripes: u64, stripe: usize, sub_key: u64) -> Option<u64>
 /// Adds the pairs of a part, under their whole keys.
 fn add_pairs(
     alloc: Global,
-    stripes: u64,
-    one: &Held,
+    map: &StripedMap,
+    seat: &mut MapSeat,
+    stripe: usize,
     pairs: &mut Vec<(u64, u64)>,
 ) -> Result<(), AllocError>
-    ensures { OnOk result (pairs.new.items ≡ pairs.old.items ++ pairs_at stripes one.now) }
+    requires seat { IsOf seat.old map.now }
+    requires held { Holds (known seat.old) stripe }
+    ensures seat { IsOf seat.new map.now }
+    ensures known { known seat.new ≡ known seat.old }
+    ensures parts { part_in seat.new ≡ part_in seat.old }
+    ensures pairs { OnOk result (pairs.new.items ≡ pairs.old.items
+        ++ pairs_at (stripes_of map.now) (with_part (part_in seat.old) stripe)) }
 {
-    let found = one.part.pairs(alloc)?;
+    let found = map.pairs(seat, alloc, stripe)?;
+    let stripes = map.stripes() as u64;
     pairs.reserve(found.len())?;
     for place in 0..found.len() {
-        let Some(key) = whole_key(stripes, one.stripe, found[place].0) else {
+        let Some(key) = whole_key(stripes, stripe, found[place].0) else {
             return Err(AllocError);
         };
         pairs.push_reserved((key, found[place].1));
@@ -49,14 +68,21 @@ fn add_pairs(
 /// The pairs that the parts have, under their whole keys, part by part.
 pub(crate) fn pairs_of(
     alloc: Global,
-    stripes: u64,
-    held: &Vec<Held>,
+    map: &StripedMap,
+    seat: &mut MapSeat,
+    held: &Vec<usize>,
 ) -> Result<Vec<(u64, u64)>, AllocError>
-    ensures { IfOk result (λ pairs. pairs.items ≡ pairs_in stripes held.now.items) }
+    requires seat { IsOf seat.old map.now }
+    requires held { HoldsAll (known seat.old) held.now.items }
+    ensures seat { IsOf seat.new map.now }
+    ensures known { known seat.new ≡ known seat.old }
+    ensures parts { part_in seat.new ≡ part_in seat.old }
+    ensures pairs { IfOk result (λ pairs. pairs.items
+        ≡ pairs_in (stripes_of map.now) (parts_of seat.old held.now.items)) }
 {
     let mut pairs = Vec::new(alloc);
     for place in 0..held.len() {
-        add_pairs(alloc, stripes, &held[place], &mut pairs)?;
+        add_pairs(alloc, map, seat, held[place], &mut pairs)?;
     }
     Ok(pairs)
 }

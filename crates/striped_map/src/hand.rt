@@ -1,7 +1,7 @@
 //! What a caller has in hand.
 //!
-//! The parts of the stripes that it holds lie here and not in their slots, so that an operation
-//! works on plain memory. Who calls keeps the phases.
+//! The parts of the stripes that it holds stay in their slots, where an operation works on them as
+//! plain memory. Who calls keeps the phases.
 ghost use Rattle.std.specs.Prelude.{◌≡◌, ◌≢◌, ℕ, ◌+◌, ◌-◌, ◌/◌, ◌<◌, ◌≤◌, ◌%◌, ◌^◌, [], ◌∷◌, IfOk, IfErr, IfSome, OnOk, OnErr, None, Some, true, slice_get, slice_index, length, take, drop, vec_len, vec_capacity};
 ghost use mathlib.Core.List.{IsPrefix};
 ghost use Rattle.txn_trace.specs.declared.entry.Entry.TheVariants.{Began, Asked, Did, Saved, Leave, Returned, Committed};
@@ -16,45 +16,46 @@ ghost use Rattle.striped_map.specs.Additions.{above, due, entries_of};
 ghost use Rattle.striped_map.specs.Handling.{IsEnd, IsMiss, idle};
 ghost use Rattle.striped_map.specs.Lone.{RunsAlone};
 ghost use Rattle.striped_map.specs.Rule.{Holds};
-ghost use Rattle.striped_map.specs.Seats.{IsOf, known, stripes_of};
-ghost use Rattle.striped_map.specs.Sound.{AreHeld, AreLogged, IsIndexed, IsSound, stripes_in};
+ghost use Rattle.striped_map.specs.Seats.{IsOf, known, part_in, stripes_of};
+ghost use Rattle.striped_map.specs.Sound.{AreHeld, AreLogged, IsIndexed, IsSound, parts_of};
 ghost use Rattle.striped_map.specs.Steps.{HasAll, HasNoOther, IsAt, SeesIn, seat_of, taken_in, undone, undoing};
 
 use crate::addition::Addition;
 use crate::contents;
-use crate::held::{Change, Held};
 use crate::map::{StripedMap, Taken};
 use crate::seat::MapSeat;
 use map_answers::Stop;
 use std::alloc::{AllocError, Global};
 use txn_trace::{Op, Refusal, Reply};
 
-/// A seat with the parts that it has taken, and what there is to take back. It may be let go only
-/// if it holds no stripe.
+/// A change that can be taken back: the place of its stripe, its sub-key, and the value before.
+type Change = (usize, u64, Option<u64>);
+
+/// A seat with the stripes that it holds, and what there is to take back. It may be let go only if
+/// it holds no stripe.
 pub(crate) struct Hand {
     pub(crate) seat: MapSeat,
-    held: Vec<Held>,
+    held: Vec<usize>,
     index: Vec<u16>,
     order: Vec<Change>,
     levels: Vec<usize>,
-    ghost sound: { IsSound seat.seat.table_id.slots (known seat) held.items order.items
-        levels.items },
+    ghost sound: { IsSound seat.seat.table_id.slots (known seat) (parts_of seat held.items)
+        order.items levels.items },
     ghost indexed: { IsIndexed held.items index.items },
 }
 
-/// The place of a stripe among the parts that are held. What the index has for a stripe that is not
+/// The place of a stripe among those that are held. What the index has for a stripe that is not
 /// held may be any place, so it is looked at.
 #[inline(always)]
-fn place_of(held: &Vec<Held>, index: &Vec<u16>, stripe: usize) -> Option<usize>
+fn place_of(held: &Vec<usize>, index: &Vec<u16>, stripe: usize) -> Option<usize>
     requires { IsIndexed held.now.items index.now.items }
-    ensures some { IfSome result (λ place. slice_get (stripes_in held.now.items) place
-        ≡ Some stripe) }
+    ensures some { IfSome result (λ place. slice_get held.now.items place ≡ Some stripe) }
     ensures none { result ≡ None → (place : ℕ)
-        → slice_get (stripes_in held.now.items) place ≢ Some stripe }
+        → slice_get held.now.items place ≢ Some stripe }
 {
     let found = index.get(stripe)?;
     let place = usize::from(*found);
-    if held.get(place)?.stripe == stripe {
+    if *held.get(place)? == stripe {
         Some(place)
     } else {
         None
@@ -98,46 +99,47 @@ fn under(op: Op, key: u64) -> Op
 
 /// Takes changes back in the parts, the newest first, until `mark` are left. It takes no memory.
 fn take_back(
-    stripes: usize,
-    seat: &MapSeat,
-    held: &mut Vec<Held>,
+    map: &StripedMap,
+    seat: &mut MapSeat,
+    held: &Vec<usize>,
     order: &mut Vec<Change>,
     mark: usize,
 )
-    requires some { 0 < stripes }
+    requires map { IsOf seat.old map.now }
     requires mark { mark ≤ vec_len order.old }
-    requires parts { AreHeld stripes (known seat.now) held.old.items (now (known seat.now).seen) }
-    requires logged { AreLogged stripes held.old.items order.old.items (due (known seat.now)) }
-    ensures parts { AreHeld stripes (known seat.now) held.new.items
-        (undone (now (known seat.now).seen)
-        (take (vec_len order.old - mark) (due (known seat.now)))) }
-    ensures logged { AreLogged stripes held.new.items order.new.items
-        (drop (vec_len order.old - mark) (due (known seat.now))) }
+    requires parts { AreHeld (stripes_of map.now) (known seat.old)
+        (parts_of seat.old held.now.items) (now (known seat.old).seen) }
+    requires logged { AreLogged (stripes_of map.now) (parts_of seat.old held.now.items)
+        order.old.items (due (known seat.old)) }
+    ensures map { IsOf seat.new map.now }
+    ensures known { known seat.new ≡ known seat.old }
+    ensures parts { AreHeld (stripes_of map.now) (known seat.old)
+        (parts_of seat.new held.now.items) (undone (now (known seat.old).seen)
+        (take (vec_len order.old - mark) (due (known seat.old)))) }
+    ensures logged { AreLogged (stripes_of map.now) (parts_of seat.new held.now.items)
+        order.new.items (drop (vec_len order.old - mark) (due (known seat.old))) }
     ensures len { vec_len order.new ≡ mark }
 {
-    let (_stripes, _seat) = (stripes, seat);
     while mark < order.len() {
         let Some((place, key, before)) = order.pop() else {
             unreachable!()
         };
-        held[place].part.take_back(key, before);
+        map.take_back(seat, held[place], key, before);
     }
 }
 
-/// Gives all parts back, once the transaction is over.
-fn give_all(map: &StripedMap, seat: &mut MapSeat, held: &mut Vec<Held>)
+/// Gives all stripes back, once the transaction is over.
+fn give_all(map: &StripedMap, seat: &mut MapSeat, held: &mut Vec<usize>)
     requires map { IsOf seat.old map.now }
     requires over { IsAt Closed (known seat.old) }
-    requires parts { AreHeld (stripes_of map.now) (known seat.old) held.old.items
-        (now (known seat.old).seen) }
+    requires parts { AreHeld (stripes_of map.now) (known seat.old)
+        (parts_of seat.old held.old.items) (now (known seat.old).seen) }
     ensures map { IsOf seat.new map.now }
     ensures idle { known seat.new ≡ idle (known seat.old) }
     ensures none { held.new.items ≡ [] }
 {
-    while let Some(mut one) = held.pop() {
-        one.part.settle();
-        let Held { stripe, part } = one;
-        map.give(seat, stripe, part);
+    while let Some(stripe) = held.pop() {
+        map.give(seat, stripe);
     }
 }
 
@@ -175,7 +177,7 @@ impl Hand {
         map.begin(&mut self.seat);
     }
 
-    /// Takes a stripe, unless it is held, and answers the place of its part.
+    /// Takes a stripe, unless it is held, and answers its place among those that are held.
     #[tactic(auto, using(crate::proofs::Ends::holds_taken, crate::proofs::Ends::holds_found))]
     fn hold(&mut self, map: &StripedMap, stripe: usize) -> Result<usize, Stop>
         requires map { IsOf self.old.seat map.now }
@@ -184,8 +186,7 @@ impl Hand {
         ensures map { IsOf self.new.seat map.now }
         ensures open { IsAt Opened (known self.new.seat) }
         ensures moves { Moves map.now self.old [] self.new }
-        ensures held { IfOk result (λ place. slice_get (stripes_in self.new.held.items) place
-            ≡ Some stripe) }
+        ensures held { IfOk result (λ place. slice_get self.new.held.items place ≡ Some stripe) }
         ensures keeps { (other : ℕ) → Holds (known self.old.seat) other
             → Holds (known self.new.seat) other }
         ensures order { self.new.order ≡ self.old.order }
@@ -202,9 +203,9 @@ impl Hand {
             return Err(Stop::Refused(Refusal::NoMemory));
         };
         match map.take(&mut self.seat, stripe) {
-            Taken::Granted(part) => {
+            Taken::Granted => {
                 let place = self.held.len();
-                self.held.push_reserved(Held { stripe, part });
+                self.held.push_reserved(stripe);
                 // A place is below 4,096, the most stripes that there are.
                 self.index[stripe] = place as u16;
                 Ok(place)
@@ -252,7 +253,7 @@ impl Hand {
         ensures err { IfErr result (IsCut map.now self.old self.new) }
     {
         self.hold_all(map)?;
-        let Some(count) = contents::count_of(&self.held) else {
+        let Some(count) = contents::count_of(map, &mut self.seat, &self.held) else {
             return Err(Stop::Refused(Refusal::NoMemory));
         };
         Ok(count)
@@ -272,7 +273,7 @@ impl Hand {
         ensures err { IfErr result (IsCut map.now self.old self.new) }
     {
         self.hold_all(map)?;
-        let Ok(mut pairs) = contents::pairs_of(alloc, map.stripes() as u64, &self.held) else {
+        let Ok(mut pairs) = contents::pairs_of(alloc, map, &mut self.seat, &self.held) else {
             return Err(Stop::Refused(Refusal::NoMemory));
         };
         let Ok(()) = pairs.sort() else {
@@ -349,7 +350,8 @@ impl Hand {
         }
     }
 
-    /// Does an operation, whose key has this sub-key, on the part at a place, and notes it.
+    /// Does an operation, whose key has this sub-key, on the part of the stripe at a place, and
+    /// notes it.
     #[inline(always)]
     fn apply(
         &mut self,
@@ -361,7 +363,7 @@ impl Hand {
     ) -> Result<Reply, Refusal>
         requires map { IsOf self.old.seat map.now }
         requires open { IsAt Opened (known self.old.seat) }
-        requires place { slice_get (stripes_in self.old.held.items) place
+        requires place { slice_get self.old.held.items place
             ≡ Some (stripe_of (stripes_of map.now) (key_of op)) }
         requires sub_key { sub_key ≡ key_of op / stripes_of map.now }
         requires room { may_change op ≡ true
@@ -373,9 +375,10 @@ impl Hand {
             (Asked (known self.old.seat).number op ∷ Did (known self.old.seat).number reply ∷ [])
             self.new) }
         ensures refused { IfErr result (IsRefused op) }
-        ensures unchanged { OnErr result (self.new ≡ self.old) }
+        ensures unmoved { OnErr result (Moves map.now self.old [] self.new) }
     {
-        let reply = self.held[place].part.apply(alloc, under(op, sub_key))?;
+        let stripe = self.held[place];
+        let reply = map.apply(&mut self.seat, alloc, stripe, under(op, sub_key))?;
         map.add(&mut self.seat, map.quiet(), Addition::Note(op, reply));
         if op.changes(reply) {
             self.order.push_reserved((place, sub_key, reply));
@@ -384,7 +387,7 @@ impl Hand {
     }
 
     /// Does an operation.
-    #[tactic(auto, using(crate::proofs::Ends::moved_did, crate::proofs::Ends::moved_busy))]
+    #[tactic(auto, using(crate::proofs::Ends::moved_on, crate::proofs::Ends::moved_did, crate::proofs::Ends::moved_busy))]
     #[inline(always)]
     pub(crate) fn operate(&mut self, map: &StripedMap, alloc: Global, op: Op) -> Result<Reply, Stop>
         requires map { IsOf self.old.seat map.now }
@@ -457,13 +460,7 @@ impl Hand {
     {
         let mark = mark_of(&self.levels, level);
         let count = self.order.len() - mark;
-        take_back(
-            map.stripes(),
-            &self.seat,
-            &mut self.held,
-            &mut self.order,
-            mark,
-        );
+        take_back(map, &mut self.seat, &self.held, &mut self.order, mark);
         map.add(
             &mut self.seat,
             map.quiet(),
@@ -500,8 +497,7 @@ impl Hand {
         ensures idle { (known self.new.seat).held ≡ [] }
         ensures moves { Moves map.now self.old (entries_of (known self.old.seat) what) self.new }
     {
-        let stripes = map.stripes();
-        take_back(stripes, &self.seat, &mut self.held, &mut self.order, 0);
+        take_back(map, &mut self.seat, &self.held, &mut self.order, 0);
         map.add(&mut self.seat, map.quiet(), what);
         self.order.clear();
         self.levels.clear();

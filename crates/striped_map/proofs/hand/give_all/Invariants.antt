@@ -3,17 +3,17 @@ use Rattle.txn_trace.specs.Now.{now}
 use Rattle.txn_trace.specs.declared.seat.Phase.TheVariants.{Closed}
 use Rattle.striped_map.specs.Handling.{idle}
 use Rattle.striped_map.specs.Seats.{IsOf, known, stripes_of}
-use Rattle.striped_map.specs.Sound.{AreHeld}
+use Rattle.striped_map.specs.Sound.{AreHeld, parts_of}
 use Rattle.striped_map.specs.Steps.{IsAt}
 use Rattle.striped_map.proofs.hand.give_all.Given as goal
 
-abbrev pub invariant-loop-one : goal.invariant-loop-one
-invariant-loop-one l = record {
+abbrev pub invariant-loop-stripe : goal.invariant-loop-stripe
+invariant-loop-stripe l = record {
   map : IsOf l.seat l.map;
   over : IsAt Closed (known l.seat);
   idle : idle (known l.seat) ≡ idle (known l.initial.seat);
-  parts : AreHeld (stripes_of l.map) (known l.seat) l.held.items (now (known l.seat).seen);
+  parts : AreHeld (stripes_of l.map) (known l.seat) (parts_of l.seat l.held.items) (now (known l.seat).seen);
 }
 
-abbrev pub decreases-loop-one : goal.decreases-loop-one
-decreases-loop-one l = vec_len l.held
+abbrev pub decreases-loop-stripe : goal.decreases-loop-stripe
+decreases-loop-stripe l = vec_len l.held

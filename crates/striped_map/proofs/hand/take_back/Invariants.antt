@@ -2,17 +2,18 @@ use Rattle.std.specs.Prelude.{◌≡◌, ℕ, ◌+◌, ◌-◌, List, Option, ta
 use Rattle.txn_trace.specs.Map.{Map}
 use Rattle.txn_trace.specs.Now.{now}
 use Rattle.striped_map.specs.Additions.{due}
-use Rattle.striped_map.specs.Seats.{known}
-use Rattle.striped_map.specs.Sound.{AreHeld, AreLogged}
+use Rattle.striped_map.specs.Seats.{IsOf, known, stripes_of}
+use Rattle.striped_map.specs.Sound.{AreHeld, AreLogged, parts_of}
 use Rattle.striped_map.specs.Steps.{undone}
 use Rattle.striped_map.proofs.hand.take_back.Given as goal
 
 abbrev pub invariant-loop-order : goal.invariant-loop-order
-invariant-loop-order l = let v = known l.seat in let all = vec_len l.initial.order - l.mark in (m : Map)
+invariant-loop-order l = let v = known l.initial.seat in let n = stripes_of l.map in
+    let held = parts_of l.seat l.held.items in let all = vec_len l.initial.order - l.mark in (m : Map)
     × (jobs : List (ℕ × Option ℕ)) × (left : ℕ) × (vec_len l.order ≡ l.mark + left)
-    × AreHeld l.stripes v l.held.items m × AreLogged l.stripes l.held.items l.order.items jobs
+    × AreHeld n v held m × AreLogged n held l.order.items jobs
     × (undone m (take left jobs) ≡ undone (now v.seen) (take all (due v)))
-    × (drop left jobs ≡ drop all (due v))
+    × (drop left jobs ≡ drop all (due v)) × (IsOf l.seat l.map) × (known l.seat ≡ v)
 
 abbrev pub decreases-loop-order : goal.decreases-loop-order
 decreases-loop-order l = vec_len l.order

@@ -1,4 +1,4 @@
-use Rattle.std.proofs.Common.{◌≡◌, ◌-◌, ℕ, suc, true, false, Bool, refl, sym, subst, ◌∙◌, arith}
+use Rattle.std.proofs.Common.{◌≡◌, ◌-◌, suc, true, false, Bool, refl, sym, ◌∙◌, arith}
 use Rattle.striped_map.proofs.Tries.{still, since_failed, fails_as, one_more}
 use Rattle.striped_map.proofs.Within.{since_then}
 use Rattle.striped_map.proofs.caller.Caller.transact.Goals as goal

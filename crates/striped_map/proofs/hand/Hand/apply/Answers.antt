@@ -1,76 +1,99 @@
-use Rattle.std.proofs.Common.{◌≡◌, ℕ, ◌/◌, Bool, true, false, cond, List, [], ◌∷◌, ◌++◌, Some, slice_get, set, refl, sym, ap, subst, ◌∙◌}
+use Rattle.std.proofs.Common.{◌≡◌, ℕ, ◌/◌, Bool, true, false, cond, List, [], ◌∷◌, ◌++◌, Some, slice_get, set, sym, ap, subst, ◌∙◌}
 use Rattle.txn_trace.specs.declared.op.Op.{Op}
 use Rattle.txn_trace.specs.Locks.{stripe_of}
 use Rattle.txn_trace.specs.Map.{key_of}
 use Rattle.txn_trace.specs.Now.{now}
 use Rattle.txn_trace.specs.Shape.{changes}
 use Rattle.stripe_part.specs.Calls.{Does}
-use Rattle.striped_map.specs.declared.held.Held.{Held}
-use Rattle.striped_map.specs.Additions.{due}
+use Rattle.striped_map.specs.declared.addition.Addition.TheVariants.{Note}
+use Rattle.striped_map.specs.declared.view.View.{View}
+use Rattle.striped_map.specs.Adding.{MayAdd}
+use Rattle.striped_map.specs.Additions.{due, entries_of, left_of}
 use Rattle.striped_map.specs.Handling.{under}
-use Rattle.striped_map.specs.Seats.{known}
-use Rattle.striped_map.specs.Sound.{Change, IsSound}
+use Rattle.striped_map.specs.Rule.{Holds}
+use Rattle.striped_map.specs.Seats.{known, part_in}
+use Rattle.striped_map.specs.Sound.{Held, Change, IsSound, parts_of, with_part}
 use Rattle.striped_map.specs.Steps.{noting, seat_of}
-use Rattle.striped_map.proofs.Hands.{part_at, place_in, read_at, stripe_at, holds_at, some_same, reply_right, parts_noted, logged_noted, stripes_set}
-use Rattle.striped_map.proofs.Index.{indexed_same}
+use Rattle.striped_map.proofs.Hands.{place_in, read_at, with_at, holds_in, some_same, reply_right, parts_noted, logged_noted, parts_worked}
 use Rattle.striped_map.proofs.Lands.{may_note}
-use Rattle.striped_map.proofs.Sounds.{sound_added}
+use Rattle.striped_map.proofs.Sounds.{added_as, sound_added, sound_parts, sound_same}
 use Rattle.striped_map.proofs.hand.Hand.apply.Goals as goal
 
+pub apply-requires-clause-held : goal.apply-requires-clause-held
+apply-requires-clause-held c = let me = c.args.self.now in let ks = me.held.items in let place = c.args.place in let k : ℕ = c.index-stripe.result.now in
+    let at_k : slice_get ks place ≡ Some k = read_at ks place k (place_in ks place _ c.requires.place) c.index-stripe.ensures in
+    holds_in _ _ me.seat ks _ me.sound.parts place k at_k
+
+-- The operation was refused.
+pub invariant_of-self : goal.invariant_of-self
+invariant_of-self c = let me = c.args.self.now in
+    record { sound = sound_same c.args.map.now me c.apply.new.seat c.requires.map c.apply.ensures.seat c.apply.ensures.known c.in_err-reply.ensures.unchanged; indexed = me.indexed }
+
 pub add-requires-clause-may : goal.add-requires-clause-may
-add-requires-clause-may c = let me = c.args.self.now in let n = c.args.map.now.table.shared.table_id.slots in let v = known me.seat in let held = me.held.items in let op = c.args.op in let reply = c.in_ok-reply.reply in
-    let at_open = c.requires.open in
-    let s : IsSound n v held me.order.items me.levels.items = subst (λ z. IsSound z.slots v held me.order.items me.levels.items) c.requires.map me.sound in
-    let p = part_at held c.args.place _ c.requires.place in
-    let h : Held = c.index_mut.result.now in
-    let at : slice_get held c.args.place ≡ Some h = read_at held c.args.place h (place_in held c.args.place p.0 p.1) c.index_mut.ensures.value in
-    let in_k : h.stripe ≡ stripe_of n (key_of op) = some_same _ _ (sym (stripe_at held c.args.place h at) ∙ c.requires.place) in
+add-requires-clause-may c = let me = c.args.self.now in let n = c.args.map.now.table.shared.table_id.slots in let a = me.seat in let b = c.apply.new.seat in let v = known a in let ks = me.held.items in let place = c.args.place in let op = c.args.op in let reply = c.in_ok-reply.reply in
+    let s : IsSound n v (parts_of a ks) me.order.items me.levels.items = subst (λ z. IsSound z.slots v (parts_of a ks) me.order.items me.levels.items) c.requires.map me.sound in
+    let k : ℕ = c.index-stripe.result.now in
+    let at_k : slice_get ks place ≡ Some k = read_at ks place k (place_in ks place _ c.requires.place) c.index-stripe.ensures in
+    let at : slice_get (parts_of a ks) place ≡ Some (with_part (part_in a) k) = with_at (part_in a) ks place k at_k in
+    let in_k : k ≡ stripe_of n (key_of op) = some_same _ _ (sym at_k ∙ c.requires.place) in
     let sub = c.under.ensures ∙ ap (under op) c.requires.sub_key in
-    let does : Does h.part c.apply.new.self (under op (key_of op / n)) reply = subst (λ (o : Op). Does h.part c.apply.new.self o reply) sub c.in_ok-reply.ensures.ok in
-    may_note n v me.seat.acting (seat_of v) at_open.seat_is at_open.phase_is op reply (holds_at n v held (now v.seen) s.parts c.args.place _ c.requires.place)
-    (reply_right n v held (now v.seen) s.parts c.args.place h c.apply.new.self op reply at in_k does)
+    let does : Does (part_in a k) (part_in b k) (under op (key_of op / n)) reply = subst (λ (o : Op). Does (part_in a k) (part_in b k) o reply) sub c.in_ok-reply.ensures.ok in
+    let at_open = c.requires.open in
+    subst (λ (u : View). MayAdd n u (entries_of u (Note op reply)) (left_of u (Note op reply))) (sym c.apply.ensures.known)
+    (may_note n v a.acting (seat_of v) at_open.seat_is at_open.phase_is op reply (subst (Holds v) in_k (holds_in n v a ks (now v.seen) s.parts place k at_k))
+    (reply_right n v (parts_of a ks) (now v.seen) s.parts place (with_part (part_in a) k) (part_in b k) op reply at in_k does))
 
 pub invariant_of-self-then-changes : goal.invariant_of-self-then-changes
-invariant_of-self-then-changes c = let me = c.args.self.now in let n = c.args.map.now.table.shared.table_id.slots in let v = known me.seat in let w = known c.add.new.seat in let held = me.held.items in let op = c.args.op in let reply = c.in_ok-reply.reply in
-    let s : IsSound n v held me.order.items me.levels.items = subst (λ z. IsSound z.slots v held me.order.items me.levels.items) c.requires.map me.sound in
-    let p = part_at held c.args.place _ c.requires.place in
-    let h : Held = c.index_mut.result.now in
-    let at : slice_get held c.args.place ≡ Some h = read_at held c.args.place h (place_in held c.args.place p.0 p.1) c.index_mut.ensures.value in
-    let in_k : h.stripe ≡ stripe_of n (key_of op) = some_same _ _ (sym (stripe_at held c.args.place h at) ∙ c.requires.place) in
+invariant_of-self-then-changes c = let me = c.args.self.now in let n = c.args.map.now.table.shared.table_id.slots in let a = me.seat in let b = c.apply.new.seat in let v = known a in let ks = me.held.items in let place = c.args.place in let op = c.args.op in let reply = c.in_ok-reply.reply in
+    let s : IsSound n v (parts_of a ks) me.order.items me.levels.items = subst (λ z. IsSound z.slots v (parts_of a ks) me.order.items me.levels.items) c.requires.map me.sound in
+    let k : ℕ = c.index-stripe.result.now in
+    let at_k : slice_get ks place ≡ Some k = read_at ks place k (place_in ks place _ c.requires.place) c.index-stripe.ensures in
+    let at : slice_get (parts_of a ks) place ≡ Some (with_part (part_in a) k) = with_at (part_in a) ks place k at_k in
+    let in_k : k ≡ stripe_of n (key_of op) = some_same _ _ (sym at_k ∙ c.requires.place) in
     let sub = c.under.ensures ∙ ap (under op) c.requires.sub_key in
-    let does : Does h.part c.apply.new.self (under op (key_of op / n)) reply = subst (λ (o : Op). Does h.part c.apply.new.self o reply) sub c.in_ok-reply.ensures.ok in
-    let new : Held = record { stripe = h.stripe; part = c.apply.new.self } in
-    let later : List Change = me.order.items ++ (c.args.place, key_of op / n, reply) ∷ [] in
+    let does : Does (part_in a k) (part_in b k) (under op (key_of op / n)) reply = subst (λ (o : Op). Does (part_in a k) (part_in b k) o reply) sub c.in_ok-reply.ensures.ok in
+    let d = c.add.new.seat in let w = known d in
+    let new : Held = with_part (part_in b) k in
+    let later : List Change = me.order.items ++ (place, key_of op / n, reply) ∷ [] in
+    let added = added_as n v (known b) w (Note op reply) c.apply.ensures.known c.add.ensures.added in
+    let worked = sym (parts_worked n v a b ks (now v.seen) s.parts place k at_k c.apply.ensures.others) in
     let changed : changes op reply ≡ true = sym c.changes.ensures ∙ c.if-changes.true in
-    let noted : c.push_reserved.new.self.items ≡ later = c.push_reserved.ensures.items ∙ ap (λ (k : ℕ). me.order.items ++ (c.args.place, k, reply) ∷ []) c.requires.sub_key in
-    let order : c.push_reserved.new.self.items ≡ cond (changes op reply) later me.order.items = noted ∙ sym (ap (λ (b : Bool). cond b later me.order.items) changed) in
+    let noted : c.push_reserved.new.self.items ≡ later = c.push_reserved.ensures.items ∙ ap (λ (q : ℕ). me.order.items ++ (place, q, reply) ∷ []) c.requires.sub_key in
+    let order : c.push_reserved.new.self.items ≡ cond (changes op reply) later me.order.items = noted ∙ sym (ap (λ (x : Bool). cond x later me.order.items) changed) in
     record {
-      sound = subst (λ z. IsSound z.slots w (set held c.args.place new) c.push_reserved.new.self.items me.levels.items) (sym c.add.ensures.seat)
-          (subst (λ (l : List Change). IsSound n w (set held c.args.place new) l me.levels.items) (sym order)
-          (sound_added n v w _ (noting v (seat_of v) op reply) (set held c.args.place new) (cond (changes op reply) later me.order.items) me.levels.items c.add.ensures.added
-          (parts_noted n v held (now v.seen) s.parts c.args.place h c.apply.new.self op reply at in_k does)
-          (logged_noted n v held (now v.seen) me.order.items (due v) s.parts s.logged c.args.place h c.apply.new.self op reply at in_k does) s.levelled));
-      indexed = indexed_same held (set held c.args.place new) me.index.items (stripes_set held c.args.place h new at refl) me.indexed;
+      sound = subst (λ z. IsSound z.slots w (parts_of d ks) c.push_reserved.new.self.items me.levels.items) (sym c.add.ensures.seat)
+          (sound_parts n w b d ks c.push_reserved.new.self.items me.levels.items c.add.ensures.parts
+          (subst (λ (l : List Held). IsSound n w l c.push_reserved.new.self.items me.levels.items) worked
+          (subst (λ (l : List Change). IsSound n w (set (parts_of a ks) place new) l me.levels.items) (sym order)
+          (sound_added n v w _ (noting v (seat_of v) op reply) (set (parts_of a ks) place new) (cond (changes op reply) later me.order.items) me.levels.items added
+          (parts_noted n v (parts_of a ks) (now v.seen) s.parts place (with_part (part_in a) k) (part_in b k) op reply at in_k does)
+          (logged_noted n v (parts_of a ks) (now v.seen) me.order.items (due v) s.parts s.logged place (with_part (part_in a) k) (part_in b k) op reply at in_k does) s.levelled))));
+      indexed = me.indexed;
     }
 
 pub invariant_of-self-else-changes : goal.invariant_of-self-else-changes
-invariant_of-self-else-changes c = let me = c.args.self.now in let n = c.args.map.now.table.shared.table_id.slots in let v = known me.seat in let w = known c.add.new.seat in let held = me.held.items in let op = c.args.op in let reply = c.in_ok-reply.reply in
-    let s : IsSound n v held me.order.items me.levels.items = subst (λ z. IsSound z.slots v held me.order.items me.levels.items) c.requires.map me.sound in
-    let p = part_at held c.args.place _ c.requires.place in
-    let h : Held = c.index_mut.result.now in
-    let at : slice_get held c.args.place ≡ Some h = read_at held c.args.place h (place_in held c.args.place p.0 p.1) c.index_mut.ensures.value in
-    let in_k : h.stripe ≡ stripe_of n (key_of op) = some_same _ _ (sym (stripe_at held c.args.place h at) ∙ c.requires.place) in
+invariant_of-self-else-changes c = let me = c.args.self.now in let n = c.args.map.now.table.shared.table_id.slots in let a = me.seat in let b = c.apply.new.seat in let v = known a in let ks = me.held.items in let place = c.args.place in let op = c.args.op in let reply = c.in_ok-reply.reply in
+    let s : IsSound n v (parts_of a ks) me.order.items me.levels.items = subst (λ z. IsSound z.slots v (parts_of a ks) me.order.items me.levels.items) c.requires.map me.sound in
+    let k : ℕ = c.index-stripe.result.now in
+    let at_k : slice_get ks place ≡ Some k = read_at ks place k (place_in ks place _ c.requires.place) c.index-stripe.ensures in
+    let at : slice_get (parts_of a ks) place ≡ Some (with_part (part_in a) k) = with_at (part_in a) ks place k at_k in
+    let in_k : k ≡ stripe_of n (key_of op) = some_same _ _ (sym at_k ∙ c.requires.place) in
     let sub = c.under.ensures ∙ ap (under op) c.requires.sub_key in
-    let does : Does h.part c.apply.new.self (under op (key_of op / n)) reply = subst (λ (o : Op). Does h.part c.apply.new.self o reply) sub c.in_ok-reply.ensures.ok in
-    let new : Held = record { stripe = h.stripe; part = c.apply.new.self } in
-    let later : List Change = me.order.items ++ (c.args.place, key_of op / n, reply) ∷ [] in
+    let does : Does (part_in a k) (part_in b k) (under op (key_of op / n)) reply = subst (λ (o : Op). Does (part_in a k) (part_in b k) o reply) sub c.in_ok-reply.ensures.ok in
+    let d = c.add.new.seat in let w = known d in
+    let new : Held = with_part (part_in b) k in
+    let later : List Change = me.order.items ++ (place, key_of op / n, reply) ∷ [] in
+    let added = added_as n v (known b) w (Note op reply) c.apply.ensures.known c.add.ensures.added in
+    let worked = sym (parts_worked n v a b ks (now v.seen) s.parts place k at_k c.apply.ensures.others) in
     let changed : changes op reply ≡ false = sym c.changes.ensures ∙ c.if-changes.false in
-    let order : me.order.items ≡ cond (changes op reply) later me.order.items = sym (ap (λ (b : Bool). cond b later me.order.items) changed) in
+    let order : me.order.items ≡ cond (changes op reply) later me.order.items = sym (ap (λ (x : Bool). cond x later me.order.items) changed) in
     record {
-      sound = subst (λ z. IsSound z.slots w (set held c.args.place new) me.order.items me.levels.items) (sym c.add.ensures.seat)
-          (subst (λ (l : List Change). IsSound n w (set held c.args.place new) l me.levels.items) (sym order)
-          (sound_added n v w _ (noting v (seat_of v) op reply) (set held c.args.place new) (cond (changes op reply) later me.order.items) me.levels.items c.add.ensures.added
-          (parts_noted n v held (now v.seen) s.parts c.args.place h c.apply.new.self op reply at in_k does)
-          (logged_noted n v held (now v.seen) me.order.items (due v) s.parts s.logged c.args.place h c.apply.new.self op reply at in_k does) s.levelled));
-      indexed = indexed_same held (set held c.args.place new) me.index.items (stripes_set held c.args.place h new at refl) me.indexed;
+      sound = subst (λ z. IsSound z.slots w (parts_of d ks) me.order.items me.levels.items) (sym c.add.ensures.seat)
+          (sound_parts n w b d ks me.order.items me.levels.items c.add.ensures.parts
+          (subst (λ (l : List Held). IsSound n w l me.order.items me.levels.items) worked
+          (subst (λ (l : List Change). IsSound n w (set (parts_of a ks) place new) l me.levels.items) (sym order)
+          (sound_added n v w _ (noting v (seat_of v) op reply) (set (parts_of a ks) place new) (cond (changes op reply) later me.order.items) me.levels.items added
+          (parts_noted n v (parts_of a ks) (now v.seen) s.parts place (with_part (part_in a) k) (part_in b k) op reply at in_k does)
+          (logged_noted n v (parts_of a ks) (now v.seen) me.order.items (due v) s.parts s.logged place (with_part (part_in a) k) (part_in b k) op reply at in_k does) s.levelled))));
+      indexed = me.indexed;
     }

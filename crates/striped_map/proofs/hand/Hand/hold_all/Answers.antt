@@ -5,9 +5,9 @@ use Rattle.txn_trace.specs.declared.op.Op.TheVariants.{Get}
 use Rattle.txn_trace.specs.Now.{now}
 use Rattle.striped_map.specs.Rule.{Holds}
 use Rattle.striped_map.specs.Seats.{known}
-use Rattle.striped_map.specs.Sound.{AreHeld}
+use Rattle.striped_map.specs.Sound.{AreHeld, parts_of}
 use Rattle.striped_map.proofs.Ends.{moved_on, moved_busy}
-use Rattle.striped_map.proofs.Hands.{holds_at}
+use Rattle.striped_map.proofs.Hands.{holds_in}
 use Rattle.striped_map.proofs.hand.Hand.hold_all.Goals as goal
 
 pub returns-in-Err-Busy-clause-err : goal.returns-in-Err-Busy-clause-err
@@ -18,13 +18,13 @@ returns-in-Err-Busy-clause-err c = let map = c.args.map.now in let me = c.args.s
 pub loop-stripe-preserved : goal.loop-stripe-preserved
 loop-stripe-preserved c = let map = c.args.map.now in let n = map.table.shared.table_id.slots in let inv = c.loop-stripe.invariant in
     let me = c.hold.new.self in let v = known me.seat in let stripe = c.loop-stripe.stripe in
-    let parts : AreHeld n v me.held.items (now v.seen) = subst (λ z. AreHeld z.slots v me.held.items (now v.seen)) c.hold.ensures.map me.sound.parts in
+    let parts : AreHeld n v (parts_of me.seat me.held.items) (now v.seen) = subst (λ z. AreHeld z.slots v (parts_of me.seat me.held.items) (now v.seen)) c.hold.ensures.map me.sound.parts in
     record {
       map = c.hold.ensures.map;
       opened = c.hold.ensures.open;
       levels = c.hold.ensures.levels ∙ inv.levels;
       moves = moved_on map c.args.self.now c.loop-stripe.self me inv.moves c.hold.ensures.moves;
       held = λ other lt. dite (ℕ_discrete other stripe)
-          (λ (e : other ≡ stripe). subst (Holds v) (sym e) (holds_at n v me.held.items (now v.seen) parts c.in-Ok.field-0 stripe c.in-Ok.ensures.held))
+          (λ (e : other ≡ stripe). subst (Holds v) (sym e) (holds_in n v me.seat me.held.items (now v.seen) parts c.in-Ok.field-0 stripe c.in-Ok.ensures.held))
           (λ ne. c.hold.ensures.keeps other (inv.held other (omega arith)));
     }

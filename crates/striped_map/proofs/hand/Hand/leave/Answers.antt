@@ -1,51 +1,59 @@
 use Rattle.std.specs.Prelude.{vec_len}
-use Rattle.std.proofs.Common.{◌≡◌, ℕ, ◌-◌, List, take, sym, ap, subst, arith}
+use Rattle.std.proofs.Common.{◌≡◌, ℕ, ◌-◌, List, map, take, sym, ap, subst, arith}
 use Rattle.txn_trace.specs.declared.seat.Phase.TheVariants.{Closed}
 use Rattle.txn_trace.specs.Now.{now}
+use Rattle.stripe_part.specs.PartAt.{PartAt}
 use Rattle.striped_map.specs.declared.view.View.{View}
+use Rattle.striped_map.specs.Adding.{MayAdd}
 use Rattle.striped_map.specs.Additions.{due, entries_of, left_of}
 use Rattle.striped_map.specs.Seats.{known}
-use Rattle.striped_map.specs.Sound.{AreHeld, IsSound}
+use Rattle.striped_map.specs.Sound.{AreHeld, IsSound, parts_of, with_part}
 use Rattle.striped_map.specs.Steps.{Standing, AddsIn, at_end, undone}
 use Rattle.striped_map.proofs.Ends.{moved_idle}
 use Rattle.striped_map.proofs.Hands.{Job, parts_on}
 use Rattle.striped_map.proofs.Index.{indexed_none}
-use Rattle.striped_map.proofs.Sounds.{sound_ended, sound_lists, at_added, at_idle, may_end, left_end, take_all, order_length}
+use Rattle.striped_map.proofs.Sounds.{added_as, sound_ended, sound_lists, at_added, at_idle, may_end, left_end, take_all, order_length}
 use Rattle.striped_map.proofs.hand.Hand.leave.Goals as goal
 
 pub add-requires-clause-may : goal.add-requires-clause-may
-add-requires-clause-may c = let me = c.args.self.now in may_end _ (known me.seat) me.seat.acting c.requires.open c.args.map.now.some c.args.what c.requires.may
+add-requires-clause-may c = let me = c.args.self.now in let n = c.args.map.now.table.shared.table_id.slots in
+    subst (λ (u : View). MayAdd n u (entries_of u c.args.what) (left_of u c.args.what)) (sym c.take_back.ensures.known)
+    (may_end n (known me.seat) me.seat.acting c.requires.open c.args.map.now.some c.args.what c.requires.may)
 
 pub give_all-requires-clause-over : goal.give_all-requires-clause-over
-give_all-requires-clause-over c = let v = known c.args.self.now.seat in let w = known c.add.new.seat in
-    at_added _ v w _ (left_of v c.args.what) Closed c.add.ensures.added (ap (λ (s : Standing). s.seat.phase) (left_end v c.args.what c.requires.may))
+give_all-requires-clause-over c = let v = known c.args.self.now.seat in let w = known c.add.new.seat in let n = c.args.map.now.table.shared.table_id.slots in
+    at_added n v w _ (left_of v c.args.what) Closed (added_as n v (known c.take_back.new.seat) w c.args.what c.take_back.ensures.known c.add.ensures.added) (ap (λ (s : Standing). s.seat.phase) (left_end v c.args.what c.requires.may))
 
 pub give_all-requires-clause-parts : goal.give_all-requires-clause-parts
-give_all-requires-clause-parts c = let me = c.args.self.now in let n = c.args.map.now.table.shared.table_id.slots in let v = known me.seat in let w = known c.add.new.seat in let a = c.add.ensures.added in
-    let s : IsSound n v me.held.items me.order.items me.levels.items = subst (λ z. IsSound z.slots v me.held.items me.order.items me.levels.items) c.requires.map me.sound in
-    let many = order_length n me.held.items me.order.items (due v) s.logged in
+give_all-requires-clause-parts c = let me = c.args.self.now in let n = c.args.map.now.table.shared.table_id.slots in let v = known me.seat in let w = known c.add.new.seat in let ks = me.held.items in
+    let a = added_as n v (known c.take_back.new.seat) w c.args.what c.take_back.ensures.known c.add.ensures.added in
+    let many = order_length n (parts_of me.seat ks) me.order.items (due v) (subst (λ z. IsSound z.slots v (parts_of me.seat ks) me.order.items me.levels.items) c.requires.map me.sound).logged in
     let o = me.order.ok.0 in
     let all : take (vec_len me.order - 0) (due v) ≡ due v = take_all (vec_len me.order - 0) (due v) (omega arith) in
-    let taken : AreHeld n v c.take_back.new.held.items (undone (now v.seen) (take (vec_len me.order - 0) (due v))) = subst (λ (k : ℕ). AreHeld k v c.take_back.new.held.items (undone (now v.seen) (take (vec_len me.order - 0) (due v)))) c.stripes-stripes.ensures c.take_back.ensures.parts in
-    let back : AreHeld n v c.take_back.new.held.items (undone (now v.seen) (due v)) = subst (λ (jobs : List Job). AreHeld n v c.take_back.new.held.items (undone (now v.seen) jobs)) all taken in
+    let held = parts_of c.take_back.new.seat ks in
+    let back : AreHeld n v held (undone (now v.seen) (due v)) = subst (λ (jobs : List Job). AreHeld n v held (undone (now v.seen) jobs)) all c.take_back.ensures.parts in
     let left : AddsIn n v (entries_of v c.args.what) (at_end (undone (now v.seen) (due v))) w = subst (λ (l : Standing). AddsIn n v (entries_of v c.args.what) l w) (left_end v c.args.what c.requires.may) a in
-    parts_on n v w c.take_back.new.held.items (undone (now v.seen) (due v)) (now w.seen) back (ap (λ (x : View). x.held) a.view_is) left.have
+    subst (λ (f : ℕ → PartAt). AreHeld n w (map (with_part f) ks) (now w.seen)) (sym c.add.ensures.parts)
+    (parts_on n v w held (undone (now v.seen) (due v)) (now w.seen) back (ap (λ (x : View). x.held) a.view_is) left.have)
 
 pub invariant_of-self : goal.invariant_of-self
 invariant_of-self c = let me = c.args.self.now in let n = c.args.map.now.table.shared.table_id.slots in let v = known me.seat in let w = known c.add.new.seat in let u = known c.give_all.new.seat in
-    let left : AddsIn n v (entries_of v c.args.what) (at_end (undone (now v.seen) (due v))) w = subst (λ (l : Standing). AddsIn n v (entries_of v c.args.what) l w) (left_end v c.args.what c.requires.may) c.add.ensures.added in
+    let a = added_as n v (known c.take_back.new.seat) w c.args.what c.take_back.ensures.known c.add.ensures.added in
+    let left : AddsIn n v (entries_of v c.args.what) (at_end (undone (now v.seen) (due v))) w = subst (λ (l : Standing). AddsIn n v (entries_of v c.args.what) l w) (left_end v c.args.what c.requires.may) a in
     record {
-      sound = subst (λ z. IsSound z.slots u c.give_all.new.held.items c.clear.new.self.items c.clear-2.new.self.items) (sym c.give_all.ensures.map)
-          (sound_lists n u _ _ _ c.give_all.ensures.none c.clear.ensures.items c.clear-2.ensures.items (sound_ended n v w u _ (undone (now v.seen) (due v)) left c.give_all.ensures.idle));
+      sound = subst (λ z. IsSound z.slots u (parts_of c.give_all.new.seat c.give_all.new.held.items) c.clear.new.self.items c.clear-2.new.self.items) (sym c.give_all.ensures.map)
+          (sound_lists n u _ _ _ (ap (parts_of c.give_all.new.seat) c.give_all.ensures.none) c.clear.ensures.items c.clear-2.ensures.items (sound_ended n v w u _ (undone (now v.seen) (due v)) left c.give_all.ensures.idle));
       indexed = indexed_none c.give_all.new.held.items me.index.items c.give_all.ensures.none;
     }
 
 pub returns-clause-closed : goal.returns-clause-closed
-returns-clause-closed c = let v = known c.args.self.now.seat in let w = known c.add.new.seat in let u = known c.give_all.new.seat in
-    at_idle Closed w u (at_added _ v w _ (left_of v c.args.what) Closed c.add.ensures.added (ap (λ (s : Standing). s.seat.phase) (left_end v c.args.what c.requires.may))) c.give_all.ensures.idle
+returns-clause-closed c = let v = known c.args.self.now.seat in let w = known c.add.new.seat in let u = known c.give_all.new.seat in let n = c.args.map.now.table.shared.table_id.slots in
+    let a = added_as n v (known c.take_back.new.seat) w c.args.what c.take_back.ensures.known c.add.ensures.added in
+    at_idle Closed w u (at_added n v w _ (left_of v c.args.what) Closed a (ap (λ (s : Standing). s.seat.phase) (left_end v c.args.what c.requires.may))) c.give_all.ensures.idle
 
 pub returns-clause-idle : goal.returns-clause-idle
 returns-clause-idle c = ap (λ (v : View). v.held) c.give_all.ensures.idle
 
 pub returns-clause-moves : goal.returns-clause-moves
-returns-clause-moves c = moved_idle _ _ _ (known c.add.new.seat) _ _ c.add.ensures.added c.give_all.ensures.idle
+returns-clause-moves c = let n = c.args.map.now.table.shared.table_id.slots in
+    moved_idle _ _ _ (known c.add.new.seat) _ _ (added_as n (known c.args.self.now.seat) (known c.take_back.new.seat) (known c.add.new.seat) c.args.what c.take_back.ensures.known c.add.ensures.added) c.give_all.ensures.idle

@@ -1,17 +1,31 @@
-use Rattle.std.proofs.Common.{◌≡◌, ℕ, ◌<◌, IsPermutation, ap, subst, ◌∙◌}
+use Rattle.std.proofs.Common.{[], sym, ◌≡◌, ◌<◌, IsPermutation, ap, subst, ◌∙◌}
 use Rattle.txn_trace.specs.Now.{now}
 use Rattle.stripe_part.proofs.Rows.{rows_sorted}
+use Rattle.txn_trace.specs.declared.seat.Phase.TheVariants.{Opened}
+use Rattle.striped_map.specs.declared.view.View.{View}
 use Rattle.striped_map.specs.Contents.{pairs_in}
+use Rattle.striped_map.specs.Steps.{IsAt}
+use Rattle.striped_map.proofs.Ends.{moved_known}
+use Rattle.striped_map.proofs.Hands.{holds_in}
 use Rattle.striped_map.specs.Seats.{known}
-use Rattle.striped_map.specs.Sound.{AreHeld}
+use Rattle.striped_map.specs.Sound.{AreHeld, parts_of}
+use Rattle.striped_map.proofs.Sounds.{sound_same}
 use Rattle.striped_map.proofs.Wholes.{all_pairs}
 use Rattle.striped_map.proofs.hand.Hand.pairs.Goals as goal
 
+pub pairs_of-requires : goal.pairs_of-requires
+pairs_of-requires c = let me = c.hold_all.new.self in record { seat = c.hold_all.ensures.map; held = holds_in _ _ me.seat me.held.items _ me.sound.parts }
+
+pub invariant_of-self : goal.invariant_of-self
+invariant_of-self c = let me = c.hold_all.new.self in
+    record { sound = sound_same c.args.map.now me c.pairs_of.new.seat c.hold_all.ensures.map c.pairs_of.ensures.seat c.pairs_of.ensures.known c.pairs_of.ensures.parts; indexed = me.indexed }
+
 pub returns-clause-ok : goal.returns-clause-ok
-returns-clause-ok c = let map = c.args.map.now in let n = map.table.shared.table_id.slots in let me = c.hold_all.new.self in let v = known me.seat in let held = me.held.items in let m = now v.seen in
+returns-clause-ok c = let map = c.args.map.now in let n = map.table.shared.table_id.slots in let me = c.hold_all.new.self in let v = known me.seat in let held = parts_of me.seat me.held.items in let m = now v.seen in
     let parts : AreHeld n v held m = subst (λ z. AreHeld z.slots v held m) c.hold_all.ensures.map me.sound.parts in
     let all : IsPermutation m.rows (pairs_in n held) = all_pairs n v held m map.some parts c.in_ok-hold_all.ensures.all (λ stripe holds. subst (λ z. stripe < z.slots) c.hold_all.ensures.map (me.seat.inside stripe holds)) in
     let found = c.sort.new.self.items in
-    let is : c.in-Ok.pairs.items ≡ pairs_in n held = c.in-Ok.ensures ∙ ap (λ (x : ℕ). pairs_in x held) c.stripes.ensures in
+    let is : c.in-Ok.pairs.items ≡ pairs_in n held = c.in-Ok.ensures.pairs in
     let sorted : IsPermutation (pairs_in n held) found = subst (λ l. IsPermutation l found) is c.sort.ensures.permutation in
-    let ok = c.in_ok-hold_all.ensures.ok in (ok.0, ok.1, rows_sorted m (pairs_in n held) found all sorted c.in-Ok-sort.ensures.sorted)
+    let ok = c.in_ok-hold_all.ensures.ok in let knows = c.pairs_of.ensures.known in
+    (subst (IsAt Opened) (sym knows) ok.0, moved_known map c.args.self.now me [] ok.1 _ knows, rows_sorted m (pairs_in n held) found all sorted c.in-Ok-sort.ensures.sorted ∙ ap (λ (x : View). (now x.seen).rows) (sym knows))

@@ -1,0 +1,24 @@
+use Rattle.std.proofs.Common.{◌≡◌, ℕ, suc, ◌+◌, Some, drop, slice_get, sum_by, rules, ap, ◌∙◌, arith}
+use Rattle.stripe_part.specs.PartAt.{PartAt}
+use Rattle.txn_trace.specs.Map.{count_of}
+use Rattle.striped_map.specs.Contents.{count_at}
+use Rattle.striped_map.specs.Seats.{part_in}
+use Rattle.striped_map.specs.Sound.{parts_of}
+use Rattle.striped_map.proofs.Hands.{read_at}
+use Rattle.striped_map.proofs.Wholes.{sum_drop}
+use Rattle.striped_map.proofs.contents.count_of.Goals as goal
+
+pub loop-place-preserved : goal.loop-place-preserved
+loop-place-preserved c = let inv = c.loop-place.invariant in let a = c.args.seat.now in let ks = c.args.held.now.items in let place = c.loop-place.place in let k : ℕ = c.index.result.now in
+    let t = c.loop-place-test.true in let l = c.len-place-end.ensures in let o = c.args.held.now.ok.0 in
+    let at : slice_get ks place ≡ Some k = read_at ks place k (omega arith) c.index.ensures in
+    let found : c.count.result ≡ count_of (part_in a k).content = c.count.ensures.count ∙ ap (λ (f : ℕ → PartAt). count_of (f k).content) inv.parts in
+    let sum : c.in_ok-count.count ≡ c.loop-place.count + c.count.result = search rules in
+    let left = sum_drop (part_in a) ks place k at in
+    let next : sum_by count_at (parts_of a (drop (place + 1) ks)) ≡ sum_by count_at (parts_of a (drop (suc place) ks)) = (let one : place + 1 ≡ suc place = omega arith in ap (λ (i : ℕ). sum_by count_at (parts_of a (drop i ks))) one) in
+    let before = inv.count in record {
+      seat = c.count.ensures.seat;
+      knows = c.count.ensures.known ∙ inv.knows;
+      parts = c.count.ensures.parts ∙ inv.parts;
+      count = omega arith;
+    }

@@ -1,0 +1,21 @@
+use Rattle.std.proofs.Common.{◌≡◌, ℕ, suc, ◌+◌, ◌++◌, Some, take, slice_get, sym, ap, ◌∙◌, arith}
+use Rattle.stripe_part.specs.PartAt.{PartAt}
+use Rattle.striped_map.specs.Contents.{pairs_at, pairs_in}
+use Rattle.striped_map.specs.Seats.{part_in}
+use Rattle.striped_map.specs.Sound.{parts_of, with_part}
+use Rattle.striped_map.proofs.Hands.{read_at}
+use Rattle.striped_map.proofs.Wholes.{pairs_take}
+use Rattle.striped_map.proofs.contents.pairs_of.Goals as goal
+
+pub loop-place-preserved : goal.loop-place-preserved
+loop-place-preserved c = let inv = c.loop-place.invariant in let n = c.args.map.now.table.shared.table_id.slots in let a = c.args.seat.now in let ks = c.args.held.now.items in let place = c.loop-place.place in let k : ℕ = c.index.result.now in
+    let t = c.loop-place-test.true in let l = c.len-place-end.ensures in let o = c.args.held.now.ok.0 in
+    let at : slice_get ks place ≡ Some k = read_at ks place k (omega arith) c.index.ensures in
+    let next : pairs_in n (parts_of a (take (suc place) ks)) ≡ pairs_in n (parts_of a (take (place + 1) ks)) = (let one : suc place ≡ place + 1 = omega arith in ap (λ (i : ℕ). pairs_in n (parts_of a (take i ks))) one) in
+    record {
+      seat = c.add_pairs.ensures.seat;
+      knows = c.add_pairs.ensures.known ∙ inv.knows;
+      parts = c.add_pairs.ensures.parts ∙ inv.parts;
+      pairs = c.in_ok-add_pairs.ensures.pairs ∙ ap (λ (f : ℕ → PartAt). c.loop-place.pairs.items ++ pairs_at n (with_part f k)) inv.parts ∙ ap (λ l. l ++ pairs_at n (with_part (part_in a) k)) inv.pairs
+          ∙ sym (pairs_take n (part_in a) ks place k at) ∙ next;
+    }
