@@ -24,7 +24,7 @@ const FEW_BUCKETS: u64 = 4096;
 
 /// How many keys there are for each initialised bucket of a large table. With fewer, the puts of
 /// new keys would initialise more buckets; with more, operations would walk past more nodes.
-const KEYS_A_BUCKET: u64 = 6;
+const KEYS_A_BUCKET: u64 = 8;
 
 /// A transactional map from `u64` to `u64` with one owner, who makes every call, for any of its
 /// callers. Contracts see its core.
