@@ -55,14 +55,6 @@ moved_busy map a b c op holder x y = moved_then map a b c (λ k. Busy k op holde
     (subst (λ (jobs : List (ℕ × Option ℕ)). Moves map b (Busy (known b.seat).number op holder ∷ undoing (known b.seat).number jobs (Aborted (known b.seat).number)) c)
     (due_same (known a.seat) (known b.seat) x.number_is (own_same (stripes_of map) (known a.seat).number (known a.seat).seen (known b.seat).seen x.goes)) y)
 
-pub moved_none : (map : StripedMap) (a b : Hand) → Moves map a [] b → (c : Hand) → c.seat ≡ b.seat → Moves map a [] c
-moved_none map a b x c same = record {
-  number_is = ap (λ z. (known z).number) same ∙ x.number_is;
-  retired_is = ap (λ z. (known z).retired) same ∙ x.retired_is;
-  made_is = ap (λ z. (known z).made) same ∙ x.made_is;
-  goes = subst (Extends (stripes_of map) (known a.seat).number (known a.seat).seen []) (sym (ap (λ z. (known z).seen) same)) x.goes;
-}
-
 -- The same of a hand whose seat knows the same.
 pub moved_known : (map : StripedMap) (a b : Hand) (es : List Entry) → Moves map a es b → (c : Hand) → known c.seat ≡ known b.seat → Moves map a es c
 moved_known map a b es x c same = record {

@@ -83,11 +83,6 @@ stripe_at [] i h e = absurd (none_some h e)
 stripe_at (x ∷ held) zero h e = ap (λ (y : Held). Some y.stripe) (some_same x h e)
 stripe_at (x ∷ held) (suc i) h e = stripe_at held i h e
 
-pub part_at : (held : List Held) (i k : ℕ) → slice_get (stripes_in held) i ≡ Some k → (h : Held) × (slice_get held i ≡ Some h) × (h.stripe ≡ k)
-part_at [] i k e = absurd (none_some k e)
-part_at (x ∷ held) zero k e = (x, refl, some_same x.stripe k e)
-part_at (x ∷ held) (suc i) k e = part_at held i k e
-
 pub stripes_set : (held : List Held) (j : ℕ) (h new : Held) → slice_get held j ≡ Some h → new.stripe ≡ h.stripe → stripes_in (set held j new) ≡ stripes_in held
 stripes_set [] j h new at same = refl
 stripes_set (x ∷ held) zero h new at same = ap (λ (k : ℕ). k ∷ stripes_in held) (same ∙ ap (λ (y : Held). y.stripe) (sym (some_same x h at)))
