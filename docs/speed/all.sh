@@ -1,6 +1,6 @@
 #!/usr/bin/env bash
-# Measures each figure of ../SPEED.md again: runs the other scripts of this folder one after the other, each with the rounds that
-# the page names, and prints a heading and the output of each. That takes some two hours once all is proved; nothing else should
+# Measures the figures of ../SPEED.md again, except those of striped_memory.sh, bounds.sh and c.sh: runs the other scripts of this
+# folder one after the other, each with the rounds below, and prints a heading and the output of each. That takes some two hours once all is proved; nothing else should
 # run meanwhile. To run only some of them: docs/speed/all.sh whole run
 # Usage: docs/speed/all.sh [SCRIPT..]
 set -euo pipefail
