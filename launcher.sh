@@ -91,7 +91,7 @@ say() {
         $((SECONDS / 60)) $((SECONDS % 60)) >&2
 }
 
-# Makes a folder with the crates named, of which the last is to be proved: the sources of all, and what
+# Makes a folder with the crates named, the last of which is to be proved: the sources of all, and what
 # was built of the others.
 lay_out() {
     local folder=$1 name part
@@ -109,7 +109,7 @@ lay_out() {
         "$root/crates.txt" >"$folder/crates.txt"
 }
 
-# Whether no library that is not proved yet has a longer way up to the program than this one.
+# Whether this library has the longest way up to the program of all that are not proved yet.
 leads() {
     local name
     for name in $order; do
