@@ -8,19 +8,12 @@
 # Rattle, and the same from C. It prints the median nanoseconds and, with valgrind, the instructions of a transaction in both, and
 # how much more each of its six calls takes from C; last, the nanoseconds of a call that is refused at once.
 #
-# BENCH may name the program `bench`; otherwise it is proved and built. CXX may name another compiler than `c++`. The crossing is
-# measured with clang++ if it is there, so that LLVM compiles both sides of it; GCC's code for the loop of c_map is slower.
-# Usage: docs/speed/c.sh [ROUNDS]
+# BENCH may name the program `bench`; otherwise it is proved and built. CXX may name another compiler than `c++`: with clang++ both
+# sides of the crossing are compiled by LLVM. Usage: docs/speed/c.sh [ROUNDS]
 source "$(dirname "${BASH_SOURCE[0]}")/common.sh"
 rounds=${1:-9}
 quietly bindings/install.sh "$work/usr"
-
-# Compiles c_map: the compiler, and the program's file.
-compile() {
-  quietly "$1" -std=c++17 -O2 -I"$work/usr/include" docs/speed/c_map.cpp -L"$work/usr/lib" -lboostmap -pthread -o "$2"
-}
-compile "${CXX:-c++}" "$work/c_map"
-compile "$(command -v clang++ || echo "${CXX:-c++}")" "$work/crossed"
+quietly "${CXX:-c++}" -std=c++17 -O2 -I"$work/usr/include" docs/speed/c_map.cpp -L"$work/usr/lib" -lboostmap -pthread -o "$work/c_map"
 
 # The median of the first column of the lines of a file, and the one sum of their second.
 median() {
@@ -51,7 +44,7 @@ inside() {
   "${@:2}" "$work/proved" striped 1 1000 "$1" 1024 2>&1 |
     sed 's/.* a second, \([0-9]*\) ns .* sum \([0-9]*\)$/\1 \2/'
 }
-from_c() { "${@:2}" "$work/crossed" bench 1000 "$1" 2>&1; }
+from_c() { "${@:2}" "$work/c_map" bench 1000 "$1" 2>&1; }
 
 # The instructions of a transaction: the difference between 60,000 and 20,000.
 instructions() {
@@ -86,6 +79,6 @@ crossing nanoseconds "$library" "$crossed"
 if command -v valgrind >/dev/null; then
   crossing instructions "$(instructions inside)" "$(instructions from_c)"
 fi
-for _ in $(seq "$rounds"); do "$work/crossed" refusal 1 10000000 >>"$work/refusal"; done
+for _ in $(seq "$rounds"); do "$work/c_map" refusal 1 10000000 >>"$work/refusal"; done
 read -r refusal _ <<<"$(median "$work/refusal")"
 echo "a call that is refused at once: $refusal ns"
