@@ -553,6 +553,11 @@ little_memory() {
   }' >"$work/lines"
   { printf '{"entries":[' && paste -sd , "$work/lines" && echo '],"stripes":8,"version":3}'; } >"$work/long.json"
   local words limit
+  for words in check 'check --serializable' why 'why --serializable'; do
+    # The words are several.
+    # shellcheck disable=SC2086
+    wants 0 'legal 0 commits 1 open' '' $words "$work/long.json"
+  done
   for words in check 'check --serializable' why 'why --serializable' 'outcomes examples/scripts.json'; do
     for limit in 8000 16000 24000 32000; do
       # The words are several.

@@ -137,11 +137,11 @@ greatest_numbers() {
   wants 3 '' 'refused 22' replay "$work/file.json"
 }
 
-# 65,537 keys, with which the table doubles up to 65,536 buckets. They are put from the last of the
+# 100,002 keys, with which the table doubles up to 65,536 buckets. They are put from the last of the
 # list's order to the first, so that each is put right after the dummy of bucket 0.
 most_buckets() {
   awk 'BEGIN {
-    for (key = 0; key < 65537; key++) {
+    for (key = 0; key < 100002; key++) {
       reversed = 0
       left = key
       for (bit = 0; bit < 17; bit++) { reversed = 2 * reversed + left % 2; left = int(left / 2) }
@@ -158,32 +158,50 @@ most_buckets() {
     echo 'began 1'
     awk '{ print "asked\nplaced\ndone none" }' "$work/order"
     awk 'BEGIN { for (size = 4; size <= 65536; size *= 2) print "doubled " size }'
-    printf '%s\n' 'at limit' 'committed 1' 'size 65536 count 65537'
+    printf '%s\n' 'at limit' 'committed 1' 'size 65536 count 100002'
     awk '{ print $1, $1 }' "$work/order"
   } >"$work/lines"
   same_lines '65,536 buckets'
 }
 
-most_scripts() {
-  local command workers
-  for workers in 1 64; do
-    awk 'BEGIN { for (i = 0; i < 10000; i++) printf "[[\"put\",%d,%d]]\n", i, i }' |
-      scripts $workers >"$work/file.json"
-    for command in 'mix --seed 1' run; do
-      # shellcheck disable=SC2086
-      "$program" $command "$work/file.json" 2>"$work/err" | "$program" check /dev/stdin >"$work/out" 2>>"$work/err"
-      echo $? >"$work/status"
-      judge "$command: 10,000 scripts, $workers workers" 0 'legal 10000 commits 0 open' ''
-    done
-  done
-  awk 'BEGIN { printf "["; for (i = 1; i < 10000; i++) printf "[\"put\",%d,1],", i; print "[\"get\",1]]" }' |
-    scripts 1 >"$work/file.json"
+# run_and_check WHAT COMMITS: `mix` and `run` of the script file commit so many transactions, by `check`.
+run_and_check() {
+  local command
   for command in 'mix --seed 1' run; do
     # shellcheck disable=SC2086
     "$program" $command "$work/file.json" 2>"$work/err" | "$program" check /dev/stdin >"$work/out" 2>>"$work/err"
     echo $? >"$work/status"
-    judge "$command: a script of 10,000 actions" 0 'legal 1 commits 0 open' ''
+    judge "$command: $1" 0 "legal $2 commits 0 open" ''
   done
+}
+
+# Each operation on the least, the middle and the greatest key, with the least and greatest values.
+greatest_keys_of_scripts() {
+  local key list='' max=18446744073709551615
+  for key in 0 9223372036854775808 $max; do
+    list+="[\"put\",$key,0],[\"put_if\",$key,0,$max],[\"get\",$key],[\"put_if\",$key,$max,18446744073709551614],"
+    list+="[\"take\",$key],[\"put_if\",$key,null,$max],[\"take\",$key],[\"put\",$key,$max],"
+  done
+  echo "[${list%,}]" | scripts 1 >"$work/file.json"
+  run_and_check 'the greatest keys and values' 1
+}
+
+most_scripts() {
+  local workers
+  for workers in 1 64; do
+    awk 'BEGIN { for (i = 0; i < 10000; i++) printf "[[\"put\",%d,%d]]\n", i, i }' |
+      scripts $workers >"$work/file.json"
+    run_and_check "10,000 scripts, $workers workers" 10000
+  done
+  awk 'BEGIN { printf "["; for (i = 1; i < 10000; i++) printf "[\"put\",%d,1],", i; print "[\"get\",1]]" }' |
+    scripts 1 >"$work/file.json"
+  run_and_check 'a script of 10,000 actions' 1
+  awk 'BEGIN {
+    printf "["
+    for (i = 1; i <= 1000; i++) printf "[\"put\",7,%d],[\"save\"],", i
+    print "[\"back\",1000],[\"back\",500],[\"back\",0],[\"get\",7]]"
+  }' | scripts 1 >"$work/file.json"
+  run_and_check '1,000 savepoints' 1
   yes '[]' | head -n 10001 | scripts 1 >"$work/file.json"
   wants 3 '' 'refused 22' mix --seed 1 "$work/file.json"
   yes '[]' | head -n 1 | scripts 65 >"$work/file.json"
@@ -224,6 +242,7 @@ many_levels
 greatest_numbers
 most_buckets
 most_scripts
+greatest_keys_of_scripts
 no_help
 most_entries
 conclude

@@ -156,6 +156,9 @@ refused_files() {
   wants 3 '' 'refused 22' replay "$work/long.json"
   head -c 16777216 "$work/long.json" >"$work/longest.json"
   wants 0 "$(shown 'replay first_commit.json')" '' replay "$work/longest.json"
+  cat "$work/longest.json" | "$program" replay /dev/stdin >"$work/out" 2>"$work/err"
+  echo $? >"$work/status"
+  judge 'replay of the longest file through a pipe' 0 "$(shown 'replay first_commit.json')" ''
 }
 
 # The files of files.tsv: one that is accepted must run, and for one that is refused the line is compared.
