@@ -8,7 +8,7 @@ use arrayvec::ArrayVec;
 use json::{Reader, Scratch, Token};
 use piece_files::{
     FileFault, Part, PieceKind, Plain, Stop, elements_at, end_in, number_in, one_in, optional_in,
-    pass_value, pieces_in, plain_elements, read_file, two_in, word_in,
+    pass_value, pieces_at, pieces_in, plain_elements, read_file, two_in, whole_array, word_in,
 };
 use std::alloc::{AllocError, Global};
 use std::process::Abort;
@@ -542,6 +542,43 @@ fn values_in_a_row(rt: HostRuntime) -> Result<(), Fail> {
     let mut scratch = Scratch::new(rt.alloc());
     let mut reader = Reader::new(r#"[{"x":[1,-2.5]},[[1,2],[3,4],0]]"#, &mut scratch)?;
     compare_row(&rt, rt.alloc(), &mut reader)
+}
+
+/// Texts behind an opening bracket, and where an array of at most two plain elements ends.
+const PLAIN: &[(&str, Option<usize>)] = &[
+    ("1,2],3", Some(4)),
+    ("null]", Some(5)),
+    ("1,2,3]", None),
+    ("1,2", None),
+    ("]", None),
+];
+
+#[test]
+fn elements_in_plain_form(rt: HostRuntime) {
+    let mut elements = ArrayVec::<Plain<'_>, 2>::new();
+    for (text, end) in PLAIN {
+        assert!(rt; elements_at(text, 0, &mut elements) == *end, "{text}");
+    }
+}
+
+#[test]
+fn whole_arrays_in_plain_form(rt: HostRuntime) {
+    let mut elements = ArrayVec::<Plain<'_>, 2>::new();
+    assert!(rt; whole_array("[1,2]", &mut elements));
+    assert!(rt; two_in(&elements) == Some((1, 2)));
+    assert!(rt; !whole_array("[1,2],3", &mut elements));
+}
+
+#[test]
+fn pieces_in_plain_form(rt: HostRuntime) -> Result<(), Fail> {
+    let mut at = 0;
+    let found = pieces_at::<PointKind>(rt.alloc(), "[1,2],[3,4]],5", &mut at, 1)?.ok_or(
+        "not plain",
+    )?;
+    assert!(rt; at == 12);
+    assert!(rt; found.pieces.as_slice() == [(1, 2), (3, 4)].as_slice());
+    assert!(rt; found.count == 2 && found.are_all);
+    Ok(())
 }
 
 /// The text of a fault.
