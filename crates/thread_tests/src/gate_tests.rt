@@ -33,11 +33,16 @@ impl Heard {
     }
 }
 
-/// A gate that notes its calls. Worker 1 waits before its first action until script 0 is done.
+/// A gate that notes its calls. Worker 0 waits before its second action until worker 1 has done all
+/// its scripts, and worker 1 waits before its first action until worker 0 is there. So no worker's
+/// operation comes between the holds of another's.
 #[derive(Drop)]
 struct Listener<'a, R: Wait + Abort + Clock + Sync> {
     rt: &'a R,
     heard: Mutex<Vec<Heard>>,
+    /// The last script, which is worker 1's.
+    last: usize,
+    is_there: AtomicBool,
     is_done: AtomicBool,
 }
 
@@ -46,15 +51,19 @@ impl<R: Wait + Abort + Clock + Sync> Gate for Listener<'_, R> {
         let call = Heard::Before(worker, script, action);
         let noted = self.heard.lock(self.rt).push(call);
         assert!(self.rt; noted.is_ok(), "memory");
-        if worker == 1 && action == 0 {
+        if worker == 0 && action == 1 {
+            self.is_there.store(true, Ordering::SeqCst);
             await_flag(self.rt, &self.is_done);
+        }
+        if worker == 1 && action == 0 {
+            await_flag(self.rt, &self.is_there);
         }
     }
 
     fn done(&self, script: usize) {
         let noted = self.heard.lock(self.rt).push(Heard::Done(script));
         assert!(self.rt; noted.is_ok(), "memory");
-        if script == 0 {
+        if script == self.last {
             self.is_done.store(true, Ordering::SeqCst);
         }
     }
@@ -65,19 +74,23 @@ impl<R: Wait + Abort + Clock + Sync> Gate for Listener<'_, R> {
     }
 }
 
-/// The calls that a gate gets in a run with this number of workers.
+/// The calls that a gate gets in a run with this number of workers and of further tries. One worker
+/// alone does not wait; of two, the last script must be worker 1's.
 fn heard_of<R: Threads + Wait + Abort + Clock + Sync>(
     rt: &R,
     alloc: Global,
     scripts: &[Script],
     workers: u64,
+    tries: u64,
 ) -> Result<Vec<Heard>, Refusal> {
     let listener = Listener {
         rt,
         heard: Mutex::new(Vec::new(alloc)),
-        is_done: AtomicBool::new(false),
+        last: scripts.len().saturating_sub(1),
+        is_there: AtomicBool::new(false),
+        is_done: AtomicBool::new(workers < 2),
     };
-    run(rt, alloc, scripts, workers, 8, 0, &listener)?;
+    run(rt, alloc, scripts, workers, 8, tries, &listener)?;
     Ok(listener.heard.into_inner())
 }
 
@@ -114,6 +127,17 @@ fn is_heard(heard: &[Heard], wanted: &[(Heard, usize)]) -> bool {
     rest.is_empty()
 }
 
+/// Whether the calls of this worker, one of two, are exactly these.
+fn is_own(
+    alloc: Global,
+    heard: &[Heard],
+    worker: usize,
+    wanted: &[(Heard, usize)],
+) -> Result<bool, AllocError> {
+    let own = own(alloc, heard, worker, 2)?;
+    Ok(is_heard(own.as_slice(), wanted))
+}
+
 /// A begin and a commit are one hold each, an operation three; an abort is three, and two for the
 /// change that it takes back.
 #[test]
@@ -122,7 +146,7 @@ fn one_worker_is_heard(rt: HostRuntime) -> Result<(), Fail> {
     let second = [Action::Op(Op::Take(1)), Action::Abort];
     let lists = [first.as_slice(), second.as_slice()];
     let scripts = scripts_of(rt.alloc(), lists.as_slice())?;
-    let heard = heard_of(&rt, rt.alloc(), scripts.as_slice(), 1)?;
+    let heard = heard_of(&rt, rt.alloc(), scripts.as_slice(), 1, 0)?;
     let wanted = [
         (Heard::Freed(0), 1),
         (Heard::Before(0, 0, 0), 1),
@@ -143,15 +167,20 @@ fn one_worker_is_heard(rt: HostRuntime) -> Result<(), Fail> {
     Ok(())
 }
 
-/// Of two workers, one after the other, each has its own calls.
+/// Of two workers, with two scripts each, each has its own calls.
 #[test]
 fn two_workers_are_heard(rt: HostRuntime) -> Result<(), Fail> {
-    let first = [put(1, 10)];
-    let second = [put(2, 20)];
-    let lists = [first.as_slice(), second.as_slice()];
+    let puts = [[put(1, 10)], [put(2, 20)], [put(3, 30)], [put(4, 40)]];
+    let lists = [
+        puts[0].as_slice(),
+        puts[1].as_slice(),
+        puts[2].as_slice(),
+        puts[3].as_slice(),
+    ];
     let scripts = scripts_of(rt.alloc(), lists.as_slice())?;
-    let heard = heard_of(&rt, rt.alloc(), scripts.as_slice(), 2)?;
+    let heard = heard_of(&rt, rt.alloc(), scripts.as_slice(), 2, 0)?;
     for worker in 0..2 {
+        let second = worker + 2;
         let wanted = [
             (Heard::Freed(worker), 1),
             (Heard::Before(worker, worker, 0), 1),
@@ -159,12 +188,48 @@ fn two_workers_are_heard(rt: HostRuntime) -> Result<(), Fail> {
             (Heard::Before(worker, worker, 1), 1),
             (Heard::Freed(worker), 1),
             (Heard::Done(worker), 1),
+            (Heard::Freed(worker), 1),
+            (Heard::Before(worker, second, 0), 1),
+            (Heard::Freed(worker), 3),
+            (Heard::Before(worker, second, 1), 1),
+            (Heard::Freed(worker), 1),
+            (Heard::Done(second), 1),
         ];
-        let own = own(rt.alloc(), heard.as_slice(), worker, 2)?;
         assert!(&rt;
-            is_heard(own.as_slice(), wanted.as_slice()),
+            is_own(rt.alloc(), heard.as_slice(), worker, wanted.as_slice())?,
             "worker {worker}"
         );
     }
+    Ok(())
+}
+
+/// Worker 0 has the stripe of key 1 until worker 1 has given up. An operation that finds a stripe
+/// held is three holds too: the question, a seek that finds no change to take back, and the abort.
+/// A script is done once, after its last try.
+#[test]
+fn second_try_is_heard(rt: HostRuntime) -> Result<(), Fail> {
+    let first = [put(1, 10)];
+    let second = [Action::Op(Op::Get(1))];
+    let lists = [first.as_slice(), second.as_slice()];
+    let scripts = scripts_of(rt.alloc(), lists.as_slice())?;
+    let heard = heard_of(&rt, rt.alloc(), scripts.as_slice(), 2, 1)?;
+    let holder = [
+        (Heard::Freed(0), 1),
+        (Heard::Before(0, 0, 0), 1),
+        (Heard::Freed(0), 3),
+        (Heard::Before(0, 0, 1), 1),
+        (Heard::Freed(0), 1),
+        (Heard::Done(0), 1),
+    ];
+    let refused = [
+        (Heard::Freed(1), 1),
+        (Heard::Before(1, 1, 0), 1),
+        (Heard::Freed(1), 4),
+        (Heard::Before(1, 1, 0), 1),
+        (Heard::Freed(1), 3),
+        (Heard::Done(1), 1),
+    ];
+    assert!(&rt; is_own(rt.alloc(), heard.as_slice(), 0, holder.as_slice())?);
+    assert!(&rt; is_own(rt.alloc(), heard.as_slice(), 1, refused.as_slice())?);
     Ok(())
 }
