@@ -4,8 +4,8 @@
 #   PREFIX/lib/pkgconfig/boostmap.pc
 #   PREFIX/include/boostmap.h, boostmap_checked.h, boostmap.hpp
 #   PREFIX/share/boostmap/python/        boostmap.py and the shared object that it loads
-# If the archive is not built yet, it is proved and built first, in a quarter of an hour. It needs rt, cc
-# and ar.
+# If the archive is not built yet, or a source is newer, it is proved and built first, in a quarter of an
+# hour. It needs rt, cc and ar.
 set -euo pipefail
 if [ $# != 1 ]; then
   echo "usage: bindings/install.sh PREFIX" >&2
@@ -15,19 +15,20 @@ mkdir -p "$1"
 prefix=$(cd "$1" && pwd)
 cd "$(dirname "${BASH_SOURCE[0]}")/.."
 proved=crates/boostmap_c/out/libboostmap_c.a
-[ -f "$proved" ] || (cd crates/boostmap_c && ${RT:-rt} lib) >&2
+if [ ! -f "$proved" ] || [ -n "$(find crates crates.txt -newer "$proved" \( -name '*.rt' -o -name '*.antt' -o -name crates.txt \) -not -path '*/out/*')" ]; then
+  (cd crates/boostmap_c && ${RT:-rt} lib) >&2
+fi
 glue=$(dirname "$(${RT:-rt} doc)")/c/liblibc_c.a
 python=$prefix/share/boostmap/python
 mkdir -p "$prefix/lib/pkgconfig" "$prefix/include" "$python"
 
-rm -f "$prefix/lib/libboostmap.a"
-ar -M <<MERGE
-create $prefix/lib/libboostmap.a
-addlib $proved
-addlib $glue
-save
-end
-MERGE
+# The scripts of ar take no blank in a path, and its status does not say so.
+merged=$(mktemp -d)
+trap 'rm -rf "$merged"' EXIT
+cp "$proved" "$merged/proved.a"
+cp "$glue" "$merged/glue.a"
+(cd "$merged" && printf '%s\n' 'create merged.a' 'addlib proved.a' 'addlib glue.a' save end | ar -M && [ -s merged.a ])
+cp "$merged/merged.a" "$prefix/lib/libboostmap.a"
 cc -shared -o "$python/libboostmap.so" -Wl,--whole-archive "$proved" -Wl,--no-whole-archive "$glue"
 cp bindings/include/boostmap.h bindings/include/boostmap_checked.h bindings/include/boostmap.hpp "$prefix/include/"
 cp bindings/python/boostmap.py "$python/"

@@ -21,9 +21,13 @@ static boostmap_status move_one(boostmap_caller *c) {
     return status;
 }
 
+/* Moves ROUNDS times; a move that finds a stripe busy is tried again. Returns null if all were made. */
 static void *run(void *caller) {
-    for (int done = 0; done < ROUNDS;)
-        if (move_one(caller) == BOOSTMAP_DONE) done++;
+    for (int done = 0; done < ROUNDS;) {
+        boostmap_status status = move_one(caller);
+        if (status == BOOSTMAP_DONE) done++;
+        else if (status != BOOSTMAP_BUSY) return caller;
+    }
     return NULL;
 }
 
@@ -34,13 +38,17 @@ int main(void) {
     if (boostmap_striped_open(&callers[0], THREADS, 64, &word) != BOOSTMAP_DONE) return 1;
     for (int i = 1; i < THREADS; i++)
         if (boostmap_striped_join(&callers[0], &callers[i], &word) != BOOSTMAP_DONE) return 1;
-    boostmap_striped_begin(&callers[0]);
-    boostmap_striped_put(&callers[0], 1, 5000, &word);
-    boostmap_striped_put(&callers[0], 2, 0, &word);
-    boostmap_striped_commit(&callers[0], &word);
+    if (boostmap_striped_begin(&callers[0]) != BOOSTMAP_DONE ||
+        boostmap_striped_put(&callers[0], 1, 5000, &word) != BOOSTMAP_ABSENT ||
+        boostmap_striped_put(&callers[0], 2, 0, &word) != BOOSTMAP_ABSENT ||
+        boostmap_striped_commit(&callers[0], &word) != BOOSTMAP_DONE)
+        return 1;
     for (int i = 0; i < THREADS; i++)
         if (pthread_create(&threads[i], NULL, run, &callers[i])) return 1;
-    for (int i = 0; i < THREADS; i++) pthread_join(threads[i], NULL);
+    for (int i = 0; i < THREADS; i++) {
+        void *stopped = NULL;
+        if (pthread_join(threads[i], &stopped) || stopped) return 1;
+    }
     boostmap_striped_begin(&callers[0]);
     boostmap_striped_get(&callers[0], 1, &one);
     boostmap_striped_get(&callers[0], 2, &two);

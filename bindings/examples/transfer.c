@@ -17,9 +17,9 @@ static int read_balance(boostmap *accounts, uint64_t account, uint64_t *balance)
 static int transfer(boostmap *accounts, uint64_t from, uint64_t to, uint64_t sum) {
     uint64_t word, left, had;
     if (boostmap_begin(accounts, 0, &word) != BOOSTMAP_DONE) return 0;
-    if (read_balance(accounts, from, &left) && left >= sum && read_balance(accounts, to, &had) &&
+    if (read_balance(accounts, from, &left) && left >= sum &&
         is_done(boostmap_put(accounts, 0, from, left - sum, &word)) &&
-        is_done(boostmap_put(accounts, 0, to, had + sum, &word)) &&
+        read_balance(accounts, to, &had) && is_done(boostmap_put(accounts, 0, to, had + sum, &word)) &&
         boostmap_commit(accounts, 0, &word) == BOOSTMAP_DONE)
         return 1;
     boostmap_abort(accounts, 0, &word);

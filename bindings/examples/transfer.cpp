@@ -7,10 +7,9 @@ using boostmap_cpp::map;
 static bool transfer(map &accounts, std::uint64_t from, std::uint64_t to, std::uint64_t sum) {
     auto t = accounts.begin(0);
     auto left = t.get(from).value_or(0);
-    auto had = t.get(to).value_or(0);
     if (left < sum) return false; // the transaction aborts as it is destroyed
     t.put(from, left - sum);
-    t.put(to, had + sum);
+    t.put(to, t.get(to).value_or(0) + sum);
     t.commit();
     return true;
 }

@@ -37,17 +37,25 @@
  *     history, so it may run forever. If a caller finds a stripe held, the call returns
  *     BOOSTMAP_BUSY, and the transaction has been aborted, with all its changes taken back.
  *
+ * RETURN VALUE
  *     Every call returns a status. Most take a pointer `word`: BOOSTMAP_DONE and BOOSTMAP_BUSY write
  *     a number there, and no other status does unless its call says so. The comment of a call ends
- *     with the statuses that it may return.
+ *     with the statuses that it may return, and boostmap_text says a status in words:
+ *
+ *     0, 1      done; 1 at a key without a value
+ *     2         another caller holds the key's stripe
+ *     3, 4      the handle is empty, or in use already; nothing was done
+ *     5, 6      of boostmap_checked.h: a null pointer, or a handle that is in another call
+ *     7, 8      an array that is too short, or numbers that are no entry
+ *     16 + n    refused; n is the number of the refusal, from 2 to 22
  *
  * OWNERSHIP
  *     A `boostmap` is a handle of 16 bytes in the program's memory, all zeros at first
  *     (BOOSTMAP_INIT). boostmap_new gives it a map; boostmap_free frees the map and makes the handle
  *     all zeros again. A handle may be moved by copying its bytes, if only the copy is used
  *     afterwards. Never read or write its fields. The same holds for a `boostmap_judge`, and for a
- *     `boostmap_caller`, which takes 64 bytes. A striped map is freed with the last of its callers; a
- *     caller that is freed in a transaction aborts it.
+ *     `boostmap_caller`, which takes 64 bytes and is aligned to 64. A striped map is freed with the
+ *     last of its callers; a caller that is freed in a transaction aborts it.
  *
  * THREADS
  *     Make one call at a time on one handle. Any thread may make the next call, if a mutex, a
@@ -62,15 +70,18 @@
  *
  * WHAT THE PROGRAM MUST DO (otherwise its behaviour is undefined, for example as at the right)
  *     1. A handle is all zeros or as these calls left it.            garbage mostly returns 3
- *     2. Pointers are not null, and those of a call do not overlap.  null crashes; 5 with
- *                                                                    boostmap_checked.h
+ *     2. Pointers are not null, and aligned; those of a call do not  null crashes; 5 with
+ *        overlap each other or the map's memory.                     boostmap_checked.h
  *     3. One call at a time on one handle, ordered as above.         two corrupt the map; 6 with
  *                                                                    boostmap_checked.h
- *     4. A copy of a handle is not used after the other was freed.   use after free
+ *     4. After a handle is copied, only one of the two is used.      use after free
  *     5. An array has as many elements as its count says, and is     reads or writes beyond it
  *        not null, even if the count is 0.
- *     6. No call from a signal handler, or from the forked child of a process with threads.
- *     7. malloc, realloc and free come from one allocator and align to 16, as in any C library.
+ *     6. No call from a signal handler, or from the forked child     malloc may deadlock
+ *        of a process with threads.
+ *     7. malloc, realloc and free come from one allocator and align  the heap is corrupted
+ *        to 16, as in any C library.
+ *     8. There is enough stack for a call.                           the program crashes
  *
  *     Everything else returns a status: an empty handle (also after boostmap_free), a caller, a
  *     level or a limit out of range, calls out of order, and memory that is refused.
@@ -114,7 +125,7 @@ enum {
     BOOSTMAP_IN_CALL = 6, /* only from boostmap_checked.h: the handle is in another call */
     BOOSTMAP_SHORT = 7,  /* of a read: the array is too short; *word is the number of places that it needs */
     BOOSTMAP_NO_ENTRY = 8, /* of a judge: these numbers are no entry of a caller below 64 */
-    /* 16 + the number of a refusal: map and transaction are unchanged */
+    /* 16 + the number of a refusal: nothing has changed, unless the comment of the call says what */
     BOOSTMAP_NO_SUCH_CALLER = 18,  /* the caller's number is not below the number of callers; from
                                       boostmap_striped_join: no caller waits */
     BOOSTMAP_NOT_OPEN = 19,        /* the caller has no transaction */
@@ -175,7 +186,7 @@ boostmap_status boostmap_read(boostmap *map, boostmap_pair *pairs, size_t places
 
 /* Doubles the table if it has more than two keys a bucket, and initialises the key's bucket. Nothing
  * else doubles the table: call this from time to time when you put keys, or it becomes one long list.
- * 0; 3; 28; 32; 30 */
+ * After 30 and 32 the table may have grown all the same.    0; 3; 28; 32; 30 */
 boostmap_status boostmap_help(boostmap *map, uint64_t caller, uint64_t key);
 
 /* Begins a transaction; *word: its number, from 1.    0; 3; 18; 20; 22; 30 */
@@ -212,18 +223,18 @@ boostmap_status boostmap_back(boostmap *map, uint64_t caller, uint64_t level, ui
  * One handle is one caller. Its calls need no lock: give each thread its own caller. A caller may move
  * to another thread between any two calls, also within a transaction. */
 
-/* Aligns a handle to a line of the processor's cache; a compiler before C11 does not. */
+/* Aligns a handle to a line of the processor's cache. */
 #if defined __cplusplus
 #define BOOSTMAP_LINE alignas(64)
-#elif defined __STDC_VERSION__ && __STDC_VERSION__ >= 201112L
-#define BOOSTMAP_LINE _Alignas(64)
+#elif defined __GNUC__
+#define BOOSTMAP_LINE __attribute__((aligned(64)))
 #else
-#define BOOSTMAP_LINE
+#define BOOSTMAP_LINE _Alignas(64)
 #endif
 
 /* A handle of a caller: all zeros, or a caller of a striped map. The program does not touch the
- * fields. Every call writes to its handle, so each takes a line of the cache: threads whose handles
- * share one wait for each other. On the heap, take it from aligned_alloc. */
+ * fields. It has a line of the cache to itself: every call reads it, and would wait for what another
+ * thread writes beside it. On the heap, take it from aligned_alloc. */
 typedef struct boostmap_caller {
     BOOSTMAP_LINE uint64_t tag;
     void *held;
@@ -269,7 +280,7 @@ boostmap_status boostmap_striped_save(boostmap_caller *caller, uint64_t *word);
 boostmap_status boostmap_striped_back(boostmap_caller *caller, uint64_t level);
 
 /* Takes every stripe; *word: the number of keys that the map has, with the transaction's own changes.
- * The stripes stay held to the transaction's end.
+ * The stripes stay held to the transaction's end; after 30 it may hold some of them.
  * 0; 2, after which the transaction has been aborted; 3; 19; 30 */
 boostmap_status boostmap_striped_count(boostmap_caller *caller, uint64_t *word);
 

@@ -2,9 +2,10 @@
 // their destructor, and `transact` with a lambda. This header is only tested; the archive is proved.
 //
 //     boostmap_cpp::map accounts(2, 64, 1024);
+//     accounts.transact(0, [](auto &t) { t.put(1, 10); });
 //     accounts.transact(0, [](auto &t) {
-//         t.put(1, *t.get(1) - 5);
-//         t.put(2, *t.get(2) + 5);
+//         t.put(1, t.get(1).value_or(0) - 5);
+//         t.put(2, t.get(2).value_or(0) + 5);
 //     });                                  commits; an exception aborts
 //
 //     auto callers = boostmap_cpp::open_striped(4, 64);      one for each of four threads
@@ -17,6 +18,7 @@
 
 #include "boostmap.h"
 
+#include <algorithm>
 #include <cstdint>
 #include <optional>
 #include <stdexcept>
@@ -32,6 +34,13 @@ namespace boostmap_cpp {
 struct error : std::runtime_error {
     boostmap_status status;
     explicit error(boostmap_status s) : std::runtime_error(boostmap_text(s)), status(s) {}
+};
+
+// Thrown if entries could not all be fed: those before the entry with this index are fed, and feeding
+// may go on there.
+struct not_fed : error {
+    std::uint64_t fed;
+    not_fed(boostmap_status s, std::uint64_t count) : error(s), fed(count) {}
 };
 
 // Thrown if another caller holds the key's stripe. The transaction can then only abort; on a striped
@@ -204,7 +213,7 @@ private:
 };
 
 // Opens a striped map with no keys, for 1 to 4096 callers and with 1 to 4096 stripes, and returns its
-// callers, of which each thread takes one.
+// callers in the order of their numbers, from 1. Each thread takes one.
 inline std::vector<caller> open_striped(std::uint64_t callers, std::uint64_t stripes) {
     std::vector<caller> all;
     caller first;
@@ -215,6 +224,7 @@ inline std::vector<caller> open_striped(std::uint64_t callers, std::uint64_t str
         detail::check(boostmap_striped_join(&first.handle_, &next.handle_, &next.number_));
         all.push_back(std::move(next));
     }
+    std::reverse(all.begin(), all.end()); // numbers are counted down
     all.push_back(std::move(first));
     return all;
 }
@@ -317,11 +327,12 @@ public:
 
     void feed(const boostmap_entry &entry) { detail::check(boostmap_judge_feed(&handle_, &entry)); }
 
-    // Feeds entries in their order. If one throws, those before it are fed.
+    // Feeds entries in their order, or throws `not_fed`.
     void feed(const std::vector<boostmap_entry> &entries) {
-        std::uint64_t count = 0;
+        std::uint64_t fed = 0;
         if (entries.empty()) return;
-        detail::check(boostmap_judge_feed_all(&handle_, entries.data(), entries.size(), &count));
+        boostmap_status status = boostmap_judge_feed_all(&handle_, entries.data(), entries.size(), &fed);
+        if (status != BOOSTMAP_DONE) throw not_fed(status, fed);
     }
 
     boostmap_verdict verdict() {

@@ -18,6 +18,7 @@ the repository builds it. It is proved; this module is only tested. Threads may 
 or a judge: each call holds that object's lock, and releases the interpreter's lock meanwhile.
 """
 import collections
+import contextlib
 import ctypes
 import os
 import threading
@@ -119,11 +120,20 @@ class Busy(Error):
 
 
 class Refused(Error):
-    """The call was refused with `status`, and nothing has changed."""
+    """The call was refused with `status`. Nothing has changed; but `help` may have grown the table, and `items` and
+    `len` of a transaction may have taken stripes."""
 
     def __init__(self, status):
         super().__init__(_REASONS.get(status, f"status {status}"))
         self.status = status
+
+
+class NotFed(Refused):
+    """Entries could not all be fed: those before the index `fed` are fed, and feeding may go on there."""
+
+    def __init__(self, status, fed):
+        super().__init__(status)
+        self.fed = fed
 
 
 def _value(status, word):
@@ -217,51 +227,58 @@ class Map(_Owned):
 
 
 class Transaction:
-    """One caller's transaction. A key without a value has None."""
+    """One caller's transaction. A key without a value has None. After its `with` each further call is refused."""
 
     def __init__(self, owner, caller):
-        self._map, self._caller = owner, caller
+        self._map, self._caller, self._is_open = owner, caller, False
         self.number = self.commit_number = None
 
     def __enter__(self):
         self.number = self._map._call("begin", self._caller)
+        self._is_open = True
         return self
 
     def __exit__(self, kind, raised, trace):
-        if kind is None:
-            try:
-                self.commit_number = self._map._call("commit", self._caller)
-            except Refused:
-                self._map._call("abort", self._caller)
-                raise
-        else:
-            self._map._call("abort", self._caller)
+        try:
+            if kind is None:
+                self.commit_number = self._call("commit")
+                self._is_open = False
+        finally:
+            # An abort that is refused does not hide the exception: the map is closed then.
+            with contextlib.suppress(Refused):
+                self._call("abort")
+            self._is_open = False
+
+    def _call(self, name, *numbers):
+        if not self._is_open:
+            raise Refused(_NOT_OPEN)
+        return self._map._call(name, self._caller, *numbers)
 
     def get(self, key):
         """The value at the key."""
-        return self._map._call("get", self._caller, key)
+        return self._call("get", key)
 
     def take(self, key):
         """Takes the key out, and returns the value that it had."""
-        return self._map._call("take", self._caller, key)
+        return self._call("take", key)
 
     def put(self, key, value):
         """Puts the value at the key, and returns the value before."""
-        return self._map._call("put", self._caller, key, value)
+        return self._call("put", key, value)
 
     def put_if(self, key, expected, value):
         """Puts the value if the key has the expected one, or None if it is absent; returns the value before."""
         if expected is None:
-            return self._map._call("put_if_absent", self._caller, key, value)
-        return self._map._call("put_if_equal", self._caller, key, expected, value)
+            return self._call("put_if_absent", key, value)
+        return self._call("put_if_equal", key, expected, value)
 
     def save(self):
         """Sets a savepoint, and returns its level."""
-        return self._map._call("save", self._caller)
+        return self._call("save")
 
     def back(self, level=0):
         """Takes back every change since the level was set; 0 is the beginning of the transaction."""
-        self._map._call("back", self._caller, level)
+        self._call("back", level)
 
 
 def open_striped(callers=1, stripes=64):
@@ -297,7 +314,7 @@ class Caller(_Owned):
                 with self.transaction() as t:
                     return job(t)
             except Busy:
-                if tries == 0:
+                if tries <= 0:
                     raise
                 tries -= 1
                 time.sleep(0)  # lets another thread run
@@ -319,7 +336,8 @@ class CallerTransaction:
         if kind is None:
             self.commit_number = self._call("striped_commit")
         elif self._is_open:
-            self._call("striped_abort")
+            with contextlib.suppress(Refused):  # the caller is closed then
+                self._call("striped_abort")
         self._is_open = False
 
     def _call(self, name, *numbers):
@@ -417,12 +435,13 @@ class Judge(_Owned):
         _check(status)
 
     def feed_all(self, entries):
-        """Feeds entries in their order. If one raises, those before it are fed."""
+        """Feeds entries in their order, or raises NotFed."""
         entries, fed = [entry._to_c() for entry in entries], _U64(0)
         array = (_Entry * len(entries))(*entries)
         with self._lock:
             status = _library.boostmap_judge_feed_all(self._handle, array, len(entries), fed)
-        _check(status)
+        if status != _DONE:
+            raise NotFed(status, fed.value)
 
     def verdict(self):
         """The verdict on the entries so far."""

@@ -4,6 +4,7 @@ fn main() {
     println!("cargo:rerun-if-env-changed=BOOSTMAP_LIB");
     if let Ok(folder) = std::env::var("BOOSTMAP_LIB") {
         println!("cargo:rustc-link-search=native={folder}");
+        println!("cargo:rerun-if-changed={folder}/libboostmap.a");
     }
     println!("cargo:rustc-link-lib=static=boostmap");
 }

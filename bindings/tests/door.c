@@ -45,6 +45,9 @@ static void at_a_caller(void) {
     CHECK(boostmap_checked_striped_put(&caller, 1, 10, 0) == BOOSTMAP_ABSENT);
     CHECK(boostmap_checked_striped_begin(&next) == BOOSTMAP_DONE);
     CHECK(boostmap_checked_striped_take(&next, 1, &w) == BOOSTMAP_BUSY && w == 2);
+    atomic_store(&caller.is_in_call, 1);
+    CHECK(boostmap_checked_striped_get(&caller, 1, &w) == BOOSTMAP_IN_CALL);
+    atomic_store(&caller.is_in_call, 0);
     for (int i = 0; i < THREADS; i++) CHECK(!pthread_create(&threads[i], 0, get_often, 0));
     for (int i = 0; i < THREADS; i++) CHECK(!pthread_join(threads[i], 0));
     CHECK(boostmap_checked_striped_read(&caller, 0, 0, &w) == BOOSTMAP_NULL);
@@ -64,6 +67,9 @@ static void at_a_judge(void) {
     CHECK(boostmap_checked_judge_free(&judge) == BOOSTMAP_EMPTY);
     CHECK(boostmap_checked_judge_new(&judge, 8, 0) == BOOSTMAP_DONE);
     CHECK(boostmap_checked_judge_feed(&judge, 0) == BOOSTMAP_NULL);
+    atomic_store(&judge.is_in_call, 1);
+    CHECK(boostmap_checked_judge_verdict(&judge, &verdict) == BOOSTMAP_IN_CALL);
+    atomic_store(&judge.is_in_call, 0);
     CHECK(boostmap_checked_judge_feed(&judge, &entries[0]) == BOOSTMAP_DONE);
     CHECK(boostmap_checked_judge_feed_all(&judge, 0, 1, &w) == BOOSTMAP_NULL);
     CHECK(boostmap_checked_judge_feed_all(&judge, entries + 1, 1, 0) == BOOSTMAP_DONE);
@@ -84,6 +90,9 @@ int main(void) {
     CHECK(boostmap_checked_commit(&map, 0, &w) == BOOSTMAP_DONE && w == 1);
     CHECK(boostmap_checked_read(&map, 0, 1, &w) == BOOSTMAP_NULL);
     CHECK(boostmap_checked_read(&map, &pair, 1, 0) == BOOSTMAP_DONE && pair.key == 1 && pair.value == 2);
+    atomic_store(&map.is_in_call, 1);
+    CHECK(boostmap_checked_count(&map, &w) == BOOSTMAP_IN_CALL);
+    atomic_store(&map.is_in_call, 0);
     for (int i = 0; i < THREADS; i++) CHECK(!pthread_create(&threads[i], 0, count_often, 0));
     for (int i = 0; i < THREADS; i++) CHECK(!pthread_join(threads[i], 0));
     CHECK(boostmap_checked_free(&map) == BOOSTMAP_DONE);

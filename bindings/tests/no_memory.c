@@ -131,6 +131,45 @@ static void striped_round_trip(void) {
     CHECK(boostmap_striped_free(&next) == BOOSTMAP_DONE);
 }
 
+/* How often each of these calls was refused: they take memory only now and then. */
+static long gets, put_ifs, helps, striped_gets;
+
+#define COUNTED(counter, call) \
+    while ((status = (call)) == BOOSTMAP_NO_MEMORY) refusals++, counter++
+
+/* Calls on keys that no other call has touched, so that they take the memory themselves. */
+static void first_calls(void) {
+    enum { FEW = 64, MANY = 200 };
+    boostmap m = BOOSTMAP_INIT;
+    boostmap_caller c = BOOSTMAP_INIT;
+    boostmap_status status;
+    uint64_t w;
+    AGAIN(boostmap_new(&m, 1, FEW, 1024));
+    AGAIN(boostmap_begin(&m, 0, &w));
+    for (uint64_t k = 0; k < FEW; k++) {
+        COUNTED(gets, boostmap_get(&m, 0, k, &w));
+        CHECK(status == BOOSTMAP_ABSENT);
+    }
+    for (uint64_t k = FEW; k < 2 * FEW; k++) {
+        COUNTED(put_ifs, boostmap_put_if_equal(&m, 0, k, 1, 2, &w));
+        CHECK(status == BOOSTMAP_ABSENT);
+    }
+    for (uint64_t k = 0; k < MANY; k++) AGAIN(boostmap_put(&m, 0, k, k, &w));
+    CHECK(boostmap_commit(&m, 0, &w) == BOOSTMAP_DONE);
+    for (uint64_t k = 0; k < MANY; k++) {
+        COUNTED(helps, boostmap_help(&m, 0, k));
+        CHECK(status == BOOSTMAP_DONE);
+    }
+    CHECK(boostmap_free(&m) == BOOSTMAP_DONE);
+    AGAIN(boostmap_striped_open(&c, 1, FEW, &w));
+    CHECK(boostmap_striped_begin(&c) == BOOSTMAP_DONE);
+    for (uint64_t k = 0; k < FEW; k++) {
+        COUNTED(striped_gets, boostmap_striped_get(&c, k, &w));
+        CHECK(status == BOOSTMAP_ABSENT);
+    }
+    CHECK(boostmap_striped_free(&c) == BOOSTMAP_DONE);
+}
+
 /* Feeds a judge a transaction of each of 64 callers, entry by entry or as an array. What is refused is
  * fed again. */
 static void judge_all(uint32_t rule) {
@@ -185,6 +224,8 @@ static void refuse_each(const char *name, void (*round)(void)) {
 int main(void) {
     refuse_each("a map", round_trip);
     refuse_each("a striped map", striped_round_trip);
+    refuse_each("first calls", first_calls);
+    CHECK(gets > 0 && put_ifs > 0 && helps > 0 && striped_gets > 0);
     refuse_each("a judge by locks", judge_by_locks);
     refuse_each("a judge by commits", judge_by_commits);
     return 0;

@@ -76,6 +76,10 @@ static void order(boostmap *m) {
 static void operations(boostmap *m) {
     uint64_t w;
     ANSWERS(boostmap_get(m, 0, 5, &w), BOOSTMAP_ABSENT, UNTOUCHED);
+    ANSWERS(boostmap_take(m, 0, 5, &w), BOOSTMAP_ABSENT, UNTOUCHED);
+    ANSWERS(boostmap_put_if_equal(m, 0, 5, 49, 53, &w), BOOSTMAP_ABSENT, UNTOUCHED);
+    ANSWERS(boostmap_put_if_absent(m, 0, 5, 49, &w), BOOSTMAP_ABSENT, UNTOUCHED);
+    ANSWERS(boostmap_take(m, 0, 5, &w), BOOSTMAP_DONE, 49);
     ANSWERS(boostmap_put(m, 0, 5, 50, &w), BOOSTMAP_ABSENT, UNTOUCHED);
     ANSWERS(boostmap_put_if_absent(m, 0, 5, 51, &w), BOOSTMAP_DONE, 50);
     ANSWERS(boostmap_put_if_equal(m, 0, 5, 49, 53, &w), BOOSTMAP_DONE, 50);

@@ -92,6 +92,10 @@ static void order(boostmap_caller *c) {
 static void operations(boostmap_caller *c) {
     uint64_t w;
     ANSWERS(boostmap_striped_get(c, 5, &w), BOOSTMAP_ABSENT, UNTOUCHED);
+    ANSWERS(boostmap_striped_take(c, 5, &w), BOOSTMAP_ABSENT, UNTOUCHED);
+    ANSWERS(boostmap_striped_put_if_equal(c, 5, 49, 53, &w), BOOSTMAP_ABSENT, UNTOUCHED);
+    ANSWERS(boostmap_striped_put_if_absent(c, 5, 49, &w), BOOSTMAP_ABSENT, UNTOUCHED);
+    ANSWERS(boostmap_striped_take(c, 5, &w), BOOSTMAP_DONE, 49);
     ANSWERS(boostmap_striped_put(c, 5, 50, &w), BOOSTMAP_ABSENT, UNTOUCHED);
     ANSWERS(boostmap_striped_put_if_absent(c, 5, 51, &w), BOOSTMAP_DONE, 50);
     ANSWERS(boostmap_striped_put_if_equal(c, 5, 49, 53, &w), BOOSTMAP_DONE, 50);

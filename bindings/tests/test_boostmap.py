@@ -1,7 +1,7 @@
 import threading
 import unittest
 
-from boostmap import Busy, Entry, Judge, Map, Refused, Verdict, open_striped
+from boostmap import Busy, Entry, Judge, Map, NotFed, Refused, Verdict, open_striped
 
 
 class Calls(unittest.TestCase):
@@ -26,6 +26,30 @@ class Calls(unittest.TestCase):
                     t.put(2, 20)
                     raise KeyError
             self.assertEqual(len(m), 0)
+
+    def test_a_transaction_is_over_after_its_with(self):
+        with Map() as m:
+            with m.transaction() as first:
+                first.put(1, 10)
+            with m.transaction() as second:
+                with self.assertRaises(Refused) as refused:
+                    first.put(1, 11)
+                self.assertEqual(refused.exception.status, 19)
+                self.assertEqual(second.get(1), 10)
+
+    def test_a_closed_map_does_not_hide_an_exception(self):
+        m = Map()
+        with self.assertRaises(KeyError):
+            with m.transaction() as t:
+                t.put(1, 10)
+                m.close()
+                raise KeyError
+        caller, = open_striped()
+        with self.assertRaises(KeyError):
+            with caller.transaction() as t:
+                t.put(1, 10)
+                caller.close()
+                raise KeyError
 
     def test_busy_names_the_holder(self):
         with Map(callers=2, stripes=16) as m, m.transaction(1) as holds:
@@ -191,9 +215,9 @@ class Judges(unittest.TestCase):
             by_locks.feed_all(entries)
             by_commits.feed_all(entries)
             by_commits.feed_all([])
-            with self.assertRaises(Refused) as refused:
+            with self.assertRaises(NotFed) as not_fed:
                 by_commits.feed_all([Entry("began", 0, number=3), Entry("saved", 64)])
-            self.assertEqual(refused.exception.status, 8)
+            self.assertEqual((not_fed.exception.status, not_fed.exception.fed), (8, 1))
             self.assertEqual(by_locks.verdict(), Verdict(False, None, None, 4, "locks"))
             self.assertEqual(by_commits.verdict(), Verdict(True, 2, 1, None, None))
 

@@ -56,6 +56,26 @@ static void of_one_owner() {
     CHECK(map(1, 16, 64).pairs().empty());
 }
 
+template <class T> constexpr bool is_moved_only =
+    std::is_nothrow_move_constructible_v<T> && !std::is_copy_constructible_v<T> && !std::is_copy_assignable_v<T>;
+static_assert(is_moved_only<map> && is_moved_only<boostmap_cpp::transaction>);
+static_assert(is_moved_only<boostmap_cpp::caller> && is_moved_only<boostmap_cpp::caller_transaction>);
+static_assert(is_moved_only<judge>);
+
+// The example at the head of boostmap.hpp.
+static void of_the_head() {
+    map accounts(2, 64, 1024);
+    accounts.transact(0, [](auto &t) { t.put(1, 10); });
+    accounts.transact(0, [](auto &t) {
+        t.put(1, t.get(1).value_or(0) - 5);
+        t.put(2, t.get(2).value_or(0) + 5);
+    });
+    CHECK(accounts.transact(0, [](auto &t) { return *t.get(1) == 5 && *t.get(2) == 5; }));
+    auto callers = boostmap_cpp::open_striped(4, 64);
+    callers[0].transact(100, [](auto &t) { t.put(1, 10); });
+    for (std::uint64_t i = 0; i < 4; i++) CHECK(callers[i].number() == i + 1);
+}
+
 static void of_callers() {
     auto callers = boostmap_cpp::open_striped(2, 16);
     auto &one = callers[0], &two = callers[1];
@@ -136,11 +156,18 @@ static void of_judges() {
         entry::did(1, std::nullopt), entry::committed(0, 1), entry::committed(1, 2)};
     by_locks.feed(entries);
     by_commits.feed(entries);
+    try {
+        judge(8).feed({entry::began(0, 1), entry::of(11, 0), entry::began(1, 2)});
+        CHECK(false);
+    } catch (const boostmap_cpp::not_fed &e) {
+        CHECK(e.fed == 1 && e.status == BOOSTMAP_NO_ENTRY);
+    }
     CHECK(!by_locks.verdict().is_legal && by_locks.verdict().entry == 4 && by_locks.verdict().rule == 2);
     CHECK(by_commits.verdict().is_legal && by_commits.verdict().commits == 2);
 }
 
 int main() {
+    of_the_head();
     of_one_owner();
     of_callers();
     of_threads();

@@ -40,6 +40,15 @@ within() { timeout 600 "$@"; }
 prints_the_example() { within "$@" | cmp - bindings/examples/stdout; }
 prints_the_threads() { within "$@" | cmp - bindings/examples/threads.stdout; }
 
+# Compiles the example in C with the flags of boostmap.pc, and runs it.
+with_pkg_config() {
+  local flags
+  flags=$(PKG_CONFIG_PATH=$work/usr/lib/pkgconfig pkg-config --cflags --libs boostmap) || return
+  # The flags are several words.
+  # shellcheck disable=SC2086
+  cc bindings/examples/transfer.c $flags -o "$work/by_pkg_config" && prints_the_example "$work/by_pkg_config"
+}
+
 use=(-Ibindings/tests "-I$work/usr/include" "-L$work/usr/lib")
 strict=(-O2 -Wall -Wextra -Wpedantic -Werror)
 
@@ -97,6 +106,9 @@ in_c_again() {
 in_cpp() {
   try 'compile values.cpp' c++ -std=c++17 "${strict[@]}" "${use[@]}" bindings/tests/values.cpp -o "$work/values" -lboostmap -pthread
   try 'values in C++' within "$work/values"
+  if has valgrind 'values in C++ under it'; then
+    try 'values in C++ under valgrind' within valgrind -q --error-exitcode=9 --leak-check=full --fair-sched=yes "$work/values"
+  fi
   try 'compile transfer.cpp' c++ -std=c++17 "${strict[@]}" "${use[@]}" bindings/examples/transfer.cpp -o "$work/transfer" -lboostmap -pthread
   try 'example in C++' prints_the_example "$work/transfer"
 }
@@ -118,7 +130,7 @@ in_python() {
 try 'install.sh' bindings/install.sh "$work/usr"
 if has cc 'everything in C'; then in_c && in_c_again; fi
 if has pkg-config 'the pkg-config file'; then
-  try 'boostmap.pc' env "PKG_CONFIG_PATH=$work/usr/lib/pkgconfig" pkg-config --cflags --libs boostmap
+  try 'boostmap.pc' with_pkg_config
 fi
 if has c++ 'everything in C++'; then in_cpp; fi
 if has cargo 'everything in Rust'; then in_rust; fi

@@ -3,11 +3,11 @@ use boostmap::{Error, Map};
 
 fn transfer(accounts: &mut Map, from: u64, to: u64, sum: u64) -> Result<bool, Error> {
     let mut t = accounts.begin(0)?;
-    let had = t.get(to)?.unwrap_or(0);
     let Some(left) = t.get(from)?.unwrap_or(0).checked_sub(sum) else {
         return Ok(false); // the transaction aborts as it is dropped
     };
     t.put(from, left)?;
+    let had = t.get(to)?.unwrap_or(0);
     t.put(to, had + sum)?;
     t.commit()?;
     Ok(true)

@@ -186,7 +186,7 @@ impl CallerTransaction<'_> {
     ///
     /// # Errors
     ///
-    /// Those of `get`.
+    /// Those of `get`; after `NoMemory` it may hold some of the stripes.
     pub fn count(&mut self) -> Result<u64> {
         self.call(|at, word| unsafe { sys::boostmap_striped_count(at, word) }).map(Option::unwrap_or_default)
     }
@@ -195,7 +195,7 @@ impl CallerTransaction<'_> {
     ///
     /// # Errors
     ///
-    /// Those of `get`.
+    /// Those of `get`; after `NoMemory` it may hold some of the stripes.
     pub fn pairs(&mut self) -> Result<Vec<(u64, u64)>> {
         let mut pairs = vec![sys::Pair { key: 0, value: 0 }; self.count()? as usize];
         let (start, places) = (pairs.as_mut_ptr(), pairs.len());

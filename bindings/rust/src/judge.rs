@@ -1,6 +1,35 @@
 //! The judge of histories, to which entries are fed.
 use crate::sys::{self, Handle};
 use crate::{Error, Result};
+use std::error;
+use std::fmt;
+
+/// Why entries could not all be fed.
+#[derive(Clone, Copy, Debug, PartialEq, Eq)]
+pub struct NotFed {
+    /// How many were fed: the index of the entry with the error, at which feeding may go on.
+    pub fed: usize,
+    /// The error of that entry.
+    pub error: Error,
+}
+
+impl fmt::Display for NotFed {
+    fn fmt(&self, f: &mut fmt::Formatter<'_>) -> fmt::Result {
+        write!(f, "entry {}: {}", self.fed, self.error)
+    }
+}
+
+impl error::Error for NotFed {
+    fn source(&self) -> Option<&(dyn error::Error + 'static)> {
+        Some(&self.error)
+    }
+}
+
+impl From<NotFed> for Error {
+    fn from(not_fed: NotFed) -> Error {
+        not_fed.error
+    }
+}
 
 /// An operation that a transaction asks for.
 #[derive(Clone, Copy, Debug, PartialEq, Eq)]
@@ -179,15 +208,16 @@ impl Judge {
     ///
     /// # Errors
     ///
-    /// Those of [`Judge::feed`]; the entries before that one are fed.
-    pub fn feed_all(&mut self, entries: &[Entry]) -> Result<()> {
+    /// [`NotFed`] with the error of [`Judge::feed`] for that one, and how many stand before it. These
+    /// are fed.
+    pub fn feed_all(&mut self, entries: &[Entry]) -> std::result::Result<(), NotFed> {
         let entries: Vec<sys::Entry> = entries.iter().map(|entry| entry.to_c()).collect();
         let mut fed = 0;
         // SAFETY: the handle is live, the array has as many entries as its length says, and the word is
         // a unique borrow.
         match unsafe { sys::boostmap_judge_feed_all(&mut self.0, entries.as_ptr(), entries.len(), &mut fed) } {
             sys::DONE => Ok(()),
-            status => Err(Error::from_status(status, 0)),
+            status => Err(NotFed { fed: fed as usize, error: Error::from_status(status, 0) }),
         }
     }
 

@@ -34,13 +34,13 @@ mod caller;
 mod judge;
 
 pub use caller::{open_striped, Caller, CallerTransaction};
-pub use judge::{Entry, Holder, Judge, Operation, Rule, Verdict};
+pub use judge::{Entry, Holder, Judge, NotFed, Operation, Rule, Verdict};
 
 mod sys {
     use std::ffi::c_void;
 
-    /// A handle of a map, a caller or a judge. Every call of a caller writes to it, so it has a line of
-    /// the processor's cache to itself.
+    /// A handle of a map, a caller or a judge. Every call reads it, so it has a line of the processor's
+    /// cache to itself, in which no other thread writes.
     #[repr(C, align(64))]
     pub struct Handle {
         pub tag: u64,
@@ -167,7 +167,7 @@ pub enum Error {
     Leaving,
     /// The level is above the number of savepoints.
     NoSuchLevel,
-    /// Memory was refused. Nothing has changed.
+    /// Memory was refused. Nothing has changed, but for what the call says.
     NoMemory,
     /// All stamps are used up: 2^64 - 2 nodes were made.
     StampsUsedUp,
@@ -267,7 +267,7 @@ impl Map {
     ///
     /// # Errors
     ///
-    /// `NoSuchCaller`, `StampsUsedUp` and `NoMemory`.
+    /// `NoSuchCaller`; `StampsUsedUp` and `NoMemory`, after which the table may have grown all the same.
     pub fn help(&mut self, caller: u64, key: u64) -> Result<()> {
         self.call(|map, _| unsafe { sys::boostmap_help(map, caller, key) }).map(drop)
     }

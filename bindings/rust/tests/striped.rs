@@ -1,4 +1,4 @@
-use boostmap::{open_striped, Caller, Entry, Error, Holder, Judge, Operation, Rule, Verdict};
+use boostmap::{open_striped, Caller, Entry, Error, Holder, Judge, NotFed, Operation, Rule, Verdict};
 use std::mem;
 use std::sync::mpsc;
 use std::thread;
@@ -152,7 +152,9 @@ fn readers_of_one_key_are_serializable() -> Result<(), Error> {
     by_locks.feed_all(&entries)?;
     by_commits.feed_all(&entries)?;
     by_commits.feed_all(&[])?;
-    assert_eq!(by_commits.feed_all(&[Entry::Began(0, 3), Entry::Saved(64), Entry::Saved(1)]), Err(Error::NoEntry));
+    let not_fed = NotFed { fed: 1, error: Error::NoEntry };
+    assert_eq!(by_commits.feed_all(&[Entry::Began(0, 3), Entry::Saved(64), Entry::Saved(1)]), Err(not_fed));
+    assert_eq!(not_fed.to_string(), "entry 1: the entry's caller is not below 64");
     assert_eq!(by_locks.verdict(), Verdict::Illegal { entry: 4, rule: Rule::Locks });
     assert_eq!(by_commits.verdict(), Verdict::Legal { commits: 2, running: 1 });
     Ok(())
