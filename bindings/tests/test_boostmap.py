@@ -1,4 +1,6 @@
+import sys
 import threading
+import time
 import unittest
 
 from boostmap import Busy, Entry, Judge, Map, NotFed, Refused, Verdict, open_striped
@@ -220,6 +222,32 @@ class Judges(unittest.TestCase):
             self.assertEqual((not_fed.exception.status, not_fed.exception.fed), (8, 1))
             self.assertEqual(by_locks.verdict(), Verdict(False, None, None, 4, "locks"))
             self.assertEqual(by_commits.verdict(), Verdict(True, 2, 1, None, None))
+
+    def test_other_threads_run_during_a_call(self):
+        """With such a switch interval another thread runs only while a call has released the interpreter's lock."""
+        ticks, is_over = [0], threading.Event()
+
+        def tick():
+            while not is_over.is_set():
+                ticks[0] += 1
+                time.sleep(0)
+
+        entries = [Entry("began", 0, number=1)] + [Entry("saved", 0)] * 100_000
+        interval, other = sys.getswitchinterval(), threading.Thread(target=tick)
+        sys.setswitchinterval(1000)
+        try:
+            other.start()
+            for _ in range(100):  # other programs may keep the thread from its turn
+                with Judge() as judge:
+                    before = ticks[0]
+                    judge.feed_all(entries)
+                    if ticks[0] > before:
+                        return
+            self.fail("the lock is not released")
+        finally:
+            is_over.set()
+            sys.setswitchinterval(interval)
+            other.join()
 
 
 if __name__ == "__main__":

@@ -36,6 +36,29 @@ mod judge;
 pub use caller::{open_striped, Caller, CallerTransaction};
 pub use judge::{Entry, Holder, Judge, NotFed, Operation, Rule, Verdict};
 
+/// A map, a caller and a judge can move to another thread, and cannot be shared by threads:
+///
+/// ```
+/// fn moves<T: Send>() {}
+/// moves::<boostmap::Map>();
+/// moves::<boostmap::Caller>();
+/// moves::<boostmap::Judge>();
+/// ```
+///
+/// ```compile_fail,E0277
+/// fn shares<T: Sync>() {}
+/// shares::<boostmap::Map>();
+/// ```
+///
+/// ```compile_fail,E0277
+/// fn shares<T: Sync>() {}
+/// shares::<boostmap::Caller>();
+/// ```
+///
+/// ```compile_fail,E0277
+/// fn shares<T: Sync>() {}
+/// shares::<boostmap::Judge>();
+/// ```
 mod sys {
     use std::ffi::c_void;
 
