@@ -1,5 +1,7 @@
 -- What contracts see of a host.
-use Rattle.std.specs.Prelude.{ℕ, List}
+use Rattle.std.specs.Prelude.{ℕ, ◌≡◌, Bool, not, ◌&&◌, nat_le, false, List}
+use Rattle.txn_trace.specs.declared.refusal.Refusal.{Refusal}
+use Rattle.txn_trace.specs.declared.refusal.Refusal.TheVariants.{Limit, NoMemory}
 use Rattle.txn_trace.specs.declared.entry.Entry.{Entry}
 use Rattle.striped_map.specs.declared.host.Host.{Host}
 use Rattle.striped_map.specs.Seats.{known}
@@ -15,3 +17,13 @@ numbers host = (known host.hand.seat).made
 -- The beginning of the history that it has seen.
 abbrev pub seen_by : Host → List Entry
 seen_by host = (known host.hand.seat).seen
+
+-- Whether a map may have this many stripes and callers.
+abbrev pub may_open : ℕ → ℕ → Bool
+may_open stripes callers = nat_le 1 stripes && nat_le stripes 4096 && nat_le callers 4096
+
+-- Why a map was not opened.
+abbrev pub IsNotOpened : ℕ → ℕ → Refusal → Type 0
+IsNotOpened stripes callers Limit = may_open stripes callers ≡ false
+IsNotOpened stripes callers NoMemory = Unit {0}
+IsNotOpened stripes callers refusal = ⊥

@@ -1,8 +1,8 @@
 //! Opening a striped map.
-ghost use Rattle.std.specs.Prelude.{◌≡◌, ℕ, ◌+◌, ◌≤◌, ◌<◌, IfOk, IfErr, length, vec_len, vec_capacity};
+ghost use Rattle.std.specs.Prelude.{◌≡◌, ℕ, ◌+◌, ◌≤◌, ◌<◌, true, IfOk, IfErr, OnOk, length, vec_len, vec_capacity};
 ghost use Rattle.std.specs.List.{HoldsAt};
 ghost use Rattle.striped_map.specs.Callers.{IsNew};
-ghost use Rattle.striped_map.specs.Hosts.{numbers};
+ghost use Rattle.striped_map.specs.Hosts.{IsNotOpened, may_open, numbers};
 
 use crate::caller::Caller;
 use crate::host::Host;
@@ -13,6 +13,13 @@ use txn_trace::Refusal;
 
 /// The largest number of stripes, and of callers.
 pub const MOST: usize = 4096;
+
+/// Whether a map may have this many stripes and callers.
+fn may_open(stripes: usize, callers: usize) -> bool
+    ensures { result ≡ may_open stripes callers }
+{
+    1 <= stripes && stripes <= MOST && callers <= MOST
+}
 
 /// Opens a map with no keys: its host, and its callers, numbered from 1.
 ///
@@ -30,12 +37,14 @@ pub fn open_map(
     stripes: usize,
     callers: usize,
 ) -> Result<(Host, Vec<Caller>), Refusal>
+    ensures within { OnOk result (may_open stripes callers ≡ true) }
     ensures numbers { IfOk result (λ made. numbers made.0 ≡ callers + 1) }
     ensures count { IfOk result (λ made. length made.1.items ≡ callers) }
     ensures each { IfOk result (λ made. (place : ℕ) → place < callers
         → HoldsAt (IsNew made.0.map.value stripes (place + 1)) made.1.items place) }
+    ensures err { IfErr result (IsNotOpened stripes callers) }
 {
-    if stripes == 0 || MOST < stripes || MOST < callers {
+    if !may_open(stripes, callers) {
         return Err(Refusal::Limit);
     }
     let Ok((map, mut first)) = StripedMap::new(alloc, stripes) else {
