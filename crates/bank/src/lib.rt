@@ -4,11 +4,14 @@
 //! touches no other, or leaves the map unchanged; and no other caller's transaction is touched.
 #![tactic(auto)]
 
-ghost use Rattle.std.specs.Prelude.{◌≡◌, ◌≢◌, IfOk, OnOk, OnErr};
+ghost use Rattle.std.specs.Prelude.{◌≡◌, ◌≢◌, IfErr, IfOk, OnOk, OnErr};
+ghost use Rattle.txn_trace.specs.declared.op.Op.TheVariants as ops;
+ghost use Rattle.txn_trace.specs.declared.step.Step.TheVariants as steps;
 ghost use Rattle.txn_trace.specs.Now.{now};
 ghost use Rattle.owned_map.specs.Keeps.{Keeps};
+ghost use Rattle.owned_map.specs.Stopped.{IsStopped};
 ghost use Rattle.owned_map.specs.Within.{OnlyDid};
-ghost use Rattle.bank.specs.Transfers.{IsTransfer, balance};
+ghost use Rattle.bank.specs.Transfers.{IsTransfer, IsWhy, balance};
 
 use owned_map::{OwnedMap, Stop, Transaction};
 
@@ -24,6 +27,10 @@ pub enum NotMoved {
 }
 
 impl From<Stop> for NotMoved {
+    ghost use Rattle.bank.specs.declared.NotMoved.TheVariants.{Stopped};
+
+    ghost from_gives = { λ stop why. why ≡ Stopped stop };
+
     fn from(stop: Stop) -> NotMoved {
         NotMoved::Stopped(stop)
     }
@@ -54,6 +61,7 @@ pub fn transfer(
     ensures moved { OnOk result (IsTransfer from to sum
         (now accounts.old.core.history) (now accounts.new.core.history)) }
     ensures kept { OnErr result (now accounts.new.core.history ≡ now accounts.old.core.history) }
+    ensures cause { IfErr result (λ why. IsWhy caller from to sum why accounts.old.core) }
     ensures only { OnlyDid caller accounts.old.core accounts.new.core }
 {
     accounts.transact(
@@ -63,6 +71,8 @@ pub fn transfer(
             ensures keeps { Keeps t.old t.new }
             ensures moved { OnOk result (IsTransfer from to sum
                 (now t.old.map.now.core.history) (now t.new.map.now.core.history)) }
+            ensures cause { IfErr result (λ why. IsWhy t.old.caller from to sum why
+                t.old.map.now.core) }
         { move_sum(t, from, to, sum) },
     )
 }
@@ -74,6 +84,7 @@ fn move_sum(t: &mut Transaction<'_>, from: u64, to: u64, sum: u64) -> Result<(),
     ensures keeps { Keeps t.old t.new }
     ensures moved { OnOk result (IsTransfer from to sum
         (now t.old.map.now.core.history) (now t.new.map.now.core.history)) }
+    ensures cause { IfErr result (λ why. IsWhy t.old.caller from to sum why t.old.map.now.core) }
 {
     let had = read(t, from)?;
     let has = read(t, to)?;
@@ -94,6 +105,8 @@ fn read(t: &mut Transaction<'_>, account: u64) -> Result<u64, Stop>
     ensures has { IfOk result (λ has. has ≡ balance (now t.old.map.now.core.history) account) }
     ensures same { OnOk result (now t.new.map.now.core.history
         ≡ now t.old.map.now.core.history) }
+    ensures stopped { IfErr result (λ stop. IsStopped t.old.map.now.core
+        (steps.Ask t.old.caller (ops.Get account)) stop t.new.map.now.core) }
 {
     Ok(t.get(account)?.unwrap_or(0))
 }

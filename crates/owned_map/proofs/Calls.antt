@@ -8,7 +8,7 @@ use Rattle.txn_trace.specs.Map.{Map}
 use Rattle.txn_trace.specs.Now.{now}
 use Rattle.txn_trace.specs.Sizes.{Sizes}
 use Rattle.boost_core.specs.State.{State, holder_by}
-use Rattle.owned_map.specs.Within.{Stands, IsAt, CanAbort, IsBeside, GoesOn, HasDone, IsTakenBack, IsCommitted, IsRun, IsGrown}
+use Rattle.owned_map.specs.Within.{Stands, IsAt, CanAbort, IsBeside, GoesOn, HasDone, IsTakenBack, IsCommitted, IsRun, IsSameMap, IsGrown}
 use Rattle.owned_map.specs.Keeps.{Keeps}
 use Rattle.owned_map.proofs.Only as only
 use Rattle.owned_map.specs.declared.transaction.Transaction.{Transaction}
@@ -75,6 +75,13 @@ run c place old begun done new same beside goes_on committed = record {
   ended = committed.same;
   place = place;
   commits = committed.commits ∙ ap (λ es. es ++ Committed c place ∷ []) (goes_on.beside.commits ∙ beside.commits);
+}
+
+-- A transaction that began, went on and was taken back.
+pub undone : (c : ℕ) (old begun done new : State) → CanAbort c (now old.history) begun → IsBeside c old begun → GoesOn c begun done → IsTakenBack c done new → IsSameMap c old new
+undone c old begun done new can beside goes_on back = record {
+  same = (back.back (now old.history) (goes_on.back (now old.history) can)).0;
+  beside = only.after c old begun new beside (only.after c begun done new goes_on.beside back.beside);
 }
 
 pub on_err : {T E X : Type 0} (result : Result T E) → X → OnErr result X

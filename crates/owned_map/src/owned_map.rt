@@ -3,12 +3,14 @@
 //! The calls of a transaction are made here for a caller, with contracts about states; those of
 //! `Transaction` are over them. Every bucket below `grown` is initialised, unless memory was
 //! refused.
-ghost use Rattle.std.specs.Prelude.{◌≡◌, ◌==◌, true, false, IfOk, IfErr, OnOk, OnErr, Ok};
+ghost use Rattle.std.specs.Prelude.{◌≡◌, ◌==◌, true, false, ◌⊎◌, IfOk, IfErr, OnOk, OnErr, Ok, Err};
 ghost use Rattle.txn_trace.specs.Map.{count_of};
 ghost use Rattle.txn_trace.specs.Now.{now};
-ghost use Rattle.boost_core.specs.Machine.{Move};
+ghost use Rattle.txn_trace.specs.declared.step.Step.TheVariants as steps;
+ghost use Rattle.boost_core.specs.Machine.{Event, Move};
 ghost use Rattle.boost_core.specs.State.{start};
 ghost use Rattle.boost_core.specs.Plain.{Operates};
+ghost use Rattle.owned_map.specs.Stopped.{HasBegun, IsNotCommitted, IsStopped};
 ghost use Rattle.owned_map.specs.Taken.{asks_well};
 ghost use Rattle.owned_map.specs.Within.{CanAbort, GoesOn, HasDone, IsBackAt, IsBeside, IsCommitted, IsGrown, IsRun, IsSameMap, IsSaved, IsTakenBack, KeepsSavepoints, OnlyDid, is_grown};
 
@@ -99,6 +101,9 @@ impl OwnedMap {
         ensures ok { OnOk result (CanAbort caller (now self.old.core.history) self.new.core) }
         ensures same { now self.new.core.history ≡ now self.old.core.history }
         ensures beside { IsBeside caller self.old.core self.new.core }
+        ensures began { OnOk result (HasBegun caller self.old.core self.new.core) }
+        ensures stopped { IfErr result (λ stop. IsStopped self.old.core (steps.Begin caller) stop
+            self.new.core) }
     {
         // The history is legal.
         let _legal = self.core.trace();
@@ -116,6 +121,8 @@ impl OwnedMap {
         ensures savepoints { KeepsSavepoints caller self.old.core self.new.core }
         ensures ok { IfOk result (λ reply. HasDone op reply self.old.core self.new.core) }
         ensures err { OnErr result (now self.new.core.history ≡ now self.old.core.history) }
+        ensures stopped { IfErr result (λ stop. IsStopped self.old.core (steps.Ask caller op) stop
+            self.new.core) }
     {
         // The history is legal.
         let _legal = self.core.trace();
@@ -150,6 +157,8 @@ impl OwnedMap {
         ensures goes_on { GoesOn caller self.old.core self.new.core }
         ensures ok { IfOk result (λ level. IsSaved caller level self.old.core self.new.core) }
         ensures same { now self.new.core.history ≡ now self.old.core.history }
+        ensures stopped { IfErr result (λ stop. IsStopped self.old.core (steps.Save caller) stop
+            self.new.core) }
     {
         // The history is legal.
         let _legal = self.core.trace();
@@ -166,6 +175,8 @@ impl OwnedMap {
         ensures goes_on { GoesOn caller self.old.core self.new.core }
         ensures ok { OnOk result (IsBackAt caller level self.old.core self.new.core) }
         ensures err { OnErr result (now self.new.core.history ≡ now self.old.core.history) }
+        ensures stopped { IfErr result (λ stop. IsStopped self.old.core (steps.Back caller level)
+            stop self.new.core) }
     {
         // The history is legal before and after.
         let _before = self.core.trace();
@@ -182,6 +193,8 @@ impl OwnedMap {
     pub(crate) fn commit(&mut self, caller: u64) -> Result<u64, Stop>
         ensures ok { IfOk result (λ place. IsCommitted caller place self.old.core self.new.core) }
         ensures err { OnErr result (GoesOn caller self.old.core self.new.core) }
+        ensures stopped { IfErr result (λ stop. IsStopped self.old.core (steps.Commit caller) stop
+            self.new.core) }
     {
         // The history is legal.
         let _legal = self.core.trace();
@@ -241,6 +254,7 @@ impl OwnedMap {
     #[tactic(auto, using(crate::proofs::Taken::moved))]
     pub(crate) fn take_step(&mut self, step: Step) -> Answer
         ensures moves { Move self.old.core step result self.new.core }
+        ensures event { Event self.old.core step result self.new.core }
         ensures words { self.new.core.words ≡ self.old.core.words }
     {
         self.core.step(step)
@@ -272,6 +286,16 @@ impl OwnedMap {
         ensures ok { IfOk result (λ value. (t : _) × (u : _) × F.post work t (Ok value) u
             × IsRun caller self.old.core t.now.map.now.core u.now.map.now.core self.new.core) }
         ensures err { OnErr result (IsSameMap caller self.old.core self.new.core) }
+        ensures cause { IfErr result (λ error.
+            ((stop : Stop) × E.from_gives stop error
+            × IsStopped self.old.core (steps.Begin caller) stop self.new.core)
+            ⊎ ((t : _) × (u : _) × (t.now.caller ≡ caller)
+            × HasBegun caller self.old.core t.now.map.now.core × F.post work t (Err error) u)
+            ⊎ ((t : _) × (u : _) × (t.now.caller ≡ caller)
+            × HasBegun caller self.old.core t.now.map.now.core
+            × (value : T) × F.post work t (Ok value) u
+            × (stop : Stop) × E.from_gives stop error
+            × IsNotCommitted caller u.now.map.now.core stop self.new.core)) }
         ensures only { OnlyDid caller self.old.core self.new.core }
     {
         self.begin(caller)?;

@@ -2,10 +2,12 @@
 //!
 //! It borrows the map, so no other call can be made on the map while it is open. Each operation
 //! promises `Keeps`, and so does a work of several operations.
-ghost use Rattle.std.specs.Prelude.{◌≡◌, ◌==◌, nat_eq, is_some, IfOk, OnErr, OnOk};
+ghost use Rattle.std.specs.Prelude.{◌≡◌, ◌==◌, nat_eq, is_some, IfErr, IfOk, OnErr, OnOk};
 ghost use Rattle.std.specs.Option.{option_eq};
+ghost use Rattle.txn_trace.specs.declared.step.Step.TheVariants as steps;
 ghost use Rattle.txn_trace.specs.Map.{after, count_of, get as value_at};
 ghost use Rattle.txn_trace.specs.Now.{now};
+ghost use Rattle.owned_map.specs.Stopped.{IsNotCommitted, IsStopped};
 ghost use Rattle.owned_map.specs.Within.{HasDone, IsBackAt, IsCommitted, IsSaved, IsTakenBack, KeepsSavepoints};
 
 use crate::owned_map::OwnedMap;
@@ -46,6 +48,8 @@ impl Transaction<'_> {
             self.old.map.now.core self.new.map.now.core) }
         ensures err { OnErr result (now self.new.map.now.core.history
             ≡ now self.old.map.now.core.history) }
+        ensures stopped { IfErr result (λ stop. IsStopped self.old.map.now.core
+            (steps.Ask self.old.caller (Op.Get key)) stop self.new.map.now.core) }
     {
         self.operate(Op::Get(key))
     }
@@ -66,6 +70,8 @@ impl Transaction<'_> {
         ensures ok { IfOk result (λ there. there
             ≡ is_some (value_at (now self.old.map.now.core.history) key)) }
         ensures same { now self.new.map.now.core.history ≡ now self.old.map.now.core.history }
+        ensures stopped { IfErr result (λ stop. IsStopped self.old.map.now.core
+            (steps.Ask self.old.caller (Op.Get key)) stop self.new.map.now.core) }
     {
         Ok(self.get(key)?.is_some())
     }
@@ -89,6 +95,8 @@ impl Transaction<'_> {
             self.old.map.now.core self.new.map.now.core) }
         ensures err { OnErr result (now self.new.map.now.core.history
             ≡ now self.old.map.now.core.history) }
+        ensures stopped { IfErr result (λ stop. IsStopped self.old.map.now.core
+            (steps.Ask self.old.caller (Op.Put key value)) stop self.new.map.now.core) }
     {
         self.operate(Op::Put(key, value))
     }
@@ -110,6 +118,8 @@ impl Transaction<'_> {
             self.old.map.now.core self.new.map.now.core) }
         ensures err { OnErr result (now self.new.map.now.core.history
             ≡ now self.old.map.now.core.history) }
+        ensures stopped { IfErr result (λ stop. IsStopped self.old.map.now.core
+            (steps.Ask self.old.caller (Op.Take key)) stop self.new.map.now.core) }
     {
         self.operate(Op::Take(key))
     }
@@ -133,6 +143,8 @@ impl Transaction<'_> {
             self.old.map.now.core self.new.map.now.core) }
         ensures err { OnErr result (now self.new.map.now.core.history
             ≡ now self.old.map.now.core.history) }
+        ensures stopped { IfErr result (λ stop. IsStopped self.old.map.now.core
+            (steps.Ask self.old.caller (Op.PutIf key expected value)) stop self.new.map.now.core) }
     {
         self.operate(Op::PutIf(key, expected, value))
     }
@@ -157,6 +169,8 @@ impl Transaction<'_> {
             ≡ after (now self.old.map.now.core.history) (Op.PutIf key expected value))) }
         ensures err { OnErr result (now self.new.map.now.core.history
             ≡ now self.old.map.now.core.history) }
+        ensures stopped { IfErr result (λ stop. IsStopped self.old.map.now.core
+            (steps.Ask self.old.caller (Op.PutIf key expected value)) stop self.new.map.now.core) }
     {
         let had = self.put_if(key, expected, value)?;
         Ok(Swapped(had == expected))
@@ -198,6 +212,8 @@ impl Transaction<'_> {
         ensures ok { IfOk result (λ level. IsSaved self.old.caller level
             self.old.map.now.core self.new.map.now.core) }
         ensures same { now self.new.map.now.core.history ≡ now self.old.map.now.core.history }
+        ensures stopped { IfErr result (λ stop. IsStopped self.old.map.now.core
+            (steps.Save self.old.caller) stop self.new.map.now.core) }
     {
         let caller = self.caller;
         self.map.save(caller)
@@ -222,6 +238,8 @@ impl Transaction<'_> {
             self.old.map.now.core self.new.map.now.core) }
         ensures err { OnErr result (now self.new.map.now.core.history
             ≡ now self.old.map.now.core.history) }
+        ensures stopped { IfErr result (λ stop. IsStopped self.old.map.now.core
+            (steps.Back self.old.caller level) stop self.new.map.now.core) }
     {
         let caller = self.caller;
         self.map.back(caller, level)
@@ -237,6 +255,8 @@ impl Transaction<'_> {
             self.old.map.now.core self.new.map.now.core) }
         ensures err { OnErr result (now self.new.map.now.core.history
             ≡ now self.old.map.now.core.history) }
+        ensures stopped { IfErr result (λ stop. IsStopped self.old.map.now.core
+            (steps.Ask self.old.caller op) stop self.new.map.now.core) }
     {
         let caller = self.caller;
         self.map.operate(caller, op)
@@ -256,6 +276,8 @@ impl Transaction<'_> {
             self.entry.map.now.core self.exit.0.now.core) }
         ensures err { OnErr result (IsTakenBack self.entry.caller
             self.entry.map.now.core self.exit.0.now.core) }
+        ensures stopped { IfErr result (λ stop. IsNotCommitted self.entry.caller
+            self.entry.map.now.core stop self.exit.0.now.core) }
     {
         let Transaction { map, caller } = self;
         match map.commit(caller) {

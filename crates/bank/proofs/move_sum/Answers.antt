@@ -24,3 +24,6 @@ returns-in_err-put-2-clause-keeps c =
 pub returns-clause-keeps : goal.returns-clause-keeps
 returns-clause-keeps c =
     keeps_on _ _ _ c.read.ensures.keeps (keeps_on _ _ _ c.read-2.ensures.keeps (keeps_on _ _ _ c.put.ensures.keeps c.put-2.ensures.keeps))
+
+pub returns-in_err-has-clause-keeps : goal.returns-in_err-has-clause-keeps
+returns-in_err-has-clause-keeps c = keeps_on _ _ _ c.read.ensures.keeps c.read-2.ensures.keeps
