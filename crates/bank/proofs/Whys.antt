@@ -5,7 +5,7 @@ use Rattle.txn_trace.specs.declared.step.Step.TheVariants.{Begin, Commit}
 use Rattle.txn_trace.specs.Now.{now}
 use Rattle.map_answers.specs.declared.stop.Stop.{Stop}
 use Rattle.boost_core.specs.State.{State}
-use Rattle.owned_map.specs.Stopped.{HasBegun, IsStopped}
+use Rattle.owned_map.specs.Effects.{HasBegun, IsStopped}
 use Rattle.owned_map.specs.Within.{IsBeside}
 use Rattle.owned_map.proofs.Only.{after, same}
 use Rattle.bank.specs.declared.NotMoved.{NotMoved}

@@ -7,7 +7,7 @@ use Rattle.map_answers.specs.declared.stop.Stop.{Stop}
 use Rattle.boost_core.specs.Refusals.{owner_of}
 use Rattle.boost_core.specs.declared.owner.Owner.TheVariants.{Caller}
 use Rattle.boost_core.specs.State.{State}
-use Rattle.owned_map.specs.Stopped.{IsStopped}
+use Rattle.owned_map.specs.Effects.{IsStopped}
 use Rattle.owned_map.specs.Within.{IsBeside}
 use Rattle.bank.specs.declared.NotMoved.{NotMoved}
 use Rattle.bank.specs.declared.NotMoved.TheVariants.{TooLittle, TooMuch, Stopped}

@@ -9,7 +9,7 @@ ghost use Rattle.txn_trace.specs.declared.op.Op.TheVariants as ops;
 ghost use Rattle.txn_trace.specs.declared.step.Step.TheVariants as steps;
 ghost use Rattle.txn_trace.specs.Now.{now};
 ghost use Rattle.owned_map.specs.Keeps.{Keeps};
-ghost use Rattle.owned_map.specs.Stopped.{IsStopped};
+ghost use Rattle.owned_map.specs.Effects.{IsStopped};
 ghost use Rattle.owned_map.specs.Within.{OnlyDid};
 ghost use Rattle.bank.specs.Transfers.{IsTransfer, IsWhy, balance};
 

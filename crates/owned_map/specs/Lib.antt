@@ -2,4 +2,4 @@ pub mod Within
 pub mod Keeps
 pub mod Taken
 pub mod Trimmed
-pub mod Stopped
+pub mod Effects

@@ -3,14 +3,15 @@
 //! The calls of a transaction are made here for a caller, with contracts about states; those of
 //! `Transaction` are over them. Every bucket below `grown` is initialised, unless memory was
 //! refused.
-ghost use Rattle.std.specs.Prelude.{◌≡◌, ◌==◌, true, false, ◌⊎◌, IfOk, IfErr, OnOk, OnErr, Ok, Err};
+ghost use Rattle.std.specs.Prelude.{◌≡◌, ◌==◌, true, false, ℕ, ◌⊎◌, IfOk, IfErr, OnOk, OnErr, Ok, Err};
 ghost use Rattle.txn_trace.specs.Map.{count_of};
 ghost use Rattle.txn_trace.specs.Now.{now};
+ghost use Rattle.txn_trace.specs.declared.answer.Answer.TheVariants as answers;
 ghost use Rattle.txn_trace.specs.declared.step.Step.TheVariants as steps;
 ghost use Rattle.boost_core.specs.Machine.{Event, Move};
 ghost use Rattle.boost_core.specs.State.{start};
-ghost use Rattle.boost_core.specs.Plain.{Operates};
-ghost use Rattle.owned_map.specs.Stopped.{HasBegun, IsNotCommitted, IsStopped};
+ghost use Rattle.boost_core.specs.Plain.{Operates, Returns};
+ghost use Rattle.owned_map.specs.Effects.{HasAborted, HasBegun, HasOperated, IsNotCommitted, IsStopped};
 ghost use Rattle.owned_map.specs.Taken.{asks_well};
 ghost use Rattle.owned_map.specs.Within.{CanAbort, GoesOn, HasDone, IsBackAt, IsBeside, IsCommitted, IsGrown, IsRun, IsSameMap, IsSaved, IsTakenBack, KeepsSavepoints, OnlyDid, is_grown};
 
@@ -121,6 +122,8 @@ impl OwnedMap {
         ensures savepoints { KeepsSavepoints caller self.old.core self.new.core }
         ensures ok { IfOk result (λ reply. HasDone op reply self.old.core self.new.core) }
         ensures err { OnErr result (now self.new.core.history ≡ now self.old.core.history) }
+        ensures did { IfOk result (λ reply. HasOperated caller op reply
+            self.old.core self.new.core) }
         ensures stopped { IfErr result (λ stop. IsStopped self.old.core (steps.Ask caller op) stop
             self.new.core) }
     {
@@ -157,6 +160,8 @@ impl OwnedMap {
         ensures goes_on { GoesOn caller self.old.core self.new.core }
         ensures ok { IfOk result (λ level. IsSaved caller level self.old.core self.new.core) }
         ensures same { now self.new.core.history ≡ now self.old.core.history }
+        ensures did { IfOk result (λ level. Event self.old.core (steps.Save caller)
+            (answers.Saved level) self.new.core) }
         ensures stopped { IfErr result (λ stop. IsStopped self.old.core (steps.Save caller) stop
             self.new.core) }
     {
@@ -175,6 +180,8 @@ impl OwnedMap {
         ensures goes_on { GoesOn caller self.old.core self.new.core }
         ensures ok { OnOk result (IsBackAt caller level self.old.core self.new.core) }
         ensures err { OnErr result (now self.new.core.history ≡ now self.old.core.history) }
+        ensures did { OnOk result (Returns self.old.core caller level (answers.Returned level)
+            self.new.core) }
         ensures stopped { IfErr result (λ stop. IsStopped self.old.core (steps.Back caller level)
             stop self.new.core) }
     {
@@ -193,6 +200,8 @@ impl OwnedMap {
     pub(crate) fn commit(&mut self, caller: u64) -> Result<u64, Stop>
         ensures ok { IfOk result (λ place. IsCommitted caller place self.old.core self.new.core) }
         ensures err { OnErr result (GoesOn caller self.old.core self.new.core) }
+        ensures did { IfOk result (λ place. Event self.old.core (steps.Commit caller)
+            (answers.Committed place) self.new.core) }
         ensures stopped { IfErr result (λ stop. IsStopped self.old.core (steps.Commit caller) stop
             self.new.core) }
     {
@@ -208,7 +217,8 @@ impl OwnedMap {
     /// Aborts a caller's transaction.
     #[tactic(auto, using(crate::proofs::Steps::taken_back_by, crate::proofs::Taken::aborted))]
     pub(crate) fn abort(&mut self, caller: u64)
-        ensures { IsTakenBack caller self.old.core self.new.core }
+        ensures back { IsTakenBack caller self.old.core self.new.core }
+        ensures did { HasAborted caller self.old.core self.new.core }
     {
         self.core.abort(caller);
     }
@@ -284,13 +294,17 @@ impl OwnedMap {
         requires callable { F.IsAlwaysCallable work }
         requires keeps { (t : _) (r : _) (u : _) → F.post work t r u → Keeps t.now u.now }
         ensures ok { IfOk result (λ value. (t : _) × (u : _) × F.post work t (Ok value) u
-            × IsRun caller self.old.core t.now.map.now.core u.now.map.now.core self.new.core) }
+            × IsRun caller self.old.core t.now.map.now.core u.now.map.now.core self.new.core
+            × (t.now.caller ≡ caller) × HasBegun caller self.old.core t.now.map.now.core
+            × (place : ℕ) × Event u.now.map.now.core (steps.Commit caller)
+            (answers.Committed place) self.new.core) }
         ensures err { OnErr result (IsSameMap caller self.old.core self.new.core) }
         ensures cause { IfErr result (λ error.
             ((stop : Stop) × E.from_gives stop error
             × IsStopped self.old.core (steps.Begin caller) stop self.new.core)
             ⊎ ((t : _) × (u : _) × (t.now.caller ≡ caller)
-            × HasBegun caller self.old.core t.now.map.now.core × F.post work t (Err error) u)
+            × HasBegun caller self.old.core t.now.map.now.core × F.post work t (Err error) u
+            × HasAborted caller u.now.map.now.core self.new.core)
             ⊎ ((t : _) × (u : _) × (t.now.caller ≡ caller)
             × HasBegun caller self.old.core t.now.map.now.core
             × (value : T) × F.post work t (Ok value) u

@@ -2,12 +2,15 @@
 //!
 //! It borrows the map, so no other call can be made on the map while it is open. Each operation
 //! promises `Keeps`, and so does a work of several operations.
-ghost use Rattle.std.specs.Prelude.{◌≡◌, ◌==◌, nat_eq, is_some, IfErr, IfOk, OnErr, OnOk};
+ghost use Rattle.std.specs.Prelude.{◌≡◌, ◌==◌, ℕ, Option, nat_eq, is_some, IfErr, IfOk, OnErr, OnOk};
 ghost use Rattle.std.specs.Option.{option_eq};
+ghost use Rattle.txn_trace.specs.declared.answer.Answer.TheVariants as answers;
 ghost use Rattle.txn_trace.specs.declared.step.Step.TheVariants as steps;
 ghost use Rattle.txn_trace.specs.Map.{after, count_of, get as value_at};
 ghost use Rattle.txn_trace.specs.Now.{now};
-ghost use Rattle.owned_map.specs.Stopped.{IsNotCommitted, IsStopped};
+ghost use Rattle.boost_core.specs.Machine.{Event};
+ghost use Rattle.boost_core.specs.Plain.{Returns};
+ghost use Rattle.owned_map.specs.Effects.{HasAborted, HasOperated, IsNotCommitted, IsStopped};
 ghost use Rattle.owned_map.specs.Within.{HasDone, IsBackAt, IsCommitted, IsSaved, IsTakenBack, KeepsSavepoints};
 
 use crate::owned_map::OwnedMap;
@@ -48,6 +51,8 @@ impl Transaction<'_> {
             self.old.map.now.core self.new.map.now.core) }
         ensures err { OnErr result (now self.new.map.now.core.history
             ≡ now self.old.map.now.core.history) }
+        ensures did { IfOk result (λ reply. HasOperated self.old.caller (Op.Get key) reply
+            self.old.map.now.core self.new.map.now.core) }
         ensures stopped { IfErr result (λ stop. IsStopped self.old.map.now.core
             (steps.Ask self.old.caller (Op.Get key)) stop self.new.map.now.core) }
     {
@@ -70,6 +75,9 @@ impl Transaction<'_> {
         ensures ok { IfOk result (λ there. there
             ≡ is_some (value_at (now self.old.map.now.core.history) key)) }
         ensures same { now self.new.map.now.core.history ≡ now self.old.map.now.core.history }
+        ensures did { IfOk result (λ there. (reply : Option ℕ) × (there ≡ is_some reply)
+            × HasOperated self.old.caller (Op.Get key) reply
+            self.old.map.now.core self.new.map.now.core) }
         ensures stopped { IfErr result (λ stop. IsStopped self.old.map.now.core
             (steps.Ask self.old.caller (Op.Get key)) stop self.new.map.now.core) }
     {
@@ -95,6 +103,8 @@ impl Transaction<'_> {
             self.old.map.now.core self.new.map.now.core) }
         ensures err { OnErr result (now self.new.map.now.core.history
             ≡ now self.old.map.now.core.history) }
+        ensures did { IfOk result (λ reply. HasOperated self.old.caller (Op.Put key value) reply
+            self.old.map.now.core self.new.map.now.core) }
         ensures stopped { IfErr result (λ stop. IsStopped self.old.map.now.core
             (steps.Ask self.old.caller (Op.Put key value)) stop self.new.map.now.core) }
     {
@@ -118,6 +128,8 @@ impl Transaction<'_> {
             self.old.map.now.core self.new.map.now.core) }
         ensures err { OnErr result (now self.new.map.now.core.history
             ≡ now self.old.map.now.core.history) }
+        ensures did { IfOk result (λ reply. HasOperated self.old.caller (Op.Take key) reply
+            self.old.map.now.core self.new.map.now.core) }
         ensures stopped { IfErr result (λ stop. IsStopped self.old.map.now.core
             (steps.Ask self.old.caller (Op.Take key)) stop self.new.map.now.core) }
     {
@@ -143,6 +155,8 @@ impl Transaction<'_> {
             self.old.map.now.core self.new.map.now.core) }
         ensures err { OnErr result (now self.new.map.now.core.history
             ≡ now self.old.map.now.core.history) }
+        ensures did { IfOk result (λ reply. HasOperated self.old.caller (Op.PutIf key expected value) reply
+            self.old.map.now.core self.new.map.now.core) }
         ensures stopped { IfErr result (λ stop. IsStopped self.old.map.now.core
             (steps.Ask self.old.caller (Op.PutIf key expected value)) stop self.new.map.now.core) }
     {
@@ -169,6 +183,9 @@ impl Transaction<'_> {
             ≡ after (now self.old.map.now.core.history) (Op.PutIf key expected value))) }
         ensures err { OnErr result (now self.new.map.now.core.history
             ≡ now self.old.map.now.core.history) }
+        ensures did { IfOk result (λ swapped. (reply : Option ℕ)
+            × HasOperated self.old.caller (Op.PutIf key expected value) reply
+            self.old.map.now.core self.new.map.now.core) }
         ensures stopped { IfErr result (λ stop. IsStopped self.old.map.now.core
             (steps.Ask self.old.caller (Op.PutIf key expected value)) stop self.new.map.now.core) }
     {
@@ -212,6 +229,8 @@ impl Transaction<'_> {
         ensures ok { IfOk result (λ level. IsSaved self.old.caller level
             self.old.map.now.core self.new.map.now.core) }
         ensures same { now self.new.map.now.core.history ≡ now self.old.map.now.core.history }
+        ensures did { IfOk result (λ level. Event self.old.map.now.core
+            (steps.Save self.old.caller) (answers.Saved level) self.new.map.now.core) }
         ensures stopped { IfErr result (λ stop. IsStopped self.old.map.now.core
             (steps.Save self.old.caller) stop self.new.map.now.core) }
     {
@@ -238,6 +257,8 @@ impl Transaction<'_> {
             self.old.map.now.core self.new.map.now.core) }
         ensures err { OnErr result (now self.new.map.now.core.history
             ≡ now self.old.map.now.core.history) }
+        ensures did { OnOk result (Returns self.old.map.now.core self.old.caller level
+            (answers.Returned level) self.new.map.now.core) }
         ensures stopped { IfErr result (λ stop. IsStopped self.old.map.now.core
             (steps.Back self.old.caller level) stop self.new.map.now.core) }
     {
@@ -255,6 +276,8 @@ impl Transaction<'_> {
             self.old.map.now.core self.new.map.now.core) }
         ensures err { OnErr result (now self.new.map.now.core.history
             ≡ now self.old.map.now.core.history) }
+        ensures did { IfOk result (λ reply. HasOperated self.old.caller op reply
+            self.old.map.now.core self.new.map.now.core) }
         ensures stopped { IfErr result (λ stop. IsStopped self.old.map.now.core
             (steps.Ask self.old.caller op) stop self.new.map.now.core) }
     {
@@ -276,6 +299,8 @@ impl Transaction<'_> {
             self.entry.map.now.core self.exit.0.now.core) }
         ensures err { OnErr result (IsTakenBack self.entry.caller
             self.entry.map.now.core self.exit.0.now.core) }
+        ensures did { IfOk result (λ place. Event self.entry.map.now.core
+            (steps.Commit self.entry.caller) (answers.Committed place) self.exit.0.now.core) }
         ensures stopped { IfErr result (λ stop. IsNotCommitted self.entry.caller
             self.entry.map.now.core stop self.exit.0.now.core) }
     {
@@ -296,7 +321,8 @@ impl Transaction<'_> {
     ///
     /// A seek and an act for each change, and a step for each stripe; takes no memory.
     pub fn abort(self)
-        ensures { IsTakenBack self.entry.caller self.entry.map.now.core self.exit.0.now.core }
+        ensures back { IsTakenBack self.entry.caller self.entry.map.now.core self.exit.0.now.core }
+        ensures did { HasAborted self.entry.caller self.entry.map.now.core self.exit.0.now.core }
     {
         drop(self);
     }
@@ -304,7 +330,8 @@ impl Transaction<'_> {
 
 impl Drop for Transaction<'_> {
     fn drop(self)
-        ensures { IsTakenBack self.entry.caller self.entry.map.now.core self.exit.0.now.core }
+        ensures back { IsTakenBack self.entry.caller self.entry.map.now.core self.exit.0.now.core }
+        ensures did { HasAborted self.entry.caller self.entry.map.now.core self.exit.0.now.core }
     {
         let Transaction { map, caller } = self;
         map.abort(caller);

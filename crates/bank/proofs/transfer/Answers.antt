@@ -10,7 +10,7 @@ use Rattle.bank.proofs.transfer.Goals as goal
 
 pub returns-clause-moved : goal.returns-clause-moved
 returns-clause-moved c = on_ok c.transact.result (λ value made.
-    let (t, u, did, run) = made in
+    let (t, u, did, run, whose, begun, place, ended) = made in
     let moved : IsTransfer c.args.from c.args.to c.args.sum (now t.now.map.now.core.history) (now u.now.map.now.core.history) = search rules in
     subst (λ m. IsTransfer c.args.from c.args.to c.args.sum m (now c.transact.new.self.core.history)) run.began
     (subst (λ m. IsTransfer c.args.from c.args.to c.args.sum (now t.now.map.now.core.history) m) (sym run.ended) moved)) c.transact.ensures.ok
@@ -20,7 +20,7 @@ returns-clause-cause c =
     let old = c.args.accounts.now.core in
     on_err c.transact.result (λ why cause. elim cause [
       | inl (stop, is, stopped) ↦ at_begin c.args.caller c.args.from c.args.to c.args.sum stop why old _ is stopped
-      | inr (inl (t, u, whose, begun, did)) ↦
+      | inr (inl (t, u, whose, begun, did, aborted)) ↦
           let found : IsWhy t.now.caller c.args.from c.args.to c.args.sum why t.now.map.now.core = search rules in
           in_work c.args.caller c.args.from c.args.to c.args.sum why old t.now.map.now.core begun
           (subst (λ d. IsWhy d c.args.from c.args.to c.args.sum why t.now.map.now.core) whose found)

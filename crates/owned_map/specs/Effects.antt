@@ -1,7 +1,8 @@
--- Why a call of a transaction was not done: the step of the core that was answered so.
-use Rattle.std.specs.Prelude.{ℕ, ◌≡◌}
+-- What the calls of a transaction do to the core: which steps it takes, and with which answers.
+use Rattle.std.specs.Prelude.{ℕ, ◌≡◌, Option}
 use Rattle.txn_trace.specs.declared.answer.Answer.{Answer}
 use Rattle.txn_trace.specs.declared.answer.Answer.TheVariants as answers
+use Rattle.txn_trace.specs.declared.op.Op.{Op}
 use Rattle.txn_trace.specs.declared.step.Step.{Step}
 use Rattle.txn_trace.specs.declared.step.Step.TheVariants.{Begin, Commit}
 use Rattle.txn_trace.specs.Now.{now}
@@ -9,7 +10,8 @@ use Rattle.map_answers.specs.declared.stop.Stop.{Stop}
 use Rattle.map_answers.specs.declared.stop.Stop.TheVariants as stops
 use Rattle.boost_core.specs.State.{State}
 use Rattle.boost_core.specs.Machine.{Event}
-use Rattle.owned_map.specs.Within.{IsBeside, IsTakenBack}
+use Rattle.boost_core.specs.Plain.{Operates, Aborts}
+use Rattle.owned_map.specs.Within.{IsBeside, IsGrown}
 
 -- The core's answer of which a call makes a stop.
 abbrev pub answer_of : Stop → Answer
@@ -20,6 +22,11 @@ answer_of (stops.Refused refusal) = answers.Refused refusal
 abbrev pub IsStopped : State → Step → Stop → State → Type 0
 IsStopped old step stop new = Event old step (answer_of stop) new
 
+-- A caller's operation was done once, with this reply, and then the table may have grown.
+abbrev pub HasOperated : ℕ → Op → Option ℕ → State → State → Type 0
+HasOperated c op reply old new =
+    (done : State) × Operates old c op (answers.Done reply) done × IsGrown done new
+
 -- A caller began a transaction. The map is unchanged.
 pub record HasBegun (c : ℕ) (old new : State) : Type 0 where
   pub txn : ℕ
@@ -27,7 +34,11 @@ pub record HasBegun (c : ℕ) (old new : State) : Type 0 where
   pub same : now new.history ≡ now old.history
   pub beside : IsBeside c old new
 
--- A caller's commit was stopped, and its transaction was then taken back.
+-- A caller's transaction was aborted by the core, and nothing else was done.
+abbrev pub HasAborted : ℕ → State → State → Type 0
+HasAborted c old new = (answer : Answer) × Aborts old c answer new
+
+-- A caller's commit was stopped, and its transaction was then aborted.
 abbrev pub IsNotCommitted : ℕ → State → Stop → State → Type 0
 IsNotCommitted c old stop new =
-    (left : State) × IsStopped old (Commit c) stop left × IsTakenBack c left new
+    (left : State) × IsStopped old (Commit c) stop left × HasAborted c left new
