@@ -1,5 +1,5 @@
-//! Tests of `striped_map`: what no contract says, that each call succeeds while there is memory,
-//! and worked runs of callers side by side with their values.
+//! Tests of `striped_map` and `sided_caller`: what no contract says, that each call succeeds while
+//! there is memory, and worked runs of callers side by side with their values.
 //!
 //! They stand in a crate of their own, since a crate with tests is proved twice. A device is a
 //! function without a clause: it makes one call and tells what it answered.
@@ -19,6 +19,10 @@ mod meets;
 mod refused;
 #[cfg(test)]
 mod runs;
+#[cfg(test)]
+mod sided;
+#[cfg(test)]
+mod sided_limits;
 #[cfg(test)]
 mod transfers;
 #[cfg(test)]

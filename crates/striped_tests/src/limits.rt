@@ -1,5 +1,5 @@
-//! Callers at the limits of the map: stripes, callers, keys, values, savepoints, and the order of
-//! the pairs.
+//! Callers at the limits of the map: stripes, callers, keys, values, savepoints, changes, and the
+//! order of the pairs.
 use crate::calls::{Ask, NEW, Row, Told, Worked, has_left, open, play, play_worked};
 use std::alloc::{AllocError, Global};
 use std::process::Abort;
@@ -138,6 +138,70 @@ fn a_thousand_savepoints(rt: HostRuntime) -> Result<(), Fail> {
     play(&rt, callers.as_mut_slice(), &[(0, Ask::Begin, Told::Done)]);
     save_a_thousand(&rt, callers.as_mut_slice());
     play(&rt, callers.as_mut_slice(), LEVELS.as_slice());
+    Ok(())
+}
+
+/// The pairs that are there before a hundred thousand keys are put, two of which are among them.
+const FEW: [Row; 5] = [
+    (0, Ask::Begin, Told::Done),
+    (0, Ask::Do(Op::Put(7, 70)), NEW),
+    (0, Ask::Do(Op::Put(99_999, 9)), NEW),
+    (0, Ask::Len, Told::Number(2)),
+    (0, Ask::Commit, Told::Number(1)),
+];
+
+/// Begins, and puts the next number at each key below 100,000.
+fn put_100_000<R: Abort>(rt: &R, callers: &mut [Caller]) {
+    play(rt, callers, &[(0, Ask::Begin, Told::Done)]);
+    for key in 0..100_000u64 {
+        let had = match key {
+            7 => Some(70),
+            99_999 => Some(9),
+            _ => None,
+        };
+        let row = (0, Ask::Do(Op::Put(key, key + 1)), Told::Replied(had));
+        play(rt, callers, &[row]);
+    }
+}
+
+/// An abort of all these puts, after which only the first pairs are there.
+const PUTS_TAKEN_BACK: [Row; 8] = [
+    (0, Ask::Len, Told::Number(100_000)),
+    (0, Ask::Abort, Told::Done),
+    (0, Ask::Begin, Told::Done),
+    (0, Ask::Len, Told::Number(2)),
+    (0, Ask::Do(Op::Get(0)), NEW),
+    (0, Ask::Do(Op::Get(7)), Told::Replied(Some(70))),
+    (0, Ask::Do(Op::Get(99_999)), Told::Replied(Some(9))),
+    (0, Ask::Abort, Told::Done),
+];
+
+/// A commit of all of them.
+const PUTS_COMMITTED: [Row; 9] = [
+    (0, Ask::Commit, Told::Number(2)),
+    (0, Ask::Begin, Told::Done),
+    (0, Ask::Len, Told::Number(100_000)),
+    (0, Ask::Do(Op::Get(0)), Told::Replied(Some(1))),
+    (0, Ask::Do(Op::Get(7)), Told::Replied(Some(8))),
+    (0, Ask::Do(Op::Get(49_999)), Told::Replied(Some(50_000))),
+    (0, Ask::Do(Op::Get(99_999)), Told::Replied(Some(100_000))),
+    (0, Ask::Do(Op::Get(100_000)), NEW),
+    (0, Ask::Commit, Told::Number(3)),
+];
+
+/// A hundred thousand puts of one transaction, on 1 and 4,096 stripes: taken back, and then made
+/// once more.
+#[test]
+fn a_hundred_thousand_puts(rt: HostRuntime) -> Result<(), Fail> {
+    for stripes in [1, 4096usize] {
+        let (mut host, mut callers) = open(rt.alloc(), stripes, 1)?;
+        play(&rt, callers.as_mut_slice(), FEW.as_slice());
+        put_100_000(&rt, callers.as_mut_slice());
+        play(&rt, callers.as_mut_slice(), PUTS_TAKEN_BACK.as_slice());
+        has_left(&rt, &mut host, &[(7, 70), (99_999, 9)]);
+        put_100_000(&rt, callers.as_mut_slice());
+        play(&rt, callers.as_mut_slice(), PUTS_COMMITTED.as_slice());
+    }
     Ok(())
 }
 

@@ -12,9 +12,9 @@ use striped_map::{Caller, Host, Stop, open_map};
 use txn_trace::Refusal;
 
 /// A new map of three callers: its host, the first caller, and the two others.
-type Made = (Host, Vec<Caller>, (Caller, Caller));
+pub(crate) type Made = (Host, Vec<Caller>, (Caller, Caller));
 
-fn three(alloc: Global) -> Result<Made, Fail>
+pub(crate) fn three(alloc: Global) -> Result<Made, Fail>
     ensures same_map { IfOk result (λ made. made.2.0.map.value ≡ made.2.1.map.value) }
 {
     let (host, mut callers) = match open_map(alloc, 4, 3) {

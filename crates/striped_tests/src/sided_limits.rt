@@ -1,0 +1,229 @@
+//! Callers with a side value at the limits: keys, values, changes of the side value, savepoints,
+//! and two of them in threads.
+use crate::calls::{NEW, Told, has_left};
+use crate::sided::{Call, Row, Sided, answer, has_count, open_sided, play};
+use std::process::Abort;
+use std::sync::Wait;
+use std::test::Fail;
+use std::thread;
+use std::thread::Threads;
+use txn_trace::{Op, Refusal};
+
+/// Each operation on a key, which at last has the value 0, with the values 0 and 2^64 - 1. The side
+/// value becomes the key.
+fn each_operation(key: u64, before: u64) -> [Row; 9] {
+    let (zero, most) = (Told::Replied(Some(0)), Told::Replied(Some(u64::MAX)));
+    [
+        (0, Call::Do(Op::Get(key)), NEW, before),
+        (0, Call::Do(Op::Take(key)), NEW, before),
+        (0, Call::Do(Op::Put(key, 0)), NEW, before),
+        (0, Call::Set(key), Told::Done, key),
+        (0, Call::Do(Op::PutIf(key, None, 1)), zero, key),
+        (0, Call::Do(Op::PutIf(key, Some(0), u64::MAX)), zero, key),
+        (0, Call::Do(Op::Take(key)), most, key),
+        (0, Call::Do(Op::PutIf(key, None, u64::MAX)), NEW, key),
+        (0, Call::Do(Op::Put(key, 0)), most, key),
+    ]
+}
+
+/// The keys 0, 2^63 - 1, 2^63 and 2^64 - 1, on 1 and 4,096 stripes.
+#[test]
+fn widest_keys(rt: HostRuntime) -> Result<(), Fail> {
+    let half = 9_223_372_036_854_775_808;
+    for stripes in [1, 4096usize] {
+        let (mut host, mut callers) = open_sided(rt.alloc(), stripes, 1)?;
+        let mut before = 0;
+        play(
+            &rt,
+            callers.as_mut_slice(),
+            &[(0, Call::Begin, Told::Done, 0)],
+        );
+        for key in [0, half - 1, half, u64::MAX] {
+            play(&rt, callers.as_mut_slice(), &each_operation(key, before));
+            before = key;
+        }
+        let commits = [(0, Call::Commit, Told::Number(1), u64::MAX)];
+        play(&rt, callers.as_mut_slice(), commits.as_slice());
+        let left = [(0, 0), (half - 1, 0), (half, 0), (u64::MAX, 0)];
+        has_left(&rt, &mut host, left.as_slice());
+    }
+    Ok(())
+}
+
+/// Begins where the side value is 7 and key 1 has 10, and changes the side value and a key of the
+/// map a thousand times each.
+fn change_a_thousand<R: Abort>(rt: &R, callers: &mut [Sided]) {
+    play(rt, callers, &[(0, Call::Begin, Told::Done, 7)]);
+    for count in 0..1000u64 {
+        let had = (count == 1).then_some(10);
+        let rows = [
+            (0, Call::Set(count), Told::Done, count),
+            (
+                0,
+                Call::Do(Op::Put(count, count)),
+                Told::Replied(had),
+                count,
+            ),
+        ];
+        play(rt, callers, rows.as_slice());
+    }
+}
+
+/// Puts 10 at key 1 and 7 in the side value.
+const FIRST: [Row; 4] = [
+    (0, Call::Begin, Told::Done, 0),
+    (0, Call::Do(Op::Put(1, 10)), NEW, 0),
+    (0, Call::Set(7), Told::Done, 7),
+    (0, Call::Commit, Told::Number(1), 7),
+];
+
+/// Goes on after a commit of the thousand changes: an abort takes back no more than what came after
+/// it.
+const KEPT: [Row; 8] = [
+    (0, Call::Commit, Told::Number(2), 999),
+    (0, Call::Begin, Told::Done, 999),
+    (0, Call::Do(Op::Get(0)), Told::Replied(Some(0)), 999),
+    (0, Call::Do(Op::Get(999)), Told::Replied(Some(999)), 999),
+    (0, Call::Do(Op::Get(1000)), NEW, 999),
+    (0, Call::Set(5), Told::Done, 5),
+    (0, Call::Back(0), Told::Done, 999),
+    (0, Call::Abort, Told::Done, 999),
+];
+
+#[test]
+fn a_thousand_changes(rt: HostRuntime) -> Result<(), Fail> {
+    let (mut host, mut callers) = open_sided(rt.alloc(), 16, 1)?;
+    play(&rt, callers.as_mut_slice(), FIRST.as_slice());
+    change_a_thousand(&rt, callers.as_mut_slice());
+    play(
+        &rt,
+        callers.as_mut_slice(),
+        &[(0, Call::Abort, Told::Done, 7)],
+    );
+    has_left(&rt, &mut host, &[(1, 10)]);
+    change_a_thousand(&rt, callers.as_mut_slice());
+    play(&rt, callers.as_mut_slice(), KEPT.as_slice());
+    Ok(())
+}
+
+/// Sets a hundred savepoints, each after key 1 and the side value were given the level that comes
+/// next.
+fn save_a_hundred<R: Abort>(rt: &R, callers: &mut [Sided]) {
+    for level in 1..101u64 {
+        let had = (level > 1).then_some(level - 1);
+        let rows = [
+            (0, Call::Set(level), Told::Done, level),
+            (0, Call::Do(Op::Put(1, level)), Told::Replied(had), level),
+            (0, Call::Save, Told::Number(level), level),
+        ];
+        play(rt, callers, rows.as_slice());
+    }
+}
+
+/// Returns to levels, and what key 1 and the side value have there. The side value was 7 before the
+/// transaction.
+const LEVELS: [Row; 19] = [
+    (0, Call::Set(500), Told::Done, 500),
+    (0, Call::Do(Op::Take(1)), Told::Replied(Some(100)), 500),
+    (0, Call::Back(101), Told::Refused(Refusal::NoSuchLevel), 500),
+    (0, Call::Back(100), Told::Done, 100),
+    (0, Call::Do(Op::Get(1)), Told::Replied(Some(100)), 100),
+    (0, Call::Back(50), Told::Done, 50),
+    (0, Call::Do(Op::Get(1)), Told::Replied(Some(50)), 50),
+    (0, Call::Back(51), Told::Refused(Refusal::NoSuchLevel), 50),
+    (0, Call::Set(600), Told::Done, 600),
+    (0, Call::Save, Told::Number(51), 600),
+    (0, Call::Back(1), Told::Done, 1),
+    (0, Call::Do(Op::Get(1)), Told::Replied(Some(1)), 1),
+    (0, Call::Back(2), Told::Refused(Refusal::NoSuchLevel), 1),
+    (0, Call::Save, Told::Number(2), 1),
+    (0, Call::Set(700), Told::Done, 700),
+    (0, Call::Back(0), Told::Done, 7),
+    (0, Call::Do(Op::Get(1)), NEW, 7),
+    (0, Call::Save, Told::Number(1), 7),
+    (0, Call::Commit, Told::Number(1), 7),
+];
+
+#[test]
+fn a_hundred_savepoints(rt: HostRuntime) -> Result<(), Fail> {
+    let (mut host, mut callers) = open_sided(rt.alloc(), 4, 1)?;
+    let begins = [
+        (0, Call::Set(7), Told::Done, 7),
+        (0, Call::Begin, Told::Done, 7),
+    ];
+    play(&rt, callers.as_mut_slice(), begins.as_slice());
+    save_a_hundred(&rt, callers.as_mut_slice());
+    play(&rt, callers.as_mut_slice(), LEVELS.as_slice());
+    has_left(&rt, &mut host, &[]);
+    Ok(())
+}
+
+/// Makes a call, which must not be refused; whether it was not busy.
+fn is_made<R: Abort>(rt: &R, caller: &mut Sided, what: Call) -> bool {
+    let told = answer(caller, what);
+    assert!(rt; !matches!(told, Told::Refused(_)), "{what:?}");
+    !matches!(told, Told::Busy(_))
+}
+
+/// Adds one to a key, where no key counts as 0; whether no stripe was busy.
+fn adds_one<R: Abort>(rt: &R, caller: &mut Sided, key: u64) -> bool {
+    let Told::Replied(had) = answer(caller, Call::Do(Op::Get(key))) else {
+        return false;
+    };
+    thread::yield_now();
+    let more = had.unwrap_or(0).wrapping_add(1);
+    is_made(rt, caller, Call::Do(Op::Put(key, more)))
+}
+
+/// Adds one to the key that all share, gives the side value the count that comes next, adds one to
+/// the caller's own key, and ends the transaction so; whether no stripe was busy.
+fn counts<R: Abort>(rt: &R, caller: &mut Sided, own: u64, next: u64, end: Call) -> bool {
+    is_made(rt, caller, Call::Begin)
+        && adds_one(rt, caller, 1)
+        && is_made(rt, caller, Call::Set(next))
+        && adds_one(rt, caller, own)
+        && is_made(rt, caller, end)
+}
+
+/// Commits 300 transactions, and aborts every third. After each, whether committed, aborted or
+/// busy, the side value is the number of those that were committed.
+fn count_to_300<R: Abort>(rt: &R, caller: &mut Sided, own: u64) {
+    let mut count = 0u64;
+    for round in 0..u64::MAX {
+        if count == 300 {
+            return;
+        }
+        let next = count.wrapping_add(1);
+        let commits = round % 3 < 2;
+        let end = if commits { Call::Commit } else { Call::Abort };
+        if counts(rt, caller, own, next, end) && commits {
+            count = next;
+        }
+        assert!(rt; has_count(caller, count), "{count}");
+        thread::yield_now();
+    }
+}
+
+/// Each caller counts in a thread of its own.
+fn count_all<R: Threads + Wait + Abort + Sync>(rt: &R, callers: &mut [Sided]) {
+    thread::scope(thread::scope_env(), rt, |scope| {
+        for (place, caller) in callers.iter_mut().enumerate() {
+            let own = (place as u64).wrapping_add(2);
+            let started = scope.spawn(move || count_to_300(rt, caller, own));
+            assert!(rt; started.is_ok(), "a thread");
+        }
+    });
+}
+
+/// What two threads have counted in their side values is what they have committed: their own keys
+/// have it, and the key that they share has both.
+#[test]
+fn two_threads_count(rt: HostRuntime) -> Result<(), Fail> {
+    let (mut host, mut callers) = open_sided(rt.alloc(), 4, 2)?;
+    count_all(&rt, callers.as_mut_slice());
+    for caller in callers.iter() {
+        assert!(rt; has_count(caller, 300));
+    }
+    has_left(&rt, &mut host, &[(1, 600), (2, 300), (3, 300)]);
+    Ok(())
+}

@@ -1,0 +1,159 @@
+//! Calls of a transaction as values, and tables of them at the limits, for both maps.
+use owned_map::Stop;
+use std::alloc::{AllocError, Global};
+use txn_trace::{Op, Refusal, Reply};
+
+/// What a transaction is asked for.
+#[derive(Clone, Copy)]
+pub(crate) enum Call {
+    Do(Op),
+    Has(u64),
+    Swap(u64, Option<u64>, u64),
+    Save,
+    Back(u64),
+}
+
+/// What it answers: nothing, a reply, a level, yes or no, or why it did not do it.
+#[derive(Clone, Copy, PartialEq, Eq)]
+pub(crate) enum Told {
+    Done,
+    Replied(Reply),
+    Level(u64),
+    Is(bool),
+    Stopped(Stop),
+}
+
+/// A call, and what it must answer.
+pub(crate) type Line = (Call, Told);
+
+/// A key that is not there, one that has 0, and one that has 2^64 - 1.
+const NONE: Told = Told::Replied(None);
+
+const ZERO: Told = Told::Replied(Some(0));
+
+const MOST: Told = Told::Replied(Some(u64::MAX));
+
+/// Each call on a key that is not there, with the values 0 and 2^64 - 1. At last it has 2^64 - 1.
+fn each_call(key: u64) -> [Line; 21] {
+    [
+        (Call::Do(Op::Get(key)), NONE),
+        (Call::Has(key), Told::Is(false)),
+        (Call::Do(Op::Take(key)), NONE),
+        (Call::Do(Op::Put(key, 0)), NONE),
+        (Call::Has(key), Told::Is(true)),
+        (Call::Do(Op::PutIf(key, None, 1)), ZERO),
+        (Call::Do(Op::PutIf(key, Some(0), u64::MAX)), ZERO),
+        (Call::Do(Op::PutIf(key, Some(0), 1)), MOST),
+        (Call::Do(Op::Get(key)), MOST),
+        (Call::Swap(key, None, 1), Told::Is(false)),
+        (Call::Swap(key, Some(0), 1), Told::Is(false)),
+        (Call::Swap(key, Some(u64::MAX), 0), Told::Is(true)),
+        (Call::Do(Op::Put(key, u64::MAX)), ZERO),
+        (Call::Do(Op::Take(key)), MOST),
+        (Call::Swap(key, Some(u64::MAX), 1), Told::Is(false)),
+        (Call::Swap(key, None, 0), Told::Is(true)),
+        (Call::Do(Op::Take(key)), ZERO),
+        (Call::Do(Op::PutIf(key, Some(0), 1)), NONE),
+        (Call::Do(Op::PutIf(key, None, u64::MAX)), NONE),
+        (Call::Do(Op::Put(key, u64::MAX)), MOST),
+        (Call::Do(Op::Get(key)), MOST),
+    ]
+}
+
+/// A call that half keys do not allow.
+const BAD: Told = Told::Stopped(Stop::Refused(Refusal::BadKey));
+
+/// Each call on a key that half keys do not allow.
+fn each_refused(key: u64) -> [Line; 7] {
+    [
+        (Call::Do(Op::Get(key)), BAD),
+        (Call::Has(key), BAD),
+        (Call::Do(Op::Put(key, 0)), BAD),
+        (Call::Do(Op::Take(key)), BAD),
+        (Call::Do(Op::PutIf(key, None, 0)), BAD),
+        (Call::Do(Op::PutIf(key, Some(0), 1)), BAD),
+        (Call::Swap(key, None, 0), BAD),
+    ]
+}
+
+/// 2^63.
+const HALF: u64 = 9_223_372_036_854_775_808;
+
+/// Adds these lines.
+fn add(all: &mut Vec<Line>, lines: &[Line]) -> Result<(), AllocError> {
+    for line in lines {
+        all.push(*line)?;
+    }
+    Ok(())
+}
+
+/// Each call on the keys 0, 2^63 - 1, 2^63 and 2^64 - 1, which are there at last.
+pub(crate) fn whole_keys(alloc: Global) -> Result<Vec<Line>, AllocError> {
+    let mut all = Vec::new(alloc);
+    for key in [0, HALF - 1, HALF, u64::MAX] {
+        add(&mut all, each_call(key).as_slice())?;
+    }
+    Ok(all)
+}
+
+/// The same if only half keys are taken: the first two keys are there at last.
+pub(crate) fn half_keys(alloc: Global) -> Result<Vec<Line>, AllocError> {
+    let mut all = Vec::new(alloc);
+    for key in [0, HALF - 1] {
+        add(&mut all, each_call(key).as_slice())?;
+    }
+    for key in [HALF, u64::MAX] {
+        add(&mut all, each_refused(key).as_slice())?;
+    }
+    add(&mut all, each_refused(HALF).as_slice())?;
+    Ok(all)
+}
+
+/// A level that is not there.
+const NO_LEVEL: Told = Told::Stopped(Stop::Refused(Refusal::NoSuchLevel));
+
+/// Returns to levels, each of which has its number at key 1, and 1 at the key ten thousand above
+/// it. Key 2 is there at last.
+const LEVELS: [Line; 24] = [
+    (Call::Do(Op::Take(1)), Told::Replied(Some(1000))),
+    (Call::Back(1001), NO_LEVEL),
+    (Call::Back(u64::MAX), NO_LEVEL),
+    (Call::Do(Op::Get(1)), NONE),
+    (Call::Back(1000), Told::Done),
+    (Call::Do(Op::Get(1)), Told::Replied(Some(1000))),
+    (Call::Do(Op::Get(11_000)), Told::Replied(Some(1))),
+    (Call::Back(500), Told::Done),
+    (Call::Do(Op::Get(1)), Told::Replied(Some(500))),
+    (Call::Do(Op::Get(10_500)), Told::Replied(Some(1))),
+    (Call::Do(Op::Get(10_501)), NONE),
+    (Call::Back(501), NO_LEVEL),
+    (Call::Save, Told::Level(501)),
+    (Call::Back(1), Told::Done),
+    (Call::Do(Op::Get(1)), Told::Replied(Some(1))),
+    (Call::Do(Op::Get(10_001)), Told::Replied(Some(1))),
+    (Call::Do(Op::Get(10_002)), NONE),
+    (Call::Back(2), NO_LEVEL),
+    (Call::Back(0), Told::Done),
+    (Call::Do(Op::Get(1)), NONE),
+    (Call::Do(Op::Get(10_001)), NONE),
+    (Call::Back(1), NO_LEVEL),
+    (Call::Do(Op::Put(2, 20)), NONE),
+    (Call::Save, Told::Level(1)),
+];
+
+/// Sets a thousand savepoints, each after key 1 was given the level that comes next and one new key
+/// was put, and returns to levels.
+pub(crate) fn a_thousand_savepoints(alloc: Global) -> Result<Vec<Line>, AllocError> {
+    let mut all = Vec::new(alloc);
+    for level in 1..1001u64 {
+        let had = (level > 1).then_some(level - 1);
+        let lines = [
+            (Call::Do(Op::Put(1, level)), Told::Replied(had)),
+            (Call::Do(Op::Put(10_000 + level, 1)), NONE),
+            (Call::Save, Told::Level(level)),
+        ];
+        add(&mut all, lines.as_slice())?;
+    }
+    add(&mut all, LEVELS.as_slice())?;
+    Ok(all)
+}
