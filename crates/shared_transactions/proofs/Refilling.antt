@@ -19,10 +19,10 @@ first_of at (suc n) items first some is value =
     let first_is : first ≡ at 0 = value ∙ ap (λ xs. slice_index_or xs 0 first) is in
     (ap (λ x. x ∷ remove items 0) first_is ∙ ap (λ xs. at 0 ∷ remove xs 0) is, first_is)
 
-first_ticket : (limits : Sizes) (items : List Ticket) (first : Ticket) → 1 ≤ limits.callers → AreTickets limits items → first ≡ slice_index_or items 0 first → AreTickets limits (first ∷ remove items 0) × (first.number ≡ 0)
+first_ticket : (limits : Sizes) (items : List Ticket) (first : Ticket) → 1 ≤ limits.callers → AreTickets limits items → first ≡ slice_index_or items 0 first → AreTickets limits (first ∷ remove items 0) × (first.number ≡ 0) × (first.limits ≡ limits)
 first_ticket limits items first some all value =
     let (are, first_is) = first_of (new_ticket limits all.words) limits.callers items first some all.are value in
-    (record { words = all.words; are = are }, ap (λ (t : Ticket). t.number) first_is)
+    (record { words = all.words; are = are }, ap (λ (t : Ticket). t.number) first_is, ap (λ (t : Ticket). t.limits) first_is)
 
 some_caller : (callers stripes buckets : ℕ) → are_limits callers stripes buckets ≡ true → 1 ≤ callers
 some_caller callers stripes buckets are = grind arith
@@ -34,12 +34,12 @@ some_of at (suc n) items some is = subst (λ xs. 0 < length xs) (sym is) (omega 
 pub some_ticket : (limits : Sizes) (items : List Ticket) → are_limits limits.callers limits.stripes limits.buckets ≡ true → AreTickets limits items → 0 < length items
 some_ticket limits items sound all = some_of (new_ticket limits all.words) limits.callers items (some_caller limits.callers limits.stripes limits.buckets sound) all.are
 
--- The first pass is that of caller 0, and it and the others are all.
+-- The first pass is that of caller 0 of a map of these limits, and it and the others are all.
 pub tickets_left : (limits wanted : Sizes) (items left : List Ticket) (first : Ticket) → are_limits limits.callers limits.stripes limits.buckets ≡ true → limits ≡ wanted → AreTickets limits items → first ≡ slice_index_or items 0 first → left ≡ remove items 0
-    → AreTickets wanted (first ∷ left) × (first.number ≡ 0)
+    → AreTickets wanted (first ∷ left) × (first.number ≡ 0) × (first.limits ≡ wanted)
 tickets_left limits wanted items left first sound is all value rest =
-    let (tickets, number) = first_ticket limits items first (some_caller limits.callers limits.stripes limits.buckets sound) all value in
-    (subst (λ ts. AreTickets wanted (first ∷ ts)) (sym rest) (subst (λ l. AreTickets l (first ∷ remove items 0)) is tickets), number)
+    let (tickets, number, same) = first_ticket limits items first (some_caller limits.callers limits.stripes limits.buckets sound) all value in
+    (subst (λ ts. AreTickets wanted (first ∷ ts)) (sym rest) (subst (λ l. AreTickets l (first ∷ remove items 0)) is tickets), number, same ∙ is)
 
 puts_push : (c : ℕ) (pairs : List (ℕ × ℕ)) (es : List Entry) (pair : ℕ × ℕ) (reply : Option ℕ) → ArePuts c pairs es → ArePuts c (pairs ++ pair ∷ []) (es ++ Asked c (Put pair.0 pair.1) ∷ Did c reply ∷ [])
 puts_push c [] es pair reply none = (reply, [], ap (λ g. g ++ Asked c (Put pair.0 pair.1) ∷ Did c reply ∷ []) none, refl)

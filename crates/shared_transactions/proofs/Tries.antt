@@ -1,5 +1,5 @@
 -- How a row of tries grows, and what its end says.
-use Rattle.std.proofs.Common.{◌≡◌, ℕ, ◌+◌, ◌≤◌, suc, true, false, sym, subst, inl, inr, arith}
+use Rattle.std.proofs.Common.{◌≡◌, ℕ, ◌+◌, ◌≤◌, suc, true, subst, inl, inr, arith}
 use Rattle.std.specs.Prelude.{Result, Ok, Err, IfOk, IfErr, OnErr}
 use Rattle.std.proofs.lemmas.Bool.{false≢true}
 use Rattle.map_answers.specs.declared.stop.Stop.{Stop}
@@ -24,7 +24,7 @@ module _ {S X T : Type 0} (work : X → Result T Stop → X → Type 0) (me : X 
   busy_more : (n : ℕ) (old between new : Token S) (stop : Stop) → is_busy_stop stop ≡ true → BusyTries work me n old between → Fails work me stop between new → BusyTries work me (n + 1) old new
   busy_more n old between new (Busy holder) busy tries (inl failed) =
       let next : suc n ≡ n + 1 = omega arith in subst (λ k. BusyTries work me k old new) next (between, holder, tries, failed)
-  busy_more n old between new (Busy holder) busy tries (inr none) = absurd (false≢true (sym none.refused))
+  busy_more n old between new (Busy holder) busy tries (inr none) = absurd none.refused
   busy_more n old between new (Refused refusal) busy tries failed = absurd (false≢true busy)
 
   pub one_more : {R : Type 0} (n : ℕ) (old between new : Token S) (result : Result R Stop) → is_busy result ≡ true → BusyTries work me n old between → IfErr result (λ stop. Fails work me stop between new) → BusyTries work me (n + 1) old new
@@ -32,7 +32,7 @@ module _ {S X T : Type 0} (work : X → Result T Stop → X → Type 0) (me : X 
   one_more n old between new (Err stop) busy tries failed = busy_more n old between new stop busy tries failed
 
   -- A try that failed after its begin.
-  pub failed_try : (old new : Token S) (txn : ℕ) (t u : X) (answer : Result T Stop) (stop : Stop) → IsBegun old txn (me t) → work t answer u → IsWhy answer stop → GoesOn (me t) (me u) → IsTakenBack (me u) new → Fails work me stop old new
+  pub failed_try : (old new : Token S) (txn : ℕ) (t u : X) (answer : Result T Stop) (stop : Stop) → IsBegun old txn (me t) → work t answer u → IsWhy answer stop (me u) new → GoesOn (me t) (me u) → IsTakenBack (me u) new → Fails work me stop old new
   failed_try old new txn t u answer stop began worked why goes_on back =
       inl (record { begun = t; left = u; txn = txn; answer = answer; began = began; worked = worked; why = why; goes_on = goes_on; back = back })
 

@@ -30,7 +30,8 @@ use Rattle.locked_map.specs.Tokens.{Token, IsSameCaller, is_over}
 use Rattle.locked_map.specs.Noted.{began_by, last_txn}
 use Rattle.shared_transactions.specs.Within.{is_idle, is_steady, is_steady_in, HoldsNone, HoldsWithin, IsOver, IsSince, GoesOn, IsTakenBack, IsUndone, IsBegun, IsCommitted, IsRun, is_quiet}
 use Rattle.shared_transactions.specs.Keeps.{Keeps}
-use Rattle.shared_transactions.specs.Tries.{IsNotBegun, is_busy_stop}
+use Rattle.shared_transactions.specs.Stops.{IsNotCommitted, IsRefusalOf}
+use Rattle.shared_transactions.specs.Tries.{IsNotBegun}
 use Rattle.std.specs.Borrow.{MutBor}
 use Rattle.map_answers.specs.declared.stop.Stop.{Stop}
 use Rattle.map_answers.specs.declared.stop.Stop.TheVariants as stops
@@ -563,12 +564,17 @@ not_committed words k result stop l m is leaves back =
           given = λ base since holds. back.given base (on.since base since) (on.holds holds);
         }
 
-pub not_busy : {S T : Type 0} (words : S → List ℕ) (k : Token S) (result : Result T Stop) (stop : Stop) (l : Token S) → result ≡ Err stop → LeavesBy words k calls.Commit result l → is_busy_stop stop ≡ false
-not_busy words k result stop l is leaves = after stop (subst (λ r. LeavesBy words k calls.Commit r l) is leaves)
+-- The cause of a commit that was refused.
+pub commit_refused : {S T : Type 0} (words : S → List ℕ) (k : Token S) (result : Result T Stop) (stop : Stop) (l m : Token S) → result ≡ Err stop → LeavesBy words k calls.Commit result l → IsTakenBack l m → IsNotCommitted stop k m
+commit_refused words k result stop l m is leaves back = record {
+  left = l;
+  refused = after stop (subst (λ r. LeavesBy words k calls.Commit r l) is leaves);
+  back = back;
+}
   where
-    after : (stop : Stop) → Stopped words k calls.Commit stop l → is_busy_stop stop ≡ false
+    after : (stop : Stop) → Stopped words k calls.Commit stop l → IsRefusalOf k calls.Commit stop l
     after (stops.Busy x) did = absurd did.made
-    after (stops.Refused r) refused = refl
+    after (stops.Refused r) refused = refused
 
 -- A commit.
 pub committed : {S : Type 0} (k l : Token S) (txn place : ℕ) → txn ≡ last_txn k.seen → l.seen ≡ k.seen ++ entries.Committed k.number place ∷ [] → l.claims ≡ given_back k.claims → Passed k calls.Commit l → IsCommitted txn place k l
@@ -607,7 +613,7 @@ not_begun words k (Err stop) l leaves = after stop leaves
     after : (stop : Stop) → Stopped words k calls.Begin stop l → IsNotBegun stop k l
     after (stops.Busy x) did = absurd did.made
     after (stops.Refused r) refused = record {
-      refused = refl;
+      refused = refused;
       goes_on = refused_on k calls.Begin r l refused;
       over = λ over. over_stopped words k (stops.Refused r) l over refused;
     }

@@ -1,4 +1,5 @@
 pub mod Within
 pub mod Keeps
+pub mod Stops
 pub mod Tries
 pub mod Restarted

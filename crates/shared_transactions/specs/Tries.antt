@@ -4,7 +4,9 @@
 use Rattle.std.specs.Prelude.{ℕ, ◌≡◌, ◌≤◌, ◌⊎◌, zero, suc, Bool, true, false, Result, Ok, Err}
 use Rattle.map_answers.specs.declared.stop.Stop.{Stop}
 use Rattle.map_answers.specs.declared.stop.Stop.TheVariants.{Busy, Refused}
+use Rattle.txn_drive.specs.declared.call.Call.TheVariants as calls
 use Rattle.locked_map.specs.Tokens.{Token}
+use Rattle.shared_transactions.specs.Stops.{IsNotCommitted, IsRefusalOf}
 use Rattle.shared_transactions.specs.Within.{GoesOn, IsBegun, IsOver, IsTakenBack, IsUndone}
 
 -- Whether a call stopped because a stripe was held.
@@ -16,10 +18,10 @@ abbrev pub is_busy : {T : Type 0} → Result T Stop → Bool
 is_busy (Ok value) = false
 is_busy (Err stop) = is_busy_stop stop
 
--- Why a try failed after its begin: the work did; or the commit was refused.
-abbrev pub IsWhy : {T : Type 0} → Result T Stop → Stop → Type 0
-IsWhy (Err found) stop = stop ≡ found
-IsWhy (Ok value) stop = is_busy_stop stop ≡ false
+-- Why a try failed after its begin: the work did; or the commit was refused, which is never busy.
+abbrev pub IsWhy : {S T : Type 0} → Result T Stop → Stop → Token S → Token S → Type 0
+IsWhy (Err found) stop done new = stop ≡ found
+IsWhy (Ok value) stop done new = IsNotCommitted stop done new
 
 -- A try that failed: a transaction was begun, the work ran in it, and it was taken back.
 pub record IsFailedTry {S X T : Type 0} (work : X → Result T Stop → X → Type 0)
@@ -30,13 +32,13 @@ pub record IsFailedTry {S X T : Type 0} (work : X → Result T Stop → X → Ty
   pub answer : Result T Stop
   pub began : IsBegun old txn (me begun)
   pub worked : work begun answer left
-  pub why : IsWhy answer stop
+  pub why : IsWhy answer stop (me left) new
   pub goes_on : GoesOn (me begun) (me left)
   pub back : IsTakenBack (me left) new
 
--- A begin that was refused: no transaction was begun.
+-- A begin that was refused, which is never busy: no transaction was begun.
 pub record IsNotBegun {S : Type 0} (stop : Stop) (old new : Token S) : Type 0 where
-  pub refused : is_busy_stop stop ≡ false
+  pub refused : IsRefusalOf old calls.Begin stop new
   pub goes_on : GoesOn old new
   pub over : IsOver old → IsOver new
 

@@ -7,6 +7,7 @@ ghost use Rattle.std.specs.Borrow.{MutBor};
 ghost use Rattle.locked_map.specs.Tokens.{Token};
 ghost use Rattle.locked_map.specs.declared.no_side.NoSide.{NoSide};
 ghost use Rattle.shared_transactions.specs.Keeps.{Keeps};
+ghost use Rattle.shared_transactions.specs.Stops.{IsNotCommitted};
 ghost use Rattle.shared_transactions.specs.Tries.{Fails, GivesUp, HasTried, IsNotBegun, is_busy};
 ghost use Rattle.shared_transactions.specs.Within.{IsBegun, IsCommitted, IsOver, IsRun};
 ghost use Rattle.shared_transactions.specs.Within.{IsTakenBack, IsUndone};
@@ -33,7 +34,8 @@ pub trait Attempts {
         ensures ok { IfOk result (λ receipt. IsCommitted receipt.txn receipt.place
             (me self.old).now (me self.new).now) }
         ensures err { OnErr result (IsTakenBack (me self.old).now (me self.new).now) }
-        ensures refused { is_busy result ≡ false };
+        ensures stopped { IfErr result (λ stop. IsNotCommitted stop
+            (me self.old).now (me self.new).now) };
 
     /// Aborts.
     fn give_up(&mut self)

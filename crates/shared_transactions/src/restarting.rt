@@ -3,12 +3,13 @@
 //! A map of threads keeps its history and cannot cut it off: its name is its ledger's, and each
 //! token has a share of that. So the map is closed, which hands out the core with its legal
 //! history, and a new map of another ledger begins with the same pairs.
-ghost use Rattle.std.specs.Prelude.{◌≡◌, ◌∷◌, ◌++◌, [], IfOk, OnOk};
+ghost use Rattle.std.specs.Prelude.{◌≡◌, ◌∷◌, ◌++◌, [], IfOk, IfErr, OnOk};
 ghost use Rattle.txn_trace.specs.Now.{now};
 ghost use Rattle.txn_trace.specs.Ordered.{ordered};
 ghost use Rattle.locked_map.specs.Tokens.{AreTickets, Ticket};
 ghost use Rattle.shared_transactions.specs.Keeps.{Keeps};
-ghost use Rattle.shared_transactions.specs.Restarted.{HasPut, IsRefilled};
+ghost use Rattle.shared_transactions.specs.Restarted.{HasPut, IsNotRestarted, IsRefilled};
+ghost use Rattle.shared_transactions.specs.Restarted.{StopsPutting, StopsRefilling};
 
 use crate::transaction::Transaction;
 use boost_core::Core;
@@ -16,6 +17,7 @@ use locked_map::{Caller, NoSide, Pass, SharedMap, Stop};
 use std::alloc::Global;
 use std::sync::Wait;
 use std::sync::ledger::{Blank, Ledger};
+use undo_log::Side;
 
 /// A new map that has the pairs of an old one.
 #[derive(Drop)]
@@ -38,7 +40,8 @@ pub struct Restarted<L: Ledger> {
 /// The new map is gone.
 /// - `Refused` with `NoMemory` if memory is refused, or with `StampsUsedUp` if the map has more
 ///   keys than there are stamps.
-/// - What else a call of the map answers. No other caller is there to hold a stripe.
+/// - What else a call of the map answers to the first caller: its begin, a put or its commit. No
+///   other caller is there to hold a stripe.
 ///
 /// # Cost
 ///
@@ -56,6 +59,8 @@ pub fn restart<L: Ledger, R: Wait>(
     ensures first { IfOk result (λ r. IsRefilled (ordered (now core.now.history)) r.first) }
     ensures passes { IfOk result (λ r. (first : Ticket) × (first.number ≡ r.first.number)
         × AreTickets core.now.limits (first ∷ r.passes.items)) }
+    ensures err { IfErr result (IsNotRestarted ⟦<NoSide as Side>⟧.words_of core.now.limits
+        (ordered (now core.now.history))) }
 {
     let pairs = core.regular_list(alloc)?;
     let limits = core.limits();
@@ -75,7 +80,8 @@ fn put_pairs<L: Ledger, R: Wait>(
 ) -> Result<(), Stop>
     requires fresh { me.old.seen ≡ [] }
     requires number { me.old.number ≡ 0 }
-    ensures { OnOk result (IsRefilled pairs.now me.new) }
+    ensures ok { OnOk result (IsRefilled pairs.now me.new) }
+    ensures stopped { IfErr result (StopsRefilling ⟦<NoSide as Side>⟧.words_of pairs.now me.old) }
 {
     let mut open = Transaction::new(rt, map, me);
     open.begin()?;
@@ -91,6 +97,8 @@ fn put_each<L: Ledger, R: Wait>(
 ) -> Result<(), Stop>
     ensures keeps { Keeps t.old.me t.new.me }
     ensures ok { OnOk result (HasPut pairs.now t.old.me.now t.new.me.now) }
+    ensures stopped { IfErr result (λ stop. StopsPutting ⟦<NoSide as Side>⟧.words_of pairs.now
+        t.old.me.now stop t.new.me.now) }
 {
     for pair in pairs {
         t.put(pair.0, pair.1)?;

@@ -1,8 +1,9 @@
 //! How often a transaction is begun anew, and how long a thread waits before each further try.
 //!
-//! Its contracts speak of the number of tries. How long a thread waits is a matter of time, and no
-//! contract speaks of that.
-ghost use Rattle.std.specs.Prelude.{◌≡◌, ◌≤◌};
+//! Its contracts speak of the number of tries, and of the longest sleep that is asked for. How long
+//! a thread waits is a matter of time, and no contract speaks of that.
+ghost use Rattle.std.specs.Prelude.{◌≡◌, ◌≤◌, ◌-◌, ◌/◌, ◌^◌, min};
+ghost use Rattle.std.specs.Duration.{as_nanos};
 
 use std::sync::Wait;
 use std::thread;
@@ -37,7 +38,8 @@ impl Retry {
 
     /// At most so many times after the first try. Constant time.
     pub fn times_at_most(times: u64) -> Retry
-        ensures { result.times ≡ times }
+        ensures times { result.times ≡ times }
+        ensures longest { result.longest ≡ 1_000 }
     {
         Retry {
             times,
@@ -48,7 +50,8 @@ impl Retry {
     /// The same number of tries, with no longer sleeps than this. If it is below a microsecond, the
     /// thread never sleeps, and gives way 32 times in a row instead. Constant time.
     pub fn sleeping_at_most(self, longest: Duration) -> Retry
-        ensures { result.times ≡ self.times }
+        ensures times { result.times ≡ self.times }
+        ensures longest { result.longest ≡ min (as_nanos longest / 1_000) (2 ^ 64 - 1) }
     {
         let longest = longest.as_micros().min(u128::from(u64::MAX)) as u64;
         Retry { longest, ..self }
@@ -75,7 +78,10 @@ impl Retry {
     }
 }
 
+/// As often as it takes, with sleeps of a millisecond at most.
 impl Default for Retry {
+    ghost is_default = { λ retry. (retry.times ≡ 2 ^ 64 - 1) × (retry.longest ≡ 1_000) };
+
     fn default() -> Retry {
         Retry::FOREVER
     }

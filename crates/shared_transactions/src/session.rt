@@ -4,7 +4,7 @@
 //! A closure cannot be generic over the ledger's name, so what is done is a trait with a generic
 //! method. A `run` that starts threads gets no proof from the toolchain: what it sends to a thread
 //! rests on the bounds of the method. A caller with threads names the ledger itself, as `visits`.
-ghost use Rattle.std.specs.Prelude.{◌≡◌, IfOk, map};
+ghost use Rattle.std.specs.Prelude.{◌≡◌, ◌<◌, IfOk, IfErr, OnErr, length, map};
 ghost use Rattle.locked_map.specs.Tokens.{AreTickets};
 
 use locked_map::{Caller, NoSide, Pass, SharedMap};
@@ -49,7 +49,8 @@ pub fn run_session<R, W: Session<R> + Drop>(
     limits: Limits,
     session: W,
 ) -> Result<W::Output, Refusal>
-    ensures { IfOk result (λ outcome. W.promises session outcome) }
+    ensures ok { IfOk result (λ outcome. W.promises session outcome) }
+    ensures err { IfErr result (λ refusal. refusal ≡ Refusal.NoMemory) }
 {
     let blank = Blank::new(u64::from(limits.callers()));
     run_under::<Brand, R, W>(rt, alloc, blank, limits, session)
@@ -66,7 +67,8 @@ fn run_under<L: Ledger + Send + Sync, R, W: Session<R> + Drop>(
     requires name { blank.name ≡ L.name }
     requires parts { blank.parts ≡ L.parts }
     requires one_each { blank.parts ≡ limits.callers }
-    ensures { IfOk result (λ outcome. W.promises session outcome) }
+    ensures ok { IfOk result (λ outcome. W.promises session outcome) }
+    ensures err { IfErr result (λ refusal. refusal ≡ Refusal.NoMemory) }
 {
     let (map, passes) = SharedMap::<L>::new(alloc, blank, limits)?;
     Ok(session.run(rt, alloc, map, passes))
@@ -76,7 +78,8 @@ fn run_under<L: Ledger + Send + Sync, R, W: Session<R> + Drop>(
 ///
 /// # Errors
 ///
-/// `AllocError` if memory is refused: then the passes are gone, and the map cannot be closed.
+/// `AllocError` if memory is refused, which is asked for only if there are passes: then they are
+/// gone, and the map cannot be closed.
 ///
 /// # Cost
 ///
@@ -85,8 +88,9 @@ pub fn callers_of<L: Ledger>(
     alloc: Global,
     passes: Vec<Pass<L>>,
 ) -> Result<Vec<Caller<L, NoSide>>, AllocError>
-    ensures { IfOk result (λ callers.
+    ensures ok { IfOk result (λ callers.
         map (λ k. k.number) callers.items ≡ map (λ p. p.number) passes.items) }
+    ensures err { OnErr result (0 < length passes.items) }
 {
     let mut callers = Vec::new(alloc);
     for pass in passes {

@@ -8,9 +8,10 @@ ghost use Rattle.std.specs.Option.{option_eq};
 ghost use Rattle.txn_trace.specs.declared.entry.Entry.TheVariants as entries;
 ghost use Rattle.txn_trace.specs.Shape.{Seat, seat_after};
 ghost use Rattle.txn_drive.specs.Made.{undone_by};
-ghost use Rattle.locked_map.specs.Calls.{Ended};
+ghost use Rattle.locked_map.specs.Calls.{Ended, Ran, Stopped, WasRefused};
 ghost use Rattle.shared_transactions.specs.Keeps.{Keeps};
-ghost use Rattle.shared_transactions.specs.Tries.{IsNotBegun, is_busy};
+ghost use Rattle.shared_transactions.specs.Stops.{IsNotCommitted, StoppedGrowing};
+ghost use Rattle.shared_transactions.specs.Tries.{IsNotBegun};
 ghost use Rattle.shared_transactions.specs.Within.{IsBegun, IsCommitted, IsOver, IsTakenBack};
 ghost use Rattle.shared_transactions.specs.Within.{is_quiet};
 
@@ -87,6 +88,8 @@ impl<'a, L: Ledger, R: Wait> Transaction<'a, L, R> {
         ensures ok { IfOk result (λ reply. self.new.me.now.seen ≡ self.old.me.now.seen
             ++ entries.Asked self.old.me.now.number (Op.Get key)
             ∷ entries.Did self.old.me.now.number reply ∷ []) }
+        ensures stopped { IfErr result (λ stop. Stopped ⟦<NoSide as Side>⟧.words_of
+            self.old.me.now (Call.Op (Op.Get key)) stop self.new.me.now) }
     {
         self.operate(Op::Get(key))
     }
@@ -106,6 +109,8 @@ impl<'a, L: Ledger, R: Wait> Transaction<'a, L, R> {
             × (self.new.me.now.seen ≡ self.old.me.now.seen
             ++ entries.Asked self.old.me.now.number (Op.Get key)
             ∷ entries.Did self.old.me.now.number reply ∷ [])) }
+        ensures stopped { IfErr result (λ stop. Stopped ⟦<NoSide as Side>⟧.words_of
+            self.old.me.now (Call.Op (Op.Get key)) stop self.new.me.now) }
     {
         Ok(self.get(key)?.is_some())
     }
@@ -116,7 +121,8 @@ impl<'a, L: Ledger, R: Wait> Transaction<'a, L, R> {
     ///
     /// # Errors
     ///
-    /// Those of `get`, as the map's `put` lists them.
+    /// Those of `get`, as the map's `put` lists them. `OutOfStep` too if the put was done and the
+    /// growth after it fell out of step, which breaks the token.
     ///
     /// # Cost
     ///
@@ -126,6 +132,8 @@ impl<'a, L: Ledger, R: Wait> Transaction<'a, L, R> {
         ensures ok { IfOk result (λ reply. self.new.me.now.seen ≡ self.old.me.now.seen
             ++ entries.Asked self.old.me.now.number (Op.Put key value)
             ∷ entries.Did self.old.me.now.number reply ∷ []) }
+        ensures stopped { IfErr result (λ stop. StoppedGrowing ⟦<NoSide as Side>⟧.words_of
+            self.old.me.now (Op.Put key value) stop self.new.me.now) }
     {
         self.operate_growing(Op::Put(key, value))
     }
@@ -144,6 +152,8 @@ impl<'a, L: Ledger, R: Wait> Transaction<'a, L, R> {
         ensures ok { IfOk result (λ reply. self.new.me.now.seen ≡ self.old.me.now.seen
             ++ entries.Asked self.old.me.now.number (Op.Take key)
             ∷ entries.Did self.old.me.now.number reply ∷ []) }
+        ensures stopped { IfErr result (λ stop. Stopped ⟦<NoSide as Side>⟧.words_of
+            self.old.me.now (Call.Op (Op.Take key)) stop self.new.me.now) }
     {
         self.operate(Op::Take(key))
     }
@@ -153,7 +163,8 @@ impl<'a, L: Ledger, R: Wait> Transaction<'a, L, R> {
     ///
     /// # Errors
     ///
-    /// Those of `get`, as the map's `put_if` lists them.
+    /// Those of `get`, as the map's `put_if` lists them, and that of a growth that falls out of step,
+    /// as `put` has it.
     ///
     /// # Cost
     ///
@@ -163,6 +174,8 @@ impl<'a, L: Ledger, R: Wait> Transaction<'a, L, R> {
         ensures ok { IfOk result (λ reply. self.new.me.now.seen ≡ self.old.me.now.seen
             ++ entries.Asked self.old.me.now.number (Op.PutIf key expected value)
             ∷ entries.Did self.old.me.now.number reply ∷ []) }
+        ensures stopped { IfErr result (λ stop. StoppedGrowing ⟦<NoSide as Side>⟧.words_of
+            self.old.me.now (Op.PutIf key expected value) stop self.new.me.now) }
     {
         self.operate_growing(Op::PutIf(key, expected, value))
     }
@@ -184,6 +197,8 @@ impl<'a, L: Ledger, R: Wait> Transaction<'a, L, R> {
             × (self.new.me.now.seen ≡ self.old.me.now.seen
             ++ entries.Asked self.old.me.now.number (Op.PutIf key expected value)
             ∷ entries.Did self.old.me.now.number reply ∷ [])) }
+        ensures stopped { IfErr result (λ stop. StoppedGrowing ⟦<NoSide as Side>⟧.words_of
+            self.old.me.now (Op.PutIf key expected value) stop self.new.me.now) }
     {
         let had = self.put_if(key, expected, value)?;
         Ok(Swapped(had == expected))
@@ -204,6 +219,8 @@ impl<'a, L: Ledger, R: Wait> Transaction<'a, L, R> {
             ++ entries.Saved self.old.me.now.number ∷ []) }
         ensures level { IfOk result (λ level. (s : Seat)
             → seat_after self.new.me.now.seen ≡ Some s → length s.kept ≡ level + 1) }
+        ensures stopped { IfErr result (λ stop. Stopped ⟦<NoSide as Side>⟧.words_of
+            self.old.me.now Call.Save stop self.new.me.now) }
     {
         self.map.save(self.rt, self.me)
     }
@@ -224,6 +241,8 @@ impl<'a, L: Ledger, R: Wait> Transaction<'a, L, R> {
             ++ (entries.Leave self.old.me.now.number (Some level)
             ∷ undone_by self.old.me.now.number undone
             ++ entries.Returned self.old.me.now.number level ∷ []))) }
+        ensures stopped { IfErr result (λ stop. Stopped ⟦<NoSide as Side>⟧.words_of
+            self.old.me.now (Call.Back level) stop self.new.me.now) }
     {
         self.map.back(self.rt, self.me, level)
     }
@@ -241,6 +260,8 @@ impl<'a, L: Ledger, R: Wait> Transaction<'a, L, R> {
         ensures ok { IfOk result (λ receipt. IsCommitted receipt.txn receipt.place
             self.entry.me.now self.exit.1.1.0.now) }
         ensures err { OnErr result (IsTakenBack self.entry.me.now self.exit.1.1.0.now) }
+        ensures stopped { IfErr result (λ stop. IsNotCommitted stop
+            self.entry.me.now self.exit.1.1.0.now) }
     {
         let Transaction { rt, map, me } = self;
         end(rt, map, me)
@@ -263,6 +284,10 @@ impl<'a, L: Ledger, R: Wait> Transaction<'a, L, R> {
         ensures ok { IfOk result (λ reply. self.new.me.now.seen ≡ self.old.me.now.seen
             ++ entries.Asked self.old.me.now.number op
             ∷ entries.Did self.old.me.now.number reply ∷ []) }
+        ensures done { IfOk result (λ reply. Ran ⟦<NoSide as Side>⟧.words_of self.old.me.now
+            (Call.Op op) (End.Answered (Answer.Done reply)) self.new.me.now) }
+        ensures stopped { IfErr result (λ stop. Stopped ⟦<NoSide as Side>⟧.words_of
+            self.old.me.now (Call.Op op) stop self.new.me.now) }
     {
         match self.call(Call::Op(op)) {
             End::Answered(Answer::Done(reply)) => Ok(reply),
@@ -278,6 +303,8 @@ impl<'a, L: Ledger, R: Wait> Transaction<'a, L, R> {
         ensures ok { IfOk result (λ reply. self.new.me.now.seen ≡ self.old.me.now.seen
             ++ entries.Asked self.old.me.now.number op
             ∷ entries.Did self.old.me.now.number reply ∷ []) }
+        ensures stopped { IfErr result (λ stop. StoppedGrowing ⟦<NoSide as Side>⟧.words_of
+            self.old.me.now op stop self.new.me.now) }
     {
         let reply = self.operate(op)?;
         if reply.is_none() {
@@ -291,6 +318,8 @@ impl<'a, L: Ledger, R: Wait> Transaction<'a, L, R> {
     fn grow(&mut self, key: u64) -> Result<(), Stop>
         ensures keeps { Keeps self.old.me self.new.me }
         ensures same { OnOk result (self.new.me.now.seen ≡ self.old.me.now.seen) }
+        ensures stopped { IfErr result (λ stop. (stop ≡ Stop.Refused Refusal.OutOfStep)
+            × WasRefused self.old.me.now (Call.Help key) Refusal.OutOfStep self.new.me.now) }
     {
         match self.call(Call::Help(key)) {
             End::Refused(Refusal::OutOfStep) => Err(Stop::Refused(Refusal::OutOfStep)),
@@ -347,7 +376,7 @@ fn end<L: Ledger, R: Wait>(
 ) -> Result<Receipt, Stop>
     ensures ok { IfOk result (λ receipt. IsCommitted receipt.txn receipt.place me.old me.new) }
     ensures err { OnErr result (IsTakenBack me.old me.new) }
-    ensures refused { is_busy result ≡ false }
+    ensures stopped { IfErr result (λ stop. IsNotCommitted stop me.old me.new) }
 {
     match map.commit(rt, me) {
         Ok(receipt) => Ok(receipt),

@@ -17,7 +17,7 @@ returns-in_err-receipt-in-Ok-clause-failed g c =
     let ended = c.in_err-receipt-in-Ok.ensures in
     let on = c.from_residual-in_err-receipt-in-Ok in
     let p = err_from_is_err_and on.result on.ensures.1 in
-    rw (p.1, p.2) (failed_try _ _ _ _ _ _ _ _ _ c.in_ok-begin_anew.ensures.ok.0 c.in-Ok.ensures ended.refused kept.goes_on ended.err)
+    rw (p.1, p.2) (failed_try _ _ _ _ _ _ _ _ _ c.in_ok-begin_anew.ensures.ok.0 c.in-Ok.ensures ended.stopped kept.goes_on ended.err)
 
 -- The work failed.
 pub returns-in-Err-clause-failed : goal.returns-in-Err-clause-failed

@@ -1,0 +1,41 @@
+-- Why a call of a transaction was not done, and what it left of its token: by the causes that the
+-- map's call has.
+use Rattle.std.specs.Prelude.{ℕ, ◌≡◌, ◌⊎◌, List, None}
+use Rattle.map_answers.specs.declared.stop.Stop.{Stop}
+use Rattle.map_answers.specs.declared.stop.Stop.TheVariants as stops
+use Rattle.txn_trace.specs.declared.answer.Answer.TheVariants as answers
+use Rattle.txn_trace.specs.declared.op.Op.{Op}
+use Rattle.txn_trace.specs.declared.refusal.Refusal.TheVariants.{OutOfStep}
+use Rattle.txn_trace.specs.Map.{key_of}
+use Rattle.txn_drive.specs.declared.call.Call.{Call}
+use Rattle.txn_drive.specs.declared.call.Call.TheVariants as calls
+use Rattle.txn_drive.specs.declared.«end».End.TheVariants as ends
+use Rattle.locked_map.specs.Calls.{Ran, Stopped, WasRefused}
+use Rattle.locked_map.specs.Tokens.{Token}
+use Rattle.shared_transactions.specs.Within.{IsTakenBack}
+
+-- A call that is never busy was refused.
+abbrev pub IsRefusalOf : {S : Type 0} → Token S → Call → Stop → Token S → Type 0
+IsRefusalOf k call (stops.Busy holder) l = ⊥
+IsRefusalOf k call (stops.Refused refusal) l = WasRefused k call refusal l
+
+-- A commit was refused, and then the transaction was taken back.
+pub record IsNotCommitted {S : Type 0} (stop : Stop) (k l : Token S) : Type 0 where
+  pub left : Token S
+  pub refused : IsRefusalOf k calls.Commit stop left
+  pub back : IsTakenBack left l
+
+-- An operation was done, at a key that was not there, and the help for the key after it fell out of
+-- step.
+pub record IsOutGrowing {S : Type 0} (words : S → List ℕ) (k : Token S) (op : Op) (l : Token S) :
+    Type 0 where
+  pub between : Token S
+  pub done : Ran words k (calls.Op op) (ends.Answered (answers.Done None)) between
+  pub out : WasRefused between (calls.Help (key_of op)) OutOfStep l
+
+-- An operation after which the table may grow stopped: by itself, or since the growth fell out of
+-- step.
+abbrev pub StoppedGrowing : {S : Type 0} → (S → List ℕ) → Token S → Op → Stop → Token S → Type 0
+StoppedGrowing words k op stop l =
+    Stopped words k (calls.Op op) stop l
+    ⊎ ((stop ≡ stops.Refused OutOfStep) × IsOutGrowing words k op l)
