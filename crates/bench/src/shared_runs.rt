@@ -22,9 +22,7 @@ fn put_scripts(alloc: Global, puts: u64) -> Result<Vec<Script>, AllocError> {
     let mut scripts = Vec::new(alloc);
     for position in 0..puts {
         let put = Op::Put(number_at(position % HOT_KEYS), position);
-        let mut actions = Vec::new(alloc);
-        actions.push(Action::Op(put))?;
-        scripts.push(Script::new(actions))?;
+        scripts.push(Script::of_actions(alloc, &[Action::Op(put)])?)?;
     }
     Ok(scripts)
 }

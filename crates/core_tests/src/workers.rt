@@ -6,16 +6,11 @@ use std::test::Fail;
 use txn_drive::Turn;
 use txn_trace::{Action, Answer, Limits, Op, Refusal, Script, Step};
 
-/// One script of these actions.
-fn script_of(alloc: Global, actions: &[Action]) -> Result<Script, AllocError> {
-    Ok(Script::new(actions.to_vec(alloc)?))
-}
-
 /// Scripts of these actions, one each.
 fn scripts_of(alloc: Global, scripts: &[&[Action]]) -> Result<Vec<Script>, AllocError> {
     let mut all = Vec::new(alloc);
     for script in scripts {
-        all.push(script_of(alloc, script)?)?;
+        all.push(Script::of_actions(alloc, script)?)?;
     }
     Ok(all)
 }

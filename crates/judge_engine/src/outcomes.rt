@@ -13,7 +13,7 @@ use std::alloc::{AllocError, Global};
 use std::fmt;
 use std::io::{Read, Write};
 use txn_files::{FileFault, read_packed_history, read_scripts};
-use txn_trace::{Action, Script, Scripts, SmallEntry};
+use txn_trace::{Action, PackedAction, Script, Scripts, SmallEntry};
 
 /// Why there are no outcomes, and which file is at fault. It is printed as one line without its
 /// line feed.
@@ -105,11 +105,11 @@ fn how_many(kind: Kind, outcomes: &[Outcome]) -> usize
 }
 
 /// Whether a script has an abort.
-fn has_abort(script: &[Action]) -> bool
+fn has_abort(script: &[PackedAction]) -> bool
     ensures { result ≡ has_abort script.now }
 {
     for action in script {
-        if matches!(action, Action::Abort) {
+        if matches!(action.action(), Action::Abort) {
             return true;
         }
     }

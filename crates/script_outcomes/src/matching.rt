@@ -6,7 +6,7 @@ ghost use Rattle.txn_trace.specs.Plays.{IsPlayed};
 ghost use Rattle.script_outcomes.specs.Matches.{AbortsItself, Does};
 ghost use Rattle.script_outcomes.specs.Ways.{HasBegun, IsLoneCommit, IsLeft, SaysItself};
 
-use txn_trace::{Action, Entry};
+use txn_trace::{Action, Entry, PackedAction};
 
 /// How far an aborted transaction follows a script.
 #[derive(Clone, Copy, Debug, PartialEq, Eq)]
@@ -73,7 +73,7 @@ fn is_abort(entries: &[Entry]) -> bool
 }
 
 /// Whether a transaction with these entries plays the script.
-pub(crate) fn plays(script: &[Action], part: &[Entry]) -> bool
+pub(crate) fn plays(script: &[PackedAction], part: &[Entry]) -> bool
     ensures yes { result ≡ true → IsPlayed script.now part.now }
     ensures no { result ≡ false → IsPlayed script.now part.now → ⊥ }
 {
@@ -81,8 +81,8 @@ pub(crate) fn plays(script: &[Action], part: &[Entry]) -> bool
         return false;
     };
     let mut rest = entries;
-    for action in script {
-        let Some(more) = after(*action, rest) else {
+    for packed in script {
+        let Some(more) = after(packed.action(), rest) else {
             return false;
         };
         rest = more;
@@ -91,16 +91,17 @@ pub(crate) fn plays(script: &[Action], part: &[Entry]) -> bool
 }
 
 /// How far an aborted transaction with these entries follows the script.
-pub(crate) fn compare(script: &[Action], part: &[Entry]) -> Fit
+pub(crate) fn compare(script: &[PackedAction], part: &[Entry]) -> Fit
     ensures { SaysItself result (AbortsItself script.now part.now) }
 {
     let Some(entries) = after_began(part) else {
         return Fit::Other;
     };
     let mut rest = entries;
-    for action in script {
+    for packed in script {
+        let action = packed.action();
         let is_left = is_abort(rest);
-        match (*action, after(*action, rest)) {
+        match (action, after(action, rest)) {
             (Action::Abort, _) => return if is_left { Fit::Itself } else { Fit::Other },
             (_, Some(more)) => rest = more,
             (_, None) => return if is_left { Fit::Refused } else { Fit::Other },

@@ -4,7 +4,7 @@ ghost use Rattle.std.specs.Prelude.{◌≡◌};
 ghost use Rattle.script_worker.specs.Attempts.{first_attempt, call_for, call_at, done_with, done_at, busy_at, refused_with, refused_at, progress_of};
 
 use txn_drive::{Call, End};
-use txn_trace::{Action, Refusal};
+use txn_trace::{Action, PackedAction, Refusal};
 
 /// The stage of an attempt at a script.
 #[derive(Clone, Copy, Debug, PartialEq, Eq)]
@@ -76,13 +76,13 @@ impl Attempt {
     }
 
     /// The next call of the attempt at this script.
-    pub fn call(self, script: &[Action]) -> Call
+    pub fn call(self, script: &[PackedAction]) -> Call
         ensures { result ≡ call_at script.now self.stage }
     {
         match self.stage {
             Stage::Beginning => Call::Begin,
             Stage::Acting(place) => match script.get(place) {
-                Some(action) => call_for(*action),
+                Some(action) => call_for(action.action()),
                 None => Call::Commit,
             },
             Stage::Leaving(_) => Call::Abort,
@@ -94,7 +94,7 @@ impl Attempt {
     /// A script that found a stripe held is attempted again if fewer than `tries` attempts were
     /// repeated. After a refusal of an operation, a savepoint, a return or help the transaction is
     /// aborted; every other refusal, and `OutOfStep` of any call, ends the script at once.
-    pub fn progress(self, script: &[Action], tries: u64, end: End) -> Progress
+    pub fn progress(self, script: &[PackedAction], tries: u64, end: End) -> Progress
         ensures { result ≡ progress_of script.now tries self end }
     {
         match end {
@@ -105,14 +105,16 @@ impl Attempt {
     }
 
     /// The progress if the call is done.
-    fn after_done(self, script: &[Action]) -> Progress
+    fn after_done(self, script: &[PackedAction]) -> Progress
         ensures { result ≡ done_at script.now self.again self.stage }
     {
         match self.stage {
             Stage::Beginning => self.goes_to(Stage::Acting(0)),
             Stage::Acting(place) => match script.get(place) {
-                Some(Action::Abort) => Progress::Over(Finish::Aborted),
-                Some(_) => self.goes_to(Stage::Acting(place + 1)),
+                Some(action) => match action.action() {
+                    Action::Abort => Progress::Over(Finish::Aborted),
+                    _ => self.goes_to(Stage::Acting(place + 1)),
+                },
                 None => Progress::Over(Finish::Committed),
             },
             Stage::Leaving(refusal) => Progress::Over(Finish::Refused(refusal)),
@@ -134,7 +136,7 @@ impl Attempt {
     }
 
     /// The progress if the call was refused.
-    fn after_refusal(self, script: &[Action], refusal: Refusal) -> Progress
+    fn after_refusal(self, script: &[PackedAction], refusal: Refusal) -> Progress
         ensures { result ≡ refused_at script.now self.again self.stage refusal }
     {
         let over = Progress::Over(Finish::Refused(refusal));
@@ -143,8 +145,11 @@ impl Attempt {
         }
         match self.stage {
             Stage::Acting(place) => match script.get(place) {
-                Some(Action::Abort) | None => over,
-                Some(_) => self.goes_to(Stage::Leaving(refusal)),
+                Some(action) => match action.action() {
+                    Action::Abort => over,
+                    _ => self.goes_to(Stage::Leaving(refusal)),
+                },
+                None => over,
             },
             _ => over,
         }

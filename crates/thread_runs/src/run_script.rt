@@ -22,7 +22,7 @@ use std::alloc::Global;
 use std::sync::Wait;
 use std::sync::ledger::Ledger;
 use std::thread::yield_now;
-use txn_trace::{Action, Answer, Refusal, Reply};
+use txn_trace::{Answer, PackedAction, Refusal, Reply};
 
 /// Tells the gate each release of the lock.
 #[derive(Drop)]
@@ -156,7 +156,7 @@ pub(crate) fn run_script<L: Ledger, G: Gate, R: Wait>(
     map: &SharedMap<L>,
     me: &mut Caller<L, NoSide>,
     number: usize,
-    script: &[Action],
+    script: &[PackedAction],
     tries: u64,
     gate: &G,
     growth: &mut Growth,

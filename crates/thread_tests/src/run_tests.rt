@@ -36,9 +36,7 @@ pub(crate) fn run<G: Gate, R: Threads + Wait + Sync>(
 pub(crate) fn scripts_of(alloc: Global, lists: &[&[Action]]) -> Result<Vec<Script>, AllocError> {
     let mut scripts = Vec::new(alloc);
     for list in lists {
-        let mut actions = Vec::new(alloc);
-        actions.extend_from_slice(list)?;
-        scripts.push(Script::new(actions))?;
+        scripts.push(Script::of_actions(alloc, list)?)?;
     }
     Ok(scripts)
 }
@@ -246,7 +244,7 @@ fn script(alloc: Global, number: u64) -> Result<Script, AllocError> {
         Action::Op(Op::Take(number)),
         put(number, number.wrapping_add(1)),
     ];
-    Ok(Script::new(actions.to_vec(alloc)?))
+    Script::of_actions(alloc, &actions)
 }
 
 /// The commit number of script `number`, committed with its replies; else 0.

@@ -21,7 +21,7 @@ use piece_files::{
     pieces_in, plain_elements, read_file, word_in,
 };
 use std::alloc::{AllocError, Global};
-use txn_trace::{Action, Script, Scripts};
+use txn_trace::{Action, PackedAction, Script, Scripts};
 
 /// The most times that a script may be tried again.
 const MAX_TRIES: u64 = 1000;
@@ -55,23 +55,30 @@ fn action_in(values: &[Plain<'_>]) -> Option<Action>
     }
 }
 
+/// The action that has these elements, packed.
+fn packed_action_in(values: &[Plain<'_>]) -> Option<PackedAction>
+    ensures { result ≡ action_of (map data_of values.now) }
+{
+    Some(PackedAction::new(action_in(values)?))
+}
+
 /// Whether version 1 has an action too.
-fn is_old_action(action: &Action) -> bool
+fn is_old_action(action: &PackedAction) -> bool
     ensures { result ≡ is_old_action action.now }
 {
-    match *action {
+    match action.action() {
         Action::Op(op) => is_old_op(op),
         _ => true,
     }
 }
 
-/// Actions, as pieces of a script. All are kept.
+/// Actions, as pieces of a script. All are kept, packed.
 struct ActionKind;
 
 impl PieceKind for ActionKind {
     ghost use Rattle.piece_files.specs.declared.part.Part.TheVariants as parts;
 
-    type Piece = Action;
+    type Piece = PackedAction;
 
     ghost of = { action_of };
 
@@ -87,7 +94,7 @@ impl PieceKind for ActionKind {
         Part::Script
     }
 
-    fn is_old(action: &Action) -> bool {
+    fn is_old(action: &PackedAction) -> bool {
         is_old_action(action)
     }
 
@@ -96,10 +103,14 @@ impl PieceKind for ActionKind {
     }
 
     #[tactic(auto, using(crate::proofs::PlainPieces::no_action))]
-    fn read(_alloc: Global, reader: &mut Reader<'_>, depth: usize) -> Result<Option<Action>, Stop> {
+    fn read(
+        _alloc: Global,
+        reader: &mut Reader<'_>,
+        depth: usize,
+    ) -> Result<Option<PackedAction>, Stop> {
         let mut elements = ArrayVec::<Plain<'_>, MAX_ELEMENTS>::new();
         if plain_elements(reader, depth, &mut elements)? {
-            Ok(action_in(&elements))
+            Ok(packed_action_in(&elements))
         } else {
             Ok(None)
         }
@@ -110,18 +121,18 @@ impl PieceKind for ActionKind {
         text: &str,
         at: &mut usize,
         _depth: usize,
-    ) -> Result<Option<Action>, AllocError> {
+    ) -> Result<Option<PackedAction>, AllocError> {
         let mut elements = ArrayVec::<Plain<'_>, MAX_ELEMENTS>::new();
         let Some(end) = elements_at(text, *at, &mut elements) else {
             return Ok(None);
         };
         *at = end;
-        Ok(action_in(&elements))
+        Ok(packed_action_in(&elements))
     }
 }
 
 /// The script of the actions that an array begins with, if all its elements are actions.
-fn script_in(found: Pieces<Action>) -> Option<Script>
+fn script_in(found: Pieces<PackedAction>) -> Option<Script>
     requires { found.count < 2 ^ 64 }
     ensures { (old all : Result (List Action) FileFault)
         → FindsBoth parts.Script 18446744073709551615 found old all → result ≡ result_ok all }

@@ -1,6 +1,8 @@
--- The operation, the entry and the step that packed fields stand for, and the entries that are
--- small enough for 32 bytes.
+-- The operation, the action, the entry and the step that packed fields stand for, and the entries
+-- that are small enough for 32 bytes.
 use Rattle.std.specs.Prelude.{ℕ, Bool, ◌&&◌, Option, Some, None, nat_lt, if◌then◌else◌}
+use Rattle.txn_trace.specs.declared.action.Action.{Action}
+use Rattle.txn_trace.specs.declared.action.Action.TheVariants as actions
 use Rattle.txn_trace.specs.declared.entry.Entry.{Entry}
 use Rattle.txn_trace.specs.declared.entry.Entry.TheVariants as entries
 use Rattle.txn_trace.specs.declared.op.Op.{Op}
@@ -9,6 +11,8 @@ use Rattle.txn_trace.specs.declared.packed_entry.OpKind.{OpKind}
 use Rattle.txn_trace.specs.declared.packed_entry.OpKind.TheVariants as op_kinds
 use Rattle.txn_trace.specs.declared.packed_entry.Kind.{Kind}
 use Rattle.txn_trace.specs.declared.packed_entry.Kind.TheVariants as kinds
+use Rattle.txn_trace.specs.declared.packed_action.ActionKind.{ActionKind}
+use Rattle.txn_trace.specs.declared.packed_action.ActionKind.TheVariants as action_kinds
 use Rattle.txn_trace.specs.declared.packed_step.StepKind.{StepKind}
 use Rattle.txn_trace.specs.declared.packed_step.StepKind.TheVariants as step_kinds
 use Rattle.txn_trace.specs.declared.step.Step.{Step}
@@ -22,6 +26,14 @@ packed_op op_kinds.Take k v e = ops.Take k
 packed_op op_kinds.Get k v e = ops.Get k
 packed_op op_kinds.PutIf k v e = ops.PutIf k (Some e) v
 packed_op op_kinds.PutIfNone k v e = ops.PutIf k None v
+
+-- The action of this kind, with the number `n` or the operation at key `n`.
+abbrev pub packed_action : ActionKind → OpKind → ℕ → ℕ → ℕ → Action
+packed_action action_kinds.Op op n v e = actions.Op (packed_op op n v e)
+packed_action action_kinds.Save op n v e = actions.Save
+packed_action action_kinds.Back op n v e = actions.Back n
+packed_action action_kinds.Help op n v e = actions.Help n
+packed_action action_kinds.Abort op n v e = actions.Abort
 
 -- The entry of this kind of caller `c`, with the number `n` or the operation at key `n`.
 abbrev pub packed_entry : Kind → OpKind → ℕ → ℕ → ℕ → ℕ → ℕ → Entry

@@ -14,8 +14,8 @@
 //! Proved: the laws of histories in `proofs/`, entry by entry, for the crates above to cite; and,
 //! as the contract of `laws::erased`, that aborted transactions leave nothing behind. The functions
 //! compute definitions that the crates above share: limits and texts, the entry of a step with its
-//! answer, packed entries and steps, the room that an operation or a step needs in a history, and a caller's
-//! seat. Calls take constant time and no memory unless they say otherwise.
+//! answer, packed actions, entries and steps, the room that an operation or a step needs in a
+//! history, and a caller's seat. Calls take constant time and no memory unless they say otherwise.
 #![tactic(auto)]
 
 mod action;
@@ -25,6 +25,7 @@ mod holder;
 pub mod laws;
 mod limits;
 mod op;
+mod packed_action;
 mod packed_entry;
 mod packed_step;
 mod refusal;
@@ -39,6 +40,7 @@ pub use entry::Entry;
 pub use holder::Holder;
 pub use limits::Limits;
 pub use op::{Op, Reply};
+pub use packed_action::PackedAction;
 pub use packed_entry::PackedEntry;
 pub use packed_step::PackedStep;
 pub use refusal::Refusal;

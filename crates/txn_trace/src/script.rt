@@ -1,15 +1,18 @@
 //! Scripts, which are lists of actions, and the work of a set of workers: scripts, limits and the
 //! number of tries.
-ghost use Rattle.std.specs.Prelude.{◌≡◌};
+ghost use Rattle.std.specs.Prelude.{◌≡◌, IfOk};
 
 use crate::action::Action;
 use crate::limits::Limits;
+use crate::packed_action::PackedAction;
+use std::alloc::{AllocError, Global};
 use std::marker::Model;
 
-/// The actions of one transaction, in order. A contract sees it as the list of them.
+/// The actions of one transaction, in order, which are kept packed. A contract sees it as the list
+/// of them.
 #[derive(Drop)]
 pub struct Script {
-    actions: Vec<Action>,
+    actions: Vec<PackedAction>,
 }
 
 impl Model for Script {
@@ -23,21 +26,40 @@ impl Model for Script {
 
 impl Script {
     /// The script of these actions.
-    pub fn new(actions: Vec<Action>) -> Script
+    pub fn new(actions: Vec<PackedAction>) -> Script
         ensures { result ≡ actions.items }
     {
         Self { actions }
     }
 
+    /// The script of these actions, which it packs.
+    ///
+    /// # Errors
+    ///
+    /// `AllocError` if memory is refused.
+    ///
+    /// # Cost
+    ///
+    /// Time and memory in proportion to the actions.
+    pub fn of_actions(alloc: Global, actions: &[Action]) -> Result<Script, AllocError>
+        ensures { IfOk result (λ script. script ≡ actions.now) }
+    {
+        let mut packed = Vec::with_capacity(alloc, actions.len())?;
+        for action in actions {
+            packed.push(PackedAction::new(*action))?;
+        }
+        Ok(Script { actions: packed })
+    }
+
     /// The actions in order.
-    pub fn actions(&self) -> &[Action]
+    pub fn actions(&self) -> &[PackedAction]
         ensures { result.now ≡ self.now }
     {
         self.actions.as_slice()
     }
 
     /// The actions in order, by value.
-    pub fn into_actions(self) -> Vec<Action>
+    pub fn into_actions(self) -> Vec<PackedAction>
         ensures { result.items ≡ self }
     {
         let Script { actions } = self;
