@@ -33,9 +33,9 @@
 //! - Each try before the last began one transaction, ran the work, which found a stripe held, and
 //!   was taken back (`BusyTries`). `Busy` is answered only after all tries, and any other refusal
 //!   by the try that met it (`GivesUp`).
-//! - A call that was not done has one of the causes that the map's call has, and leaves the token as
-//!   that call does: `Stopped` of `locked_map`, and `StoppedGrowing` for what may grow the table. A
-//!   commit that was refused is followed by an abort (`IsNotCommitted`).
+//! - A call that was not done has one of the causes that the map's call has, and leaves the token
+//!   as that call does: `Stopped` of `locked_map`, and `StoppedGrowing` for what may grow the table.
+//!   A commit that was refused is followed by an abort (`IsNotCommitted`).
 //! - All that the first caller of a restarted map has seen is one committed transaction, which puts
 //!   the pairs of the old map in the order of its list (`IsRefilled`). If it was not restarted,
 //!   memory was refused, or a call of that transaction stopped (`IsNotRestarted`).

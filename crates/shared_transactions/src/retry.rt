@@ -78,7 +78,7 @@ impl Retry {
     }
 }
 
-/// As often as it takes, with sleeps of a millisecond at most.
+/// As often as it takes, with sleeps of a millisecond at most: `FOREVER`.
 impl Default for Retry {
     ghost is_default = { λ retry. (retry.times ≡ 2 ^ 64 - 1) × (retry.longest ≡ 1_000) };
 

@@ -163,8 +163,8 @@ impl<'a, L: Ledger, R: Wait> Transaction<'a, L, R> {
     ///
     /// # Errors
     ///
-    /// Those of `get`, as the map's `put_if` lists them, and that of a growth that falls out of step,
-    /// as `put` has it.
+    /// Those of `get`, as the map's `put_if` lists them, and that of a growth that falls out of
+    /// step, as `put` has it.
     ///
     /// # Cost
     ///
