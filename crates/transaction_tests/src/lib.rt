@@ -12,6 +12,8 @@ mod owned;
 #[cfg(test)]
 mod owned_limits;
 #[cfg(test)]
+mod restarts;
+#[cfg(test)]
 mod shared;
 #[cfg(test)]
 mod shared_limits;

@@ -259,7 +259,7 @@ fn go_on_in<L: Ledger, R: Wait + Abort>(
 
 /// Sees that a new map has the pairs of an old one: its first caller has seen a begin, two entries
 /// for each pair and a commit, and when it is closed the lists are the same.
-fn goes_on<L: Ledger, R: Abort>(
+pub(crate) fn goes_on<L: Ledger, R: Abort>(
     rt: &R,
     alloc: Global,
     restarted: Restarted<L>,
