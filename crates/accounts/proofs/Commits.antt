@@ -4,14 +4,15 @@ use Rattle.std.proofs.Common.{◌≡◌, ◌≢◌, ℕ, zero, suc, ◌+◌, Boo
 use Rattle.std.specs.List.{filter}
 use Rattle.std.specs.Option.{option_and_then}
 use Rattle.std.proofs.lemmas.Bool.{eqb-true, eq-eqb}
-use Rattle.txn_trace.specs.declared.entry.Entry.{Entry}
-use Rattle.txn_trace.specs.declared.entry.Entry.TheVariants.{Began, Committed}
-use Rattle.txn_trace.specs.declared.holder.Holder.TheVariants.{Begun}
-use Rattle.txn_trace.specs.History.{is_began, is_commit, of}
+use Rattle.txn_words.specs.declared.entry.Entry.{Entry}
+use Rattle.txn_words.specs.declared.entry.Entry.TheVariants.{Began, Committed}
+use Rattle.txn_words.specs.declared.holder.Holder.TheVariants.{Begun}
+use Rattle.txn_trace.specs.History.{of}
+use Rattle.txn_words.specs.Kinds.{is_began, is_commit}
 use Rattle.txn_trace.specs.Alone.{Run, act, alone, map_after}
 use Rattle.txn_trace.specs.Legal.{IsLegal}
 use Rattle.txn_trace.specs.Serial.{serial}
-use Rattle.txn_trace.specs.Shape.{own, how_many, is_shaped, IsShaped}
+use Rattle.txn_words.specs.Shape.{own, how_many, is_shaped, IsShaped}
 use Rattle.txn_trace.proofs.Committing.{own_goes}
 use Rattle.txn_trace.proofs.Pushes.{txn_in, txn_at, txn_in-push, of-push_in, alone-push, own-push_in, how_many-push}
 use Rattle.txn_trace.proofs.Callers.{Callers, ended, shaped_number, not_after_end}

@@ -6,8 +6,8 @@
 
 ghost use Rattle.std.specs.Prelude.{◌<◌, ◌↔◌, IsTrue, IsSome, IfOk, IfSome};
 ghost use Rattle.std.specs.List.{All};
-ghost use Rattle.txn_trace.specs.declared.holder.Holder.TheVariants.{Now};
-ghost use Rattle.txn_trace.specs.History.{caller_of};
+ghost use Rattle.txn_words.specs.declared.holder.Holder.TheVariants.{Now};
+ghost use Rattle.txn_words.specs.Kinds.{caller_of};
 ghost use Rattle.txn_trace.specs.Legal.{IsLegal};
 
 use history_check::{Verdict, check};

@@ -7,11 +7,12 @@ use Rattle.std.proofs.Math.ListN.{set}
 use Rattle.std.proofs.lemmas.Bool.{ne_eqb}
 use Rattle.std.proofs.lemmas.List.Elements.{All-head, All-tail}
 use Rattle.std.proofs.lemmas.Option.{slice_get_read}
-use Rattle.txn_trace.specs.declared.entry.Entry.{Entry}
-use Rattle.txn_trace.specs.declared.entry.Entry.TheVariants.{Began}
-use Rattle.txn_trace.specs.History.{caller_of, txn_after}
+use Rattle.txn_words.specs.declared.entry.Entry.{Entry}
+use Rattle.txn_words.specs.declared.entry.Entry.TheVariants.{Began}
+use Rattle.txn_trace.specs.History.{txn_after}
+use Rattle.txn_words.specs.Kinds.{caller_of}
 use Rattle.txn_trace.specs.Log.{Log, log_after, log_step}
-use Rattle.txn_trace.specs.Shape.{own}
+use Rattle.txn_words.specs.Shape.{own}
 use Rattle.txn_trace.proofs.Pushes.{txn_in-push}
 use Rattle.txn_trace.proofs.Logs.{log_after-own, log_after-other}
 use Rattle.serial_check.specs.Serializable as serial

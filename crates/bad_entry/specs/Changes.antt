@@ -1,11 +1,11 @@
 -- Changes of a key, and what becomes of them.
 use Rattle.std.specs.Prelude.{ℕ, ◌+◌, ◌-◌, ◌==◌, Bool, false, ◌&&◌, Option, Some, None, List, [], ◌∷◌, length, drop, if◌then◌else◌}
-use Rattle.txn_trace.specs.declared.op.Op.{Op}
-use Rattle.txn_trace.specs.declared.entry.Entry.{Entry}
-use Rattle.txn_trace.specs.declared.entry.Entry.TheVariants as entries
-use Rattle.txn_trace.specs.History.{caller_of}
-use Rattle.txn_trace.specs.Map.{key_of}
-use Rattle.txn_trace.specs.Shape.{changes}
+use Rattle.txn_words.specs.declared.op.Op.{Op}
+use Rattle.txn_words.specs.declared.entry.Entry.{Entry}
+use Rattle.txn_words.specs.declared.entry.Entry.TheVariants as entries
+use Rattle.txn_words.specs.Kinds.{caller_of}
+use Rattle.txn_words.specs.Map.{key_of}
+use Rattle.txn_words.specs.Shape.{changes}
 use Rattle.bad_entry.specs.declared.change.Change.{Change}
 use Rattle.bad_entry.specs.declared.change.Fate.{Fate}
 use Rattle.bad_entry.specs.declared.change.Fate.TheVariants.{Open, Committed, Undone}

@@ -1,10 +1,10 @@
 -- Commits that change what a key has.
 use Rattle.std.specs.Prelude.{◌≡◌, ℕ, ◌<◌, ◌≤◌, true, Option, Some, None, List, [], ◌∷◌, ◌++◌, length, take, nat_eq, if◌then◌else◌}
 use Rattle.std.specs.Option.{option_eq}
-use Rattle.txn_trace.specs.declared.entry.Entry.{Entry}
-use Rattle.txn_trace.specs.declared.entry.Entry.TheVariants.{Committed}
+use Rattle.txn_words.specs.declared.entry.Entry.{Entry}
+use Rattle.txn_words.specs.declared.entry.Entry.TheVariants.{Committed}
 use Rattle.txn_trace.specs.History.{is_open}
-use Rattle.txn_trace.specs.Map.{get}
+use Rattle.txn_words.specs.Map.{get}
 use Rattle.txn_trace.specs.Serial.{serial}
 use Rattle.serial_check.specs.Commits.{IsTorn, RunsSomewhere}
 use Rattle.serial_check.specs.Serializable.{txn_in}

@@ -1,10 +1,10 @@
 -- What each caller is at.
 use Rattle.std.specs.Prelude.{◌≡◌, ℕ, Option, List, slice_get}
 use Rattle.std.specs.Option.{IfSome}
-use Rattle.txn_trace.specs.declared.entry.Entry.{Entry}
-use Rattle.txn_trace.specs.declared.op.Op.{Op}
+use Rattle.txn_words.specs.declared.entry.Entry.{Entry}
+use Rattle.txn_words.specs.declared.op.Op.{Op}
 use Rattle.txn_trace.specs.Log.{log_after}
-use Rattle.txn_trace.specs.Shape.{own}
+use Rattle.txn_words.specs.Shape.{own}
 use Rattle.serial_check.specs.Serializable.{txn_in as the_txn_in}
 use Rattle.bad_entry.specs.declared.desks.Desk.{Desk}
 use Rattle.bad_entry.specs.declared.desks.Desks.{Desks}

@@ -1,11 +1,11 @@
 -- Who holds a stripe, and since when.
 use Rattle.std.specs.Prelude.{◌≡◌, ℕ, ◌==◌, ◌&&◌, Option, Some, None, List, length, nat_eq, if◌then◌else◌}
 use Rattle.std.specs.Option.{option_eq}
-use Rattle.txn_trace.specs.declared.entry.Entry.{Entry}
-use Rattle.txn_trace.specs.declared.entry.Entry.TheVariants.{Asked, Committed, Aborted}
-use Rattle.txn_trace.specs.History.{caller_of}
+use Rattle.txn_words.specs.declared.entry.Entry.{Entry}
+use Rattle.txn_words.specs.declared.entry.Entry.TheVariants.{Asked, Committed, Aborted}
+use Rattle.txn_words.specs.Kinds.{caller_of}
 use Rattle.txn_trace.specs.Locks.{asks_in, holder_of, stripe_of}
-use Rattle.txn_trace.specs.Map.{key_of}
+use Rattle.txn_words.specs.Map.{key_of}
 use Rattle.bad_entry.specs.declared.held.Held.{Held}
 use Rattle.bad_entry.specs.Desks.{txn_in}
 use Rattle.bad_entry.specs.Places.{first_of}

@@ -1,7 +1,7 @@
 -- The first and the last of what a history has.
 use Rattle.std.specs.Prelude.{Option, None, List, [], ◌∷◌, ◌++◌}
 use Rattle.std.specs.Option.{option_or}
-use Rattle.txn_trace.specs.declared.entry.Entry.{Entry}
+use Rattle.txn_words.specs.declared.entry.Entry.{Entry}
 
 -- Of the entries h that come after g, the last of which a test says something, and what it says:
 -- the test has the entries before.

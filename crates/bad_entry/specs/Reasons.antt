@@ -1,14 +1,15 @@
 -- What the reason of a verdict says of the history before the bad entry.
 use Rattle.std.specs.Prelude.{◌≡◌, ℕ, true, Option, Some, None, List, slice_get}
-use Rattle.txn_trace.specs.declared.op.Op.{Op}
-use Rattle.txn_trace.specs.declared.entry.Entry.{Entry}
-use Rattle.txn_trace.specs.declared.entry.Entry.TheVariants as entries
-use Rattle.txn_trace.specs.History.{caller_of, is_commit, is_open}
+use Rattle.txn_words.specs.declared.op.Op.{Op}
+use Rattle.txn_words.specs.declared.entry.Entry.{Entry}
+use Rattle.txn_words.specs.declared.entry.Entry.TheVariants as entries
+use Rattle.txn_trace.specs.History.{is_open}
+use Rattle.txn_words.specs.Kinds.{caller_of, is_commit}
 use Rattle.txn_trace.specs.Locks.{stripe_of}
 use Rattle.txn_trace.specs.Log.{log_of}
-use Rattle.txn_trace.specs.Map.{key_of, reply_of}
+use Rattle.txn_words.specs.Map.{key_of, reply_of}
 use Rattle.txn_trace.specs.Now.{now}
-use Rattle.txn_trace.specs.Shape.{how_many}
+use Rattle.txn_words.specs.Shape.{how_many}
 use Rattle.history_check.specs.Callers.{IsIn}
 use Rattle.history_check.specs.declared.verdict.Rule.{Rule}
 use Rattle.history_check.specs.declared.verdict.Rule.TheVariants as rules

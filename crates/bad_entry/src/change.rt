@@ -1,8 +1,8 @@
 //! Who last changed a key, and what became of that.
 ghost use Rattle.std.specs.Prelude.{◌≡◌, ◌+◌, ◌<◌, ◌≤◌, ◌^◌, List, Option, None, IfOk};
 ghost use Rattle.std.specs.List.{All};
-ghost use Rattle.txn_trace.specs.History.{caller_of};
-ghost use Rattle.txn_trace.specs.declared.entry.Entry.{Entry};
+ghost use Rattle.txn_words.specs.Kinds.{caller_of};
+ghost use Rattle.txn_words.specs.declared.entry.Entry.{Entry};
 ghost use Rattle.bad_entry.specs.Desks.{HaveNoted};
 ghost use Rattle.bad_entry.specs.Changes.{above_after, change_at, decided, fate_from, fate_of};
 ghost use Rattle.bad_entry.specs.Changes.{is_change, last_change, waiting_after};

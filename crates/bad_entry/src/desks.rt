@@ -2,9 +2,10 @@
 //!
 //! It follows any entries, legal or not. Constant time an entry.
 ghost use Rattle.std.specs.Prelude.{◌≡◌, ℕ, ◌<◌, ◌++◌, [], ◌∷◌, List, Option, None, IfOk, vec_len};
-ghost use Rattle.txn_trace.specs.History.{caller_of, txn_after};
+ghost use Rattle.txn_trace.specs.History.{txn_after};
+ghost use Rattle.txn_words.specs.Kinds.{caller_of};
 ghost use Rattle.txn_trace.specs.Log.{Log, log_step};
-ghost use Rattle.txn_trace.specs.declared.entry.Entry.{Entry};
+ghost use Rattle.txn_words.specs.declared.entry.Entry.{Entry};
 
 use std::alloc::{AllocError, Global};
 use txn_trace::{Entry, Op};
@@ -49,7 +50,7 @@ pub(crate) struct Desks {
 }
 
 impl Desks {
-    ghost use Rattle.txn_trace.specs.declared.op.Op.{Op};
+    ghost use Rattle.txn_words.specs.declared.op.Op.{Op};
     ghost use Rattle.bad_entry.specs.Desks.{HaveNoted, txn_in, waiting_in};
 
     /// The desks before the first entry.

@@ -2,11 +2,11 @@
 ghost use Rattle.std.specs.Prelude.{◌≡◌, ℕ, ◌<◌, List, Some, None, if◌then◌else◌, IfOk};
 ghost use Rattle.std.specs.List.{All};
 ghost use Rattle.std.specs.Option.{option_or};
-ghost use Rattle.txn_trace.specs.History.{caller_of};
+ghost use Rattle.txn_words.specs.Kinds.{caller_of};
 ghost use Rattle.txn_trace.specs.Legal.{IsLegal};
-ghost use Rattle.txn_trace.specs.Map.{get};
+ghost use Rattle.txn_words.specs.Map.{get};
 ghost use Rattle.txn_trace.specs.Now.{now};
-ghost use Rattle.txn_trace.specs.declared.holder.Holder.{Holder};
+ghost use Rattle.txn_words.specs.declared.holder.Holder.{Holder};
 ghost use Rattle.history_check.specs.Fed as locks;
 ghost use Rattle.serial_check.specs.Fed as commits;
 ghost use Rattle.serial_check.specs.Serializable.{IsSerializable};

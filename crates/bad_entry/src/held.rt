@@ -1,9 +1,10 @@
 //! Who holds a stripe, and since which entry.
 ghost use Rattle.std.specs.Prelude.{◌≡◌, ℕ, ◌<◌, List, Option, None, IfOk};
 ghost use Rattle.std.specs.List.{All, fold};
-ghost use Rattle.txn_trace.specs.History.{caller_of, txn_after};
+ghost use Rattle.txn_trace.specs.History.{txn_after};
+ghost use Rattle.txn_words.specs.Kinds.{caller_of};
 ghost use Rattle.txn_trace.specs.Legal.{IsLegal};
-ghost use Rattle.txn_trace.specs.declared.holder.Holder.{Holder};
+ghost use Rattle.txn_words.specs.declared.holder.Holder.{Holder};
 ghost use Rattle.bad_entry.specs.Desks.{txn_in};
 ghost use Rattle.bad_entry.specs.Holding.{IsHeld, asked_in, held_since, next_holder};
 

@@ -1,12 +1,12 @@
 //! The reason of a verdict of illegal: what leads to the bad entry, by the rule that it breaks.
 ghost use Rattle.std.specs.Prelude.{◌≡◌, ℕ, ◌<◌, ◌%◌, List, Option, IfOk};
 ghost use Rattle.std.specs.List.{All};
-ghost use Rattle.txn_trace.specs.History.{caller_of};
+ghost use Rattle.txn_words.specs.Kinds.{caller_of};
 ghost use Rattle.txn_trace.specs.Legal.{IsLegal};
-ghost use Rattle.txn_trace.specs.Shape.{how_many};
-ghost use Rattle.txn_trace.specs.declared.entry.Entry.{Entry};
-ghost use Rattle.txn_trace.specs.declared.holder.Holder.{Holder};
-ghost use Rattle.txn_trace.specs.declared.op.Op.{Op};
+ghost use Rattle.txn_words.specs.Shape.{how_many};
+ghost use Rattle.txn_words.specs.declared.entry.Entry.{Entry};
+ghost use Rattle.txn_words.specs.declared.holder.Holder.{Holder};
+ghost use Rattle.txn_words.specs.declared.op.Op.{Op};
 ghost use Rattle.history_check.specs.Callers.{HaveEntered};
 ghost use Rattle.serial_check.specs.Serializable.{IsSerializable};
 ghost use Rattle.bad_entry.specs.Desks.{waiting_in};

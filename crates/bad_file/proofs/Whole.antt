@@ -7,8 +7,8 @@ use Rattle.std.proofs.lemmas.Option.{none-some}
 use mathlib.Core.Logic.{inl, inr}
 use Rattle.serde_json.specs.Data.{Data, null, boolean, number, string, array, object}
 use Rattle.serde_json.specs.Find.{as_object}
-use Rattle.txn_trace.specs.declared.entry.Entry.{Entry as TheEntry}
-use Rattle.txn_trace.specs.Sizes.{max_stripes}
+use Rattle.txn_words.specs.declared.entry.Entry.{Entry as TheEntry}
+use Rattle.txn_words.specs.Sizes.{max_stripes}
 use Rattle.piece_files.specs.declared.file_fault.FileFault.{FileFault}
 use Rattle.piece_files.specs.declared.file_fault.FileFault.TheVariants as faults
 use Rattle.piece_files.specs.declared.part.Part.TheVariants as parts

@@ -3,7 +3,7 @@ use Rattle.std.specs.Prelude.{◌≡◌, ◌⊎◌, ◌↔◌, ◌<◌, ℕ, Lis
 use Rattle.std.specs.List.{All}
 use Rattle.std.specs.Option.{option_or}
 use Rattle.serde_json.specs.Data.{Data}
-use Rattle.txn_trace.specs.declared.entry.Entry.{Entry as TheEntry}
+use Rattle.txn_words.specs.declared.entry.Entry.{Entry as TheEntry}
 use Rattle.piece_files.specs.declared.file_fault.FileFault.{FileFault}
 use Rattle.piece_files.specs.declared.file_fault.FileFault.TheVariants as faults
 use Rattle.piece_files.specs.Elements.{elements_of}

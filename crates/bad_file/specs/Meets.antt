@@ -4,7 +4,7 @@ use Rattle.std.specs.List.{list_any}
 use Rattle.std.specs.Str.{bytes_eq}
 use Rattle.serde_json.specs.Data.{Num, unsigned, negative, float, Data, null, boolean, number, string, array, object}
 use Rattle.serde_json.specs.Find.{as_object, as_str}
-use Rattle.txn_trace.specs.Sizes.{max_stripes}
+use Rattle.txn_words.specs.Sizes.{max_stripes}
 use Rattle.piece_files.specs.Elements.{number_of, elements_of, list_of, optional}
 use Rattle.piece_files.specs.Files.{max_version}
 use Rattle.txn_files.specs.HistoryFile.{max_caller, max_entries}

@@ -7,7 +7,7 @@ ghost use Rattle.bad_file.specs.Meets.{is_array, is_entry_name, is_named, is_num
 
 use crate::expected::Expected;
 use serde_json::Value;
-use txn_trace::Limits;
+use txn_words::Limits;
 
 /// The last version that is read.
 const MAX_VERSION: u64 = 3;

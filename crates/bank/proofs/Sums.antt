@@ -2,8 +2,8 @@
 use Rattle.std.proofs.Common.{◌≡◌, ◌≢◌, ℕ, ◌+◌, cond, Some, sym, ap, subst, ◌∙◌, arith}
 use Rattle.std.specs.Prelude.{unwrap_or, Result, Ok, Err, IfOk, OnOk}
 use Rattle.std.proofs.lemmas.Bool.{ne_eqb}
-use Rattle.txn_trace.specs.Map.{Map, get, insert}
-use Rattle.txn_trace.proofs.Maps.{get-insert, get-insert-here}
+use Rattle.txn_words.specs.Map.{Map, get, insert}
+use Rattle.txn_words.proofs.Maps.{get-insert, get-insert-here}
 use Rattle.bank.specs.Transfers.{balance, IsTransfer}
 
 get_other : (m : Map) (k v q : ℕ) → q ≢ k → get (insert m k v) q ≡ get m q

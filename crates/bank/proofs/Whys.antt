@@ -1,7 +1,7 @@
 -- The reason why nothing was moved, as it is said of the map before the transaction.
 use Rattle.std.proofs.Common.{◌≡◌, ◌<◌, ◌≤◌, ◌+◌, ◌^◌, ℕ, refl, subst, sym}
 use Rattle.std.specs.Prelude.{Result, Ok, Err, IfErr}
-use Rattle.txn_trace.specs.declared.step.Step.TheVariants.{Begin, Commit}
+use Rattle.txn_words.specs.declared.step.Step.TheVariants.{Begin, Commit}
 use Rattle.txn_trace.specs.Now.{now}
 use Rattle.map_answers.specs.declared.stop.Stop.{Stop}
 use Rattle.boost_core.specs.State.{State}

@@ -1,7 +1,7 @@
 -- Transfers between accounts.
 use Rattle.std.specs.Prelude.{ℕ, ◌≡◌, ◌≢◌, ◌+◌, ◌^◌, ◌<◌, ◌≤◌, Some, unwrap_or}
-use Rattle.txn_trace.specs.declared.step.Step.{Step}
-use Rattle.txn_trace.specs.Map.{Map, get}
+use Rattle.txn_words.specs.declared.step.Step.{Step}
+use Rattle.txn_words.specs.Map.{Map, get}
 use Rattle.txn_trace.specs.Now.{now}
 use Rattle.map_answers.specs.declared.stop.Stop.{Stop}
 use Rattle.boost_core.specs.Refusals.{owner_of}

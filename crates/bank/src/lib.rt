@@ -5,8 +5,8 @@
 #![tactic(auto)]
 
 ghost use Rattle.std.specs.Prelude.{◌≡◌, ◌≢◌, IfErr, IfOk, OnOk, OnErr};
-ghost use Rattle.txn_trace.specs.declared.op.Op.TheVariants as ops;
-ghost use Rattle.txn_trace.specs.declared.step.Step.TheVariants as steps;
+ghost use Rattle.txn_words.specs.declared.op.Op.TheVariants as ops;
+ghost use Rattle.txn_words.specs.declared.step.Step.TheVariants as steps;
 ghost use Rattle.txn_trace.specs.Now.{now};
 ghost use Rattle.owned_map.specs.Keeps.{Keeps};
 ghost use Rattle.owned_map.specs.Effects.{IsStopped};

@@ -3,7 +3,7 @@ ghost use Rattle.std.specs.Prelude.{◌≡◌};
 
 use map_ops::{Double, Table};
 use std::collections::{BTreeMap, HashMap};
-use txn_trace::{Op, Refusal, Reply};
+use txn_words::{Op, Refusal, Reply};
 
 /// A map from numbers to numbers.
 pub(crate) trait AnyMap {

@@ -8,7 +8,7 @@ use std::alloc::{AllocError, Global};
 use std::fs;
 use std::rt::{Clock, Runtime};
 use txn_files::read_steps;
-use txn_trace::{Answer, Limits, Op, Step, answer_text};
+use txn_words::{Answer, Limits, Op, Step, answer_text};
 
 /// The number of keys of the steps, if no file names any.
 const HOT_KEYS: u64 = 64;

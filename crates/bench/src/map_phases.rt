@@ -7,7 +7,7 @@ use map_ops::Table;
 use std::alloc::{AllocError, Global};
 use std::collections::{BTreeMap, HashMap};
 use std::time::Clock;
-use txn_trace::{Op, Refusal};
+use txn_words::{Op, Refusal};
 
 /// The largest sizes of the two tables, in buckets.
 const BUCKETS: u32 = 65_536;

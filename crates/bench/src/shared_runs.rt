@@ -9,7 +9,7 @@ use std::sync::Wait;
 use std::thread::Threads;
 use thread_runs::{Open, run_scripts};
 use txn_files::read_scripts;
-use txn_trace::{Action, Entry, Limits, Op, Script, SmallEntry, Unpacked};
+use txn_words::{Action, Entry, Limits, Op, Script, SmallEntry, Unpacked};
 
 /// The number of keys of the scripts, if no file names any.
 const HOT_KEYS: u64 = 64;

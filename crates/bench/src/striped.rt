@@ -9,7 +9,7 @@ use std::thread;
 use std::thread::Threads;
 use std::time::{Clock, CpuClock, Instant};
 use striped_map::{Caller, Stop, open_map};
-use txn_trace::{Op, Reply};
+use txn_words::{Op, Reply};
 
 /// The number of stripes, if no argument gives it.
 pub(crate) const STRIPES: u64 = 1024;

@@ -4,9 +4,9 @@ use Rattle.std.specs.Prelude.{nat_lt, option_to_list, slice_index_or}
 use Rattle.std.proofs.lemmas.Bool.{cases_eq, cases_lt, lt-ltb, or_right}
 use Rattle.std.proofs.lemmas.List.{append-nil, length-set, length-replicate, get_or-replicate, get_or_past, get_or-set_same, get_or-set_other}
 use mathlib.Core.Logic.{inl, inr}
-use Rattle.txn_trace.specs.declared.entry.Entry.{Entry}
-use Rattle.txn_trace.specs.declared.entry.Entry.TheVariants.{Began}
-use Rattle.txn_trace.specs.History.{caller_of, is_began}
+use Rattle.txn_words.specs.declared.entry.Entry.{Entry}
+use Rattle.txn_words.specs.declared.entry.Entry.TheVariants.{Began}
+use Rattle.txn_words.specs.Kinds.{caller_of, is_began}
 use Rattle.txn_trace.specs.Locks.{has_begun}
 use Rattle.txn_trace.proofs.Naming.{has_begun-own, has_begun-other}
 use Rattle.boost_core.specs.Begun.{begun_with, AreNoted}

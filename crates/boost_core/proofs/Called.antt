@@ -6,10 +6,10 @@ use mathlib.Core.Logic.{inr}
 use Rattle.std.proofs.lemmas.Bool.{false≢true}
 use Rattle.std.proofs.lemmas.List.{length-set, get_or-set_same}
 use Rattle.std.proofs.lemmas.Option.{slice_get_within, slice_get-map}
-use Rattle.txn_trace.specs.declared.step.Step.{Step}
-use Rattle.txn_trace.specs.declared.step.Step.TheVariants as steps
-use Rattle.txn_trace.specs.declared.answer.Answer.{Answer}
-use Rattle.txn_trace.specs.declared.answer.Answer.TheVariants as answers
+use Rattle.txn_words.specs.declared.step.Step.{Step}
+use Rattle.txn_words.specs.declared.step.Step.TheVariants as steps
+use Rattle.txn_words.specs.declared.answer.Answer.{Answer}
+use Rattle.txn_words.specs.declared.answer.Answer.TheVariants as answers
 use Rattle.map_ops.specs.TableAt.{TableAt, Cursor, cursor_changes, table_changes}
 use Rattle.boost_core.specs.declared.counts.Counts.{Counts}
 use Rattle.boost_core.specs.declared.session.Session.{Session}
@@ -19,9 +19,9 @@ use Rattle.boost_core.specs.Words.{Claim, Lock, Right, Held, Stale, IsClaim}
 use Rattle.boost_core.specs.Spares.{times_of, times_in, times_out}
 use Rattle.boost_core.specs.Core.{World, Tells, state_of, session_changes, all_times}
 use Rattle.boost_core.proofs.Outcomes.{Called, CalledBy, same_world}
-use Rattle.txn_trace.specs.declared.refusal.Refusal.TheVariants as refusals
-use Rattle.txn_trace.specs.Map.{key_of}
-use Rattle.txn_trace.specs.declared.op.Op.{Op}
+use Rattle.txn_words.specs.declared.refusal.Refusal.TheVariants as refusals
+use Rattle.txn_words.specs.Map.{key_of}
+use Rattle.txn_words.specs.declared.op.Op.{Op}
 use Rattle.txn_trace.specs.Locks.{stripe_of}
 use Rattle.boost_core.specs.Refusals.{owner_of}
 use Rattle.boost_core.specs.Sessions.{side_of, Does, ActsIn, ReturnsIn, Saves, IsAsked, AsksBy, unless_busy, KeepsPlaced, Takes, AreDue, spare_if, times_kept}

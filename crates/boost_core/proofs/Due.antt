@@ -7,15 +7,12 @@ use Rattle.std.proofs.lemmas.Bool.{cases_Bool, cases_eq, eq-eqb, ne_eqb}
 use Rattle.std.proofs.lemmas.List.{reverse-append, append-nil, length_push}
 use mathlib.Core.Logic.{inl, inr}
 use Rattle.map_ops.specs.TableAt.{SpareAt}
-use Rattle.txn_trace.specs.declared.op.Op.{Op}
-use Rattle.txn_trace.specs.declared.op.Op.TheVariants.{Put, Take, Get, PutIf}
-use Rattle.txn_trace.specs.Map.{Map, get, insert, key_of, reply_of, after}
-use Rattle.txn_trace.specs.Now.{set_at}
-use Rattle.txn_trace.specs.Shape.{changes}
-use Rattle.txn_trace.proofs.Maps.{same_map, get-insert-here, get-remove-here}
-use Rattle.txn_trace.proofs.Table.{get-set_at}
-use Rattle.txn_trace.proofs.Acting.{after_unchanged, get-after_other}
-use Rattle.txn_trace.proofs.Fits.{changes-reply}
+use Rattle.txn_words.specs.declared.op.Op.{Op}
+use Rattle.txn_words.specs.declared.op.Op.TheVariants.{Put, Take, Get, PutIf}
+use Rattle.txn_words.specs.Map.{Map, get, insert, key_of, reply_of, after, set_at}
+use Rattle.txn_words.specs.Shape.{changes}
+use Rattle.txn_words.proofs.Maps.{same_map, get-insert-here, get-remove-here, get-set_at}
+use Rattle.txn_words.proofs.Effects.{after_unchanged, get-after_other, changes-reply}
 use Rattle.map_ops.specs.declared.job.MapJob.{MapJob}
 use Rattle.map_ops.specs.declared.job.MapJob.TheVariants.{Unput, Restore, Relink}
 use Rattle.map_ops.specs.Jobs.{takes_node, key_of_job, value_before, IsDue, unput, relink, job_of}

@@ -3,11 +3,11 @@ use Rattle.std.proofs.Common.{◌≡◌, ◌≢◌, ℕ, Some, None, Result, Ok,
 use Rattle.std.specs.Prelude.{slice_get, slice_index_or}
 use Rattle.split_key.specs.Sort.{dummy_at}
 use Rattle.bucket_table.specs.Dummies.{dummy_node}
-use Rattle.txn_trace.specs.declared.refusal.Refusal.{Refusal}
-use Rattle.txn_trace.specs.declared.refusal.Refusal.TheVariants as refusals
-use Rattle.txn_trace.specs.declared.step.Step.{Step}
-use Rattle.txn_trace.specs.declared.step.Step.TheVariants as steps
-use Rattle.txn_trace.specs.declared.answer.Answer.{Answer}
+use Rattle.txn_words.specs.declared.refusal.Refusal.{Refusal}
+use Rattle.txn_words.specs.declared.refusal.Refusal.TheVariants as refusals
+use Rattle.txn_words.specs.declared.step.Step.{Step}
+use Rattle.txn_words.specs.declared.step.Step.TheVariants as steps
+use Rattle.txn_words.specs.declared.answer.Answer.{Answer}
 use Rattle.map_ops.specs.InitSeek.{InitSeek}
 use Rattle.map_ops.specs.InitSeek.TheVariants as seeks
 use Rattle.map_ops.specs.InitLink.{InitLink}

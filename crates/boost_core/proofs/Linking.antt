@@ -7,11 +7,11 @@ use Rattle.map_ops.specs.InitLink.{InitLink}
 use Rattle.map_ops.specs.InitLink.TheVariants as links
 use Rattle.bucket_table.specs.declared.answer.InitRefusal.{InitRefusal}
 use Rattle.bucket_table.specs.declared.answer.InitRefusal.TheVariants as inits
-use Rattle.txn_trace.specs.declared.refusal.Refusal.{Refusal}
-use Rattle.txn_trace.specs.declared.refusal.Refusal.TheVariants as refusals
+use Rattle.txn_words.specs.declared.refusal.Refusal.{Refusal}
+use Rattle.txn_words.specs.declared.refusal.Refusal.TheVariants as refusals
 use Rattle.map_ops.specs.Buckets.{Helps, Holds, Links, is_stored, answer_for, link_answer, helper_fits, link_answer_of}
-use Rattle.txn_trace.specs.declared.step.Step.TheVariants as steps
-use Rattle.txn_trace.specs.declared.answer.Answer.TheVariants as answers
+use Rattle.txn_words.specs.declared.step.Step.TheVariants as steps
+use Rattle.txn_words.specs.declared.answer.Answer.TheVariants as answers
 use Rattle.map_ops.specs.TableAt.{TableAt, Help, Nothing, Sought, Dummy, size_of, stored_of, linked_of, helps_of, table_changes, last_of}
 use Rattle.boost_core.specs.State.{State, Owner, Caller, Helper, is_set, help_in, bucket_at, helper_changes}
 use Rattle.boost_core.specs.Refusals.{refusal_of, has_cursor, has_stamp, lacks_dummy}

@@ -5,15 +5,15 @@ use Rattle.std.proofs.lemmas.Bool.{false≢true, and_parts, or_cases, eqb-true}
 use Rattle.std.proofs.lemmas.List.{append-nil}
 use Rattle.std.proofs.lemmas.List.Elements.{All-head, All-tail}
 use mathlib.Core.Logic.{inl, inr}
-use Rattle.txn_trace.specs.declared.entry.Entry.{Entry}
-use Rattle.txn_trace.specs.declared.entry.Entry.TheVariants.{Busy}
-use Rattle.txn_trace.specs.declared.holder.Holder.TheVariants.{Begun}
-use Rattle.txn_trace.specs.History.{caller_of, is_began}
+use Rattle.txn_words.specs.declared.entry.Entry.{Entry}
+use Rattle.txn_words.specs.declared.entry.Entry.TheVariants.{Busy}
+use Rattle.txn_words.specs.declared.holder.Holder.TheVariants.{Begun}
+use Rattle.txn_words.specs.Kinds.{caller_of, is_began}
 use Rattle.txn_trace.specs.Locks.{has_begun, is_locked}
 use Rattle.txn_trace.specs.Legal.{IsLegal}
-use Rattle.txn_trace.specs.Packed.{holder_in, is_small}
+use Rattle.txn_words.specs.Packed.{holder_in, is_small}
 use Rattle.txn_trace.proofs.Naming.{legal_begun}
-use Rattle.txn_trace.proofs.Packing.{small_of}
+use Rattle.txn_words.proofs.Packing.{small_of}
 use Rattle.boost_core.specs.State.{holder_by}
 
 -- A history that is legal by either rule is legal by the wider one.

@@ -3,8 +3,8 @@ use Rattle.std.proofs.Common.{◌≡◌, ℕ, suc, ◌+◌, List, [], ◌∷◌,
 use Rattle.std.specs.Prelude.{slice_get}
 use Rattle.std.specs.List.{sum_by, range_with_len}
 use Rattle.std.proofs.lemmas.List.Sums.{sum_by-cons}
-use Rattle.txn_trace.specs.Shape.{seat_after, own}
-use Rattle.txn_trace.specs.Owed.{owed_by, owed}
+use Rattle.txn_words.specs.Shape.{seat_after, own}
+use Rattle.txn_words.specs.Owed.{owed_by, owed}
 use Rattle.boost_core.specs.Sessions.{owed_of}
 use Rattle.boost_core.specs.Core.{World, Tells}
 

@@ -4,16 +4,16 @@ use Rattle.std.specs.Prelude.{slice_get, slice_set, map, nat_eq, nat_lt}
 use Rattle.std.specs.Option.{option_eq, option_map}
 use Rattle.std.proofs.lemmas.Bool.{false≢true}
 use Rattle.boost_core.specs.State.{holder_by}
-use Rattle.txn_trace.specs.declared.entry.Entry.{Entry}
-use Rattle.txn_trace.specs.Map.{Map}
-use Rattle.txn_trace.specs.History.{caller_of, is_began, is_commit}
+use Rattle.txn_words.specs.declared.entry.Entry.{Entry}
+use Rattle.txn_words.specs.Map.{Map}
+use Rattle.txn_words.specs.Kinds.{caller_of, is_began, is_commit}
 use Rattle.txn_trace.specs.Now.{now}
 use Rattle.txn_trace.specs.Locks.{holder_of}
-use Rattle.txn_trace.specs.declared.seat.Phase.{Phase}
-use Rattle.txn_trace.specs.declared.seat.Phase.TheVariants.{Closed, Opened, Waiting, LeavingTo, LeavingToEnd}
-use Rattle.txn_trace.specs.Shape.{Seat, RoomySeat, own}
-use Rattle.txn_trace.specs.Seats.{is_waiting, is_saved}
-use Rattle.txn_trace.proofs.Levels.{IsLevelIn, seat_leveled}
+use Rattle.txn_words.specs.declared.seat.Phase.{Phase}
+use Rattle.txn_words.specs.declared.seat.Phase.TheVariants.{Closed, Opened, Waiting, LeavingTo, LeavingToEnd}
+use Rattle.txn_words.specs.Shape.{Seat, RoomySeat, own}
+use Rattle.txn_words.specs.Seats.{is_waiting, is_saved}
+use Rattle.txn_words.proofs.Levels.{IsLevelIn, seat_leveled}
 use Rattle.txn_trace.proofs.Next.{Next}
 use Rattle.undo_log.specs.UndoLog.{Log, kept_at, newest_above}
 use Rattle.key_locks.specs.Locks.{Releases, without_caller, holder_of as held_by}

@@ -5,14 +5,14 @@ use Rattle.std.specs.Option.{option_map}
 use Rattle.std.proofs.lemmas.Bool.{false≢true, cases_Bool, cases_lt, leb-true, le-leb}
 use Rattle.std.proofs.lemmas.Option.{slice_get-map, slice_get-get_or}
 use mathlib.Core.Logic.{inl, inr}
-use Rattle.txn_trace.specs.declared.op.Op.{Op}
-use Rattle.txn_trace.specs.declared.refusal.Refusal.{Refusal}
-use Rattle.txn_trace.specs.declared.refusal.Refusal.TheVariants.{NoSuchCaller, Unplaced}
-use Rattle.txn_trace.specs.declared.step.Step.{Step}
-use Rattle.txn_trace.specs.declared.step.Step.TheVariants.{Begin, Ask, Seek, Act, Save, Back, Commit, Abort}
-use Rattle.txn_trace.specs.declared.seat.Phase.{Phase}
-use Rattle.txn_trace.specs.declared.seat.Phase.TheVariants.{Closed, Opened, Waiting, LeavingTo, LeavingToEnd}
-use Rattle.txn_trace.specs.Shape.{Seat, closed_seat}
+use Rattle.txn_words.specs.declared.op.Op.{Op}
+use Rattle.txn_words.specs.declared.refusal.Refusal.{Refusal}
+use Rattle.txn_words.specs.declared.refusal.Refusal.TheVariants.{NoSuchCaller, Unplaced}
+use Rattle.txn_words.specs.declared.step.Step.{Step}
+use Rattle.txn_words.specs.declared.step.Step.TheVariants.{Begin, Ask, Seek, Act, Save, Back, Commit, Abort}
+use Rattle.txn_words.specs.declared.seat.Phase.{Phase}
+use Rattle.txn_words.specs.declared.seat.Phase.TheVariants.{Closed, Opened, Waiting, LeavingTo, LeavingToEnd}
+use Rattle.txn_words.specs.Shape.{Seat, closed_seat}
 use Rattle.map_ops.specs.TableAt.{TableAt, Cursor, cursor_changes}
 use Rattle.boost_core.specs.declared.session.Session.{Session}
 use Rattle.boost_core.specs.State.{State, Caller, seat_in, caller_changes}

@@ -5,9 +5,9 @@ use Rattle.std.proofs.lemmas.Bool.{false≢true, cases_lt, ltb-true, lt-ltb}
 use Rattle.std.proofs.lemmas.List.{reverse-append, length_push, get_or_push}
 use Rattle.std.proofs.lemmas.Option.{slice_get-get_or}
 use mathlib.Core.Logic.{inl, inr}
-use Rattle.txn_trace.specs.declared.seat.Phase.{Phase}
-use Rattle.txn_trace.specs.declared.seat.Phase.TheVariants.{Closed, Opened, Waiting, LeavingTo, LeavingToEnd}
-use Rattle.txn_trace.specs.Seats.{is_waiting, is_leaving, has_job, has_target}
+use Rattle.txn_words.specs.declared.seat.Phase.{Phase}
+use Rattle.txn_words.specs.declared.seat.Phase.TheVariants.{Closed, Opened, Waiting, LeavingTo, LeavingToEnd}
+use Rattle.txn_words.specs.Seats.{is_waiting, is_leaving, has_job, has_target}
 use Rattle.txn_trace.proofs.Seated.{the_some}
 use Rattle.undo_log.specs.UndoLog.{Log, kept_at, newest_above}
 use Rattle.map_ops.specs.declared.job.MapJob.{MapJob}

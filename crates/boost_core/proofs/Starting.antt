@@ -11,9 +11,9 @@ use Rattle.std.proofs.lemmas.List.Sums.{sum_by-cons}
 use Rattle.std.proofs.lemmas.Option.{slice_get_within, get_or_from_slice_get}
 use mathlib.Core.Logic.{inl, inr}
 use Rattle.key_locks.specs.Locks.{holder_of as held_by}
-use Rattle.txn_trace.specs.Sizes.{Sizes, are_limits}
-use Rattle.txn_trace.specs.Owed.{owed_in}
-use Rattle.txn_trace.specs.History.{caller_of}
+use Rattle.txn_words.specs.Sizes.{Sizes, are_limits}
+use Rattle.txn_words.specs.Owed.{owed_in}
+use Rattle.txn_words.specs.Kinds.{caller_of}
 use Rattle.txn_trace.proofs.Judging.{legal_none}
 use Rattle.node_list.specs.Nodes.{NodeAt, first, first_dummy, node_of}
 use Rattle.node_list.specs.Order.{IsRising, IsSpread}

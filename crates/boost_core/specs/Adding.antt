@@ -1,10 +1,10 @@
 -- The entry of a step is added: the requirements, and the seat after it.
 use Rattle.std.specs.Prelude.{◌≡◌, ℕ, ◌+◌, ◌-◌, ◌<◌, ◌≤◌, ◌^◌, true, Option, Some, None, List, [], ◌∷◌}
-use Rattle.txn_trace.specs.declared.entry.Entry.{Entry}
-use Rattle.txn_trace.specs.Shape.{Seat, RoomySeat, row}
-use Rattle.txn_trace.specs.Seats.{is_saved}
-use Rattle.txn_trace.specs.Owed.{owed_in}
-use Rattle.txn_trace.specs.Packed.{is_small}
+use Rattle.txn_words.specs.declared.entry.Entry.{Entry}
+use Rattle.txn_words.specs.Shape.{Seat, RoomySeat, row}
+use Rattle.txn_words.specs.Seats.{is_saved}
+use Rattle.txn_words.specs.Owed.{owed_in}
+use Rattle.txn_words.specs.Packed.{is_small}
 
 -- The seat enters the added entry, if there is one.
 abbrev pub Enters : RoomySeat → List Entry → RoomySeat → Type 0

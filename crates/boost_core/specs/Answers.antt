@@ -1,18 +1,18 @@
 -- The answers to a step that is not refused, and the state after each.
 use Rattle.std.specs.Prelude.{◌≡◌, ℕ, ◌+◌, ◌*◌, ◌-◌, ◌^◌, ◌==◌, Bool, true, false, not, nat_lt, ◌&&◌, ◌||◌, IsTrue, List, ◌++◌, Option, Some, None, length, slice_set}
-use Rattle.txn_trace.specs.declared.step.Step.{Step}
-use Rattle.txn_trace.specs.declared.step.Step.TheVariants.{Begin, Ask, Seek, Act, Save, Back, Commit, Abort, Sweep, InitSeek, InitLink, InitStore, Double}
-use Rattle.txn_trace.specs.declared.answer.Answer.{Answer}
-use Rattle.txn_trace.specs.declared.answer.Answer.TheVariants as answers
-use Rattle.txn_trace.specs.declared.entry.Entry.{Entry}
-use Rattle.txn_trace.specs.declared.entry.Entry.TheVariants as entries
-use Rattle.txn_trace.specs.Map.{Map, count_of, reply_of}
-use Rattle.txn_trace.specs.History.{is_began, is_commit}
+use Rattle.txn_words.specs.declared.step.Step.{Step}
+use Rattle.txn_words.specs.declared.step.Step.TheVariants.{Begin, Ask, Seek, Act, Save, Back, Commit, Abort, Sweep, InitSeek, InitLink, InitStore, Double}
+use Rattle.txn_words.specs.declared.answer.Answer.{Answer}
+use Rattle.txn_words.specs.declared.answer.Answer.TheVariants as answers
+use Rattle.txn_words.specs.declared.entry.Entry.{Entry}
+use Rattle.txn_words.specs.declared.entry.Entry.TheVariants as entries
+use Rattle.txn_words.specs.Map.{Map, count_of, reply_of}
+use Rattle.txn_words.specs.Kinds.{is_began, is_commit}
 use Rattle.txn_trace.specs.Now.{now}
-use Rattle.txn_trace.specs.Entries.{entries_of}
-use Rattle.txn_trace.specs.declared.seat.Phase.{Phase}
-use Rattle.txn_trace.specs.declared.seat.Phase.TheVariants.{Waiting, LeavingTo, LeavingToEnd}
-use Rattle.txn_trace.specs.Shape.{how_many}
+use Rattle.txn_words.specs.Entries.{entries_of}
+use Rattle.txn_words.specs.declared.seat.Phase.{Phase}
+use Rattle.txn_words.specs.declared.seat.Phase.TheVariants.{Waiting, LeavingTo, LeavingToEnd}
+use Rattle.txn_words.specs.Shape.{how_many}
 use Rattle.txn_trace.specs.Locks.{is_locked}
 use Rattle.boost_core.specs.State.{State, Owner, Caller, Helper, Help, Nothing, Sought, Dummy, seat_in, caller_changes, help_in, helper_changes, bucket_at, is_set, with_bucket, holder_by}
 use Rattle.boost_core.specs.Refusals.{has_job, has_target, has_stamp, has_stamp_for, lacks_dummy}

@@ -3,9 +3,9 @@
 use Rattle.std.specs.Prelude.{◌≡◌, ℕ, List}
 use Rattle.std.specs.Ordering.{nat_cmp}
 use Rattle.std.specs.BTreeMap.{BTreeMap, get as value_at}
-use Rattle.txn_trace.specs.Map.{get}
+use Rattle.txn_words.specs.Map.{get}
 use Rattle.txn_trace.specs.Now.{now}
-use Rattle.txn_trace.specs.Ordered.{ordered}
+use Rattle.txn_words.specs.Ordered.{ordered}
 use Rattle.boost_core.specs.State.{State}
 
 abbrev pub IsContent : State → BTreeMap ℕ ℕ → Type 0

@@ -1,6 +1,6 @@
 -- The numbers of transactions that have begun and that have committed, after an answer.
-use Rattle.txn_trace.specs.declared.answer.Answer.{Answer}
-use Rattle.txn_trace.specs.declared.answer.Answer.TheVariants.{Began, Committed}
+use Rattle.txn_words.specs.declared.answer.Answer.{Answer}
+use Rattle.txn_words.specs.declared.answer.Answer.TheVariants.{Began, Committed}
 use Rattle.boost_core.specs.declared.counts.Counts.{Counts}
 
 abbrev pub counts_after : Counts → Answer → Counts

@@ -1,10 +1,10 @@
 -- The fifth claim, answers: the moves of the machine of steps.
 pub use Rattle.boost_core.specs.State.{State, start, start_with_words, holder_by}
 use Rattle.std.specs.Prelude.{◌≡◌, ◌+◌, ◌≤◌, ◌⊎◌, true, List, [], ◌∷◌, Some, None}
-use Rattle.txn_trace.specs.declared.step.Step.{Step}
-use Rattle.txn_trace.specs.declared.answer.Answer.{Answer}
-use Rattle.txn_trace.specs.declared.answer.Answer.TheVariants as answers
-use Rattle.txn_trace.specs.Sizes.{Sizes}
+use Rattle.txn_words.specs.declared.step.Step.{Step}
+use Rattle.txn_words.specs.declared.answer.Answer.{Answer}
+use Rattle.txn_words.specs.declared.answer.Answer.TheVariants as answers
+use Rattle.txn_words.specs.Sizes.{Sizes}
 use Rattle.boost_core.specs.Refusals.{refusal_of, MayLack}
 use Rattle.boost_core.specs.Answers.{IsAnswer, keeps_list, after}
 use Rattle.boost_core.specs.Nodes.{Lists, Cursors}

@@ -1,8 +1,8 @@
 -- The owner of the cursor that was placed last.
 use Rattle.std.specs.Prelude.{Option}
-use Rattle.txn_trace.specs.declared.step.Step.{Step}
-use Rattle.txn_trace.specs.declared.answer.Answer.{Answer}
-use Rattle.txn_trace.specs.declared.answer.Answer.TheVariants as answers
+use Rattle.txn_words.specs.declared.step.Step.{Step}
+use Rattle.txn_words.specs.declared.answer.Answer.{Answer}
+use Rattle.txn_words.specs.declared.answer.Answer.TheVariants as answers
 use Rattle.boost_core.specs.State.{Owner}
 use Rattle.boost_core.specs.Answers.{placed_by}
 

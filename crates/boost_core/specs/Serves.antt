@@ -1,19 +1,19 @@
 -- The answers to the steps that are no caller's, and their effects on the table.
 use Rattle.std.specs.Prelude.{◌≡◌, ◌≢◌, ℕ, ◌-◌, ◌<◌, ◌^◌, ◌↔◌, Bool, true, false, Some, Result, Ok, Err}
 use Rattle.std.specs.List.{slice_get}
-use Rattle.txn_trace.specs.declared.step.Step.{Step}
-use Rattle.txn_trace.specs.declared.step.Step.TheVariants.{Sweep, InitSeek, InitLink, InitStore, Double}
-use Rattle.txn_trace.specs.declared.answer.Answer.{Answer}
-use Rattle.txn_trace.specs.declared.answer.Answer.TheVariants as answers
-use Rattle.txn_trace.specs.Map.{count_of}
+use Rattle.txn_words.specs.declared.step.Step.{Step}
+use Rattle.txn_words.specs.declared.step.Step.TheVariants.{Sweep, InitSeek, InitLink, InitStore, Double}
+use Rattle.txn_words.specs.declared.answer.Answer.{Answer}
+use Rattle.txn_words.specs.declared.answer.Answer.TheVariants as answers
+use Rattle.txn_words.specs.Map.{count_of}
 use Rattle.map_ops.specs.Double.{Double as Doubled}
 use Rattle.map_ops.specs.Double.TheVariants as doubles
 use Rattle.map_ops.specs.InitSeek.{InitSeek as Sought}
 use Rattle.map_ops.specs.InitSeek.TheVariants as seeks
 use Rattle.map_ops.specs.InitLink.{InitLink as Linked}
 use Rattle.map_ops.specs.InitLink.TheVariants as links
-use Rattle.txn_trace.specs.declared.refusal.Refusal.{Refusal}
-use Rattle.txn_trace.specs.declared.refusal.Refusal.TheVariants as refusals
+use Rattle.txn_words.specs.declared.refusal.Refusal.{Refusal}
+use Rattle.txn_words.specs.declared.refusal.Refusal.TheVariants as refusals
 use Rattle.map_ops.specs.TableAt.{TableAt, SweepOutcome, Keeps, KeepsList, KeepsSpares, IsClean, content, table_changes, size_of, largest_of, stored_of, helps_of}
 use Rattle.map_ops.specs.TableAt as tables
 use Rattle.map_ops.specs.SweepOutcome.TheVariants as outcomes

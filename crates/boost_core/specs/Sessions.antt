@@ -1,19 +1,18 @@
 -- A caller's side, and the effects of its steps on it, on the table and on the locks.
 use Rattle.std.specs.Prelude.{◌≡◌, ℕ, ◌+◌, ◌<◌, ◌^◌, ◌≤◌, ◌⊎◌, ◌∷◌, is_some, ◌++◌, Bool, true, false, List, [], Option, Some, None, length, map, reverse, take, option_to_list}
-use Rattle.txn_trace.specs.declared.op.Op.{Op}
-use Rattle.txn_trace.specs.declared.step.Step.{Step}
-use Rattle.txn_trace.specs.declared.step.Step.TheVariants.{Begin, Ask, Seek, Act, Save, Back, Commit, Abort}
-use Rattle.txn_trace.specs.declared.answer.Answer.{Answer}
-use Rattle.txn_trace.specs.declared.answer.Answer.TheVariants as answers
-use Rattle.txn_trace.specs.declared.refusal.Refusal.TheVariants.{NoMemory, StaleWord}
-use Rattle.txn_trace.specs.Map.{Map, get, key_of}
-use Rattle.txn_trace.specs.Now.{set_at}
-use Rattle.txn_trace.specs.Owed.{owed_in}
+use Rattle.txn_words.specs.declared.op.Op.{Op}
+use Rattle.txn_words.specs.declared.step.Step.{Step}
+use Rattle.txn_words.specs.declared.step.Step.TheVariants.{Begin, Ask, Seek, Act, Save, Back, Commit, Abort}
+use Rattle.txn_words.specs.declared.answer.Answer.{Answer}
+use Rattle.txn_words.specs.declared.answer.Answer.TheVariants as answers
+use Rattle.txn_words.specs.declared.refusal.Refusal.TheVariants.{NoMemory, StaleWord}
+use Rattle.txn_words.specs.Map.{Map, get, key_of, set_at}
+use Rattle.txn_words.specs.Owed.{owed_in}
 use Rattle.txn_trace.specs.Locks.{stripe_of}
-use Rattle.txn_trace.specs.declared.seat.Phase.{Phase}
-use Rattle.txn_trace.specs.declared.seat.Phase.TheVariants.{Waiting, LeavingTo, LeavingToEnd}
-use Rattle.txn_trace.specs.Shape.{Seat, closed_seat}
-use Rattle.txn_trace.specs.Seats.{is_leaving, has_job, has_target, refusal_in}
+use Rattle.txn_words.specs.declared.seat.Phase.{Phase}
+use Rattle.txn_words.specs.declared.seat.Phase.TheVariants.{Waiting, LeavingTo, LeavingToEnd}
+use Rattle.txn_words.specs.Shape.{Seat, closed_seat}
+use Rattle.txn_words.specs.Seats.{is_leaving, has_job, has_target, refusal_in}
 use Rattle.undo_log.specs.UndoLog.{Log, kept_at, newest_above}
 use Rattle.key_locks.specs.Locks.{Grants, Refuses, Releases}
 use Rattle.node_list.specs.Sound.{IsSound}

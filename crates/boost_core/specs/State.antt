@@ -5,11 +5,11 @@ pub use Rattle.boost_core.specs.declared.owner.Owner.TheVariants.{Caller, Helper
 pub use Rattle.split_key.specs.declared.sort.SortKey.{SortKey}
 use Rattle.split_key.specs.Sort.{dummy_at}
 use Rattle.std.specs.Prelude.{ℕ, ◌-◌, Bool, true, false, List, [], ◌∷◌, Option, Some, None, replicate, slice_get, slice_set, unwrap_or}
-use Rattle.txn_trace.specs.declared.entry.Entry.{Entry}
-use Rattle.txn_trace.specs.declared.holder.Holder.{Holder}
-use Rattle.txn_trace.specs.declared.holder.Holder.TheVariants.{Now, Begun}
-use Rattle.txn_trace.specs.Sizes.{Sizes}
-use Rattle.txn_trace.specs.Shape.{Seat, closed_seat, seat_after, own}
+use Rattle.txn_words.specs.declared.entry.Entry.{Entry}
+use Rattle.txn_words.specs.declared.holder.Holder.{Holder}
+use Rattle.txn_words.specs.declared.holder.Holder.TheVariants.{Now, Begun}
+use Rattle.txn_words.specs.Sizes.{Sizes}
+use Rattle.txn_words.specs.Shape.{Seat, closed_seat, seat_after, own}
 
 -- A linked node: its position in the list's order, and whether it is marked.
 pub record Node : Type 0 where

@@ -1,7 +1,7 @@
 //! The end of every step: its entry is added to the caller's seat and to the history, in room that
 //! was reserved before. No other code lets a history grow.
 ghost use Rattle.std.specs.Prelude.{◌≡◌, ◌-◌, ◌+◌, ◌++◌, option_to_list, vec_len, vec_capacity, length};
-ghost use Rattle.txn_trace.specs.Owed.{owed_in};
+ghost use Rattle.txn_words.specs.Owed.{owed_in};
 ghost use Rattle.boost_core.specs.Adding.{CanAdd, Enters};
 
 use txn_trace::{Entry, Seat, SmallEntry};

@@ -3,11 +3,11 @@
 //! The steps themselves are in `operations.rt`, `transactions.rt` and `buckets.rt`.
 ghost use Rattle.std.specs.Prelude.{◌≡◌, ℕ, ◌<◌, true, false, is_some, Some, IfOk, IfErr, OnErr, length};
 ghost use Rattle.std.specs.List.{All};
-ghost use Rattle.txn_trace.specs.Map.{count_of};
-ghost use Rattle.txn_trace.specs.History.{caller_of};
+ghost use Rattle.txn_words.specs.Map.{count_of};
+ghost use Rattle.txn_words.specs.Kinds.{caller_of};
 ghost use Rattle.txn_trace.specs.Now.{now};
 ghost use Rattle.txn_trace.specs.Legal.{IsLegal};
-ghost use Rattle.txn_trace.specs.Owed.{owed};
+ghost use Rattle.txn_words.specs.Owed.{owed};
 ghost use Rattle.boost_core.specs.Machine.{State, start, holder_by};
 
 use crate::adding::add;

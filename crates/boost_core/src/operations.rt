@@ -13,7 +13,7 @@ use txn_trace::{Answer, Op, Phase, Refusal};
 use undo_log::UndoLog;
 
 impl Session {
-    ghost use Rattle.txn_trace.specs.Seats.{has_target, is_waiting, is_leaving};
+    ghost use Rattle.txn_words.specs.Seats.{has_target, is_waiting, is_leaving};
     ghost use Rattle.boost_core.specs.Sessions.{AsksBy, GoesWith, IsAsked, StaysIn, SeeksIn, ActsIn, Replies, Undoes, Arrives, CanAct, CanUndo, CanArrive};
     ghost use Rattle.map_ops.specs.Changes.{Prepares, IsRefused};
 

@@ -2,7 +2,7 @@
 //! to its stripe, or with the word that names its holder. `step`, in contrast, locks stripes
 //! itself.
 ghost use Rattle.std.specs.Prelude.{◌≡◌, ◌≢◌, ◌-◌, true, IfOk, IfErr};
-ghost use Rattle.txn_trace.specs.Map.{key_of};
+ghost use Rattle.txn_words.specs.Map.{key_of};
 ghost use Rattle.txn_trace.specs.Locks.{has_begun, stripe_of};
 ghost use Rattle.boost_core.specs.Machine.{start_with_words};
 

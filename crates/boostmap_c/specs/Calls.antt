@@ -1,11 +1,11 @@
 -- The effect of a call on a handle, from the states of the map that it owns before and after. A
 -- handle without a map stays without one, and C is told so.
 use Rattle.std.specs.Prelude.{◌≡◌, ℕ, Option, Some, None, Result, Ok, Err}
-use Rattle.txn_trace.specs.declared.answer.Answer.{Answer}
-use Rattle.txn_trace.specs.declared.refusal.Refusal.{Refusal}
-use Rattle.txn_trace.specs.declared.refusal.Refusal.TheVariants.{NoMemory}
-use Rattle.txn_trace.specs.Sizes.{Sizes, limits_of}
-use Rattle.txn_trace.specs.Map.{count_of}
+use Rattle.txn_words.specs.declared.answer.Answer.{Answer}
+use Rattle.txn_words.specs.declared.refusal.Refusal.{Refusal}
+use Rattle.txn_words.specs.declared.refusal.Refusal.TheVariants.{NoMemory}
+use Rattle.txn_words.specs.Sizes.{Sizes, limits_of}
+use Rattle.txn_words.specs.Map.{count_of}
 use Rattle.txn_trace.specs.Now.{now}
 use Rattle.boost_core.specs.Machine.{State, start}
 use Rattle.boost_core.specs.Plain.{Helps}

@@ -1,9 +1,9 @@
 -- The result of reading a map for C.
 use Rattle.std.specs.Prelude.{◌≡◌, ◌<◌, ◌⊎◌, ℕ, zero, suc, List, length, map, take, drop, Option, Some, None}
-use Rattle.txn_trace.specs.declared.refusal.Refusal.TheVariants.{NoMemory}
+use Rattle.txn_words.specs.declared.refusal.Refusal.TheVariants.{NoMemory}
 use Rattle.boost_core.specs.State.{State}
 use Rattle.txn_trace.specs.Now.{now}
-use Rattle.txn_trace.specs.Ordered.{ordered}
+use Rattle.txn_words.specs.Ordered.{ordered}
 use Rattle.boostmap_c.specs.declared.read.CPair.{CPair}
 use Rattle.boostmap_c.specs.Replies.{empty, short, refused}
 

@@ -1,10 +1,10 @@
 -- The entry of a history that C's numbers stand for.
 use Rattle.std.specs.Prelude.{ℕ, nat_eq, nat_le, Option, Some, None, if◌then◌else◌}
-use Rattle.txn_trace.specs.declared.op.Op.{Op}
-use Rattle.txn_trace.specs.declared.op.Op.TheVariants.{Put, PutIf, Take, Get}
-use Rattle.txn_trace.specs.declared.entry.Entry.{Entry}
-use Rattle.txn_trace.specs.declared.entry.Entry.TheVariants.{Began, Asked, Did, Saved, Leave, Undone, Returned, Committed, Busy, Aborted}
-use Rattle.txn_trace.specs.History.{caller_of}
+use Rattle.txn_words.specs.declared.op.Op.{Op}
+use Rattle.txn_words.specs.declared.op.Op.TheVariants.{Put, PutIf, Take, Get}
+use Rattle.txn_words.specs.declared.entry.Entry.{Entry}
+use Rattle.txn_words.specs.declared.entry.Entry.TheVariants.{Began, Asked, Did, Saved, Leave, Undone, Returned, Committed, Busy, Aborted}
+use Rattle.txn_words.specs.Kinds.{caller_of}
 use Rattle.boostmap_c.specs.declared.c_entry.CEntry.{CEntry}
 
 -- A number that is there unless the flag is 0.

@@ -1,8 +1,8 @@
 -- The effect of a call on a judge, from the referees that its handle owns before and after.
 use Rattle.std.specs.Prelude.{◌≡◌, ℕ, zero, suc, nat_eq, [], ◌∷◌, List, length, take, slice_get, Option, Some, None, if◌then◌else◌}
-use Rattle.txn_trace.specs.declared.entry.Entry.{Entry}
-use Rattle.txn_trace.specs.declared.holder.Holder.TheVariants.{Now, Begun}
-use Rattle.txn_trace.specs.declared.refusal.Refusal.TheVariants.{Limit, NoMemory}
+use Rattle.txn_words.specs.declared.entry.Entry.{Entry}
+use Rattle.txn_words.specs.declared.holder.Holder.TheVariants.{Now, Begun}
+use Rattle.txn_words.specs.declared.refusal.Refusal.TheVariants.{Limit, NoMemory}
 use Rattle.history_check.specs.declared.verdict.Verdict.{Verdict}
 use Rattle.history_check.specs.declared.verdict.Verdict.TheVariants.{Legal, Illegal}
 use Rattle.history_check.specs.Verdicts.{number_of}

@@ -2,7 +2,7 @@
 -- after. An empty handle stays empty, and C is told so.
 use Rattle.std.specs.Prelude.{◌≡◌, ℕ, ◌+◌, ◌<◌, ◌&&◌, nat_le, Bool, true, [], ◌∷◌, ◌++◌, length, Option, Some, None, Result, if◌then◌else◌}
 use Rattle.std.specs.List.{HoldsAt}
-use Rattle.txn_trace.specs.declared.refusal.Refusal.TheVariants.{NoMemory, NoSuchCaller, Limit}
+use Rattle.txn_words.specs.declared.refusal.Refusal.TheVariants.{NoMemory, NoSuchCaller, Limit}
 use Rattle.striped_map.specs.declared.caller.Caller.{Caller}
 use Rattle.striped_map.specs.declared.map.StripedMap.{StripedMap}
 use Rattle.map_answers.specs.declared.stop.Stop.{Stop}

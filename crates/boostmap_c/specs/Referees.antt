@@ -1,6 +1,6 @@
 -- The entries that a referee was fed, by its rule, and the meaning of its verdict.
 use Rattle.std.specs.Prelude.{ℕ, ◌<◌, ◌++◌, [], ◌∷◌, List}
-use Rattle.txn_trace.specs.declared.entry.Entry.{Entry}
+use Rattle.txn_words.specs.declared.entry.Entry.{Entry}
 use Rattle.history_check.specs.declared.verdict.Verdict.{Verdict}
 use Rattle.history_check.specs.Fed as by_locks
 use Rattle.history_check.specs.Verdicts as on_locks

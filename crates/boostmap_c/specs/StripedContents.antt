@@ -1,7 +1,7 @@
 -- The content of a whole striped map, as a caller tells it to C: the caller takes every stripe, so
 -- no one can change the map meanwhile.
 use Rattle.std.specs.Prelude.{◌≡◌, ◌⊎◌, ℕ, List, [], true, Option, Some, None, Result, Ok, Err}
-use Rattle.txn_trace.specs.Map.{count_of}
+use Rattle.txn_words.specs.Map.{count_of}
 use Rattle.txn_trace.specs.Now.{now}
 use Rattle.striped_map.specs.declared.caller.Caller.{Caller}
 use Rattle.map_answers.specs.declared.stop.Stop.{Stop}

@@ -1,6 +1,6 @@
 //! A map as a whole: made, freed, counted, and helped to grow. These calls need no transaction.
 ghost use Rattle.std.specs.Prelude.{◌≡◌, Some, None};
-ghost use Rattle.txn_trace.specs.Map.{count_of};
+ghost use Rattle.txn_words.specs.Map.{count_of};
 ghost use Rattle.txn_trace.specs.Now.{now};
 ghost use Rattle.boostmap_c.specs.Calls.{Counts, Frees, HelpsWith, Makes};
 

@@ -1,7 +1,7 @@
 //! A checker of either rule, as the handle of a judge owns it. It is one type, since the pointer of
 //! a handle names one.
 ghost use Rattle.std.specs.Prelude.{◌≡◌, ◌<◌, [], IfOk, OnOk, OnErr};
-ghost use Rattle.txn_trace.specs.History.{caller_of};
+ghost use Rattle.txn_words.specs.Kinds.{caller_of};
 ghost use Rattle.boostmap_c.specs.Referees.{IsFedBy, IsVerdictOf, Stays, TakesIn, has_stripes};
 
 use history_check::{Checker as LockChecker, Verdict};

@@ -1,14 +1,14 @@
 -- The text of a core's history is a text of the scripts that its workers played.
 use Rattle.std.proofs.Common.{◌≡◌, ℕ, ◌<◌, List, [], ◌∷◌, ◌++◌, Ok, ap, subst, ◌∙◌}
 use Rattle.std.specs.List.{All}
-use Rattle.txn_trace.specs.declared.holder.Holder.TheVariants.{Now}
-use Rattle.txn_trace.specs.declared.entry.Entry.{Entry}
-use Rattle.txn_trace.specs.Sizes.{Sizes}
-use Rattle.txn_trace.specs.History.{caller_of}
+use Rattle.txn_words.specs.declared.holder.Holder.TheVariants.{Now}
+use Rattle.txn_words.specs.declared.entry.Entry.{Entry}
+use Rattle.txn_words.specs.Sizes.{Sizes}
+use Rattle.txn_words.specs.Kinds.{caller_of}
 use Rattle.txn_trace.specs.Legal.{IsLegal}
 use Rattle.txn_files.specs.HistoryText.{text_of_history}
 use Rattle.txn_files.specs.ScriptFile.{scripts_of}
-use Rattle.txn_trace.specs.Work.{Work}
+use Rattle.txn_words.specs.Work.{Work}
 use Rattle.boost_core.specs.Machine.{State, holder_by}
 use Rattle.script_mix.specs.Crews.{IsMixed}
 use Rattle.boostmap_engine.specs.Mixture.{IsMixtureOf}

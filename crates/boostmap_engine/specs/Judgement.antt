@@ -1,8 +1,8 @@
 -- The line of the verdict on a history file.
 use Rattle.std.specs.Prelude.{◌≡◌, ℕ, Bool, true, false, IsTrue, ◌↔◌, nat_le, if◌then◌else◌, List, ◌++◌, Ok, Err, codes, decimal}
-use Rattle.txn_trace.specs.declared.holder.Holder.{Holder}
-use Rattle.txn_trace.specs.declared.holder.Holder.TheVariants.{Now, Begun}
-use Rattle.txn_trace.specs.declared.entry.Entry.{Entry}
+use Rattle.txn_words.specs.declared.holder.Holder.{Holder}
+use Rattle.txn_words.specs.declared.holder.Holder.TheVariants.{Now, Begun}
+use Rattle.txn_words.specs.declared.entry.Entry.{Entry}
 use Rattle.txn_trace.specs.Legal.{IsLegal, Verdict, Legal, Illegal, verdict}
 use Rattle.txn_files.specs.FileFault.{FileFault}
 use Rattle.txn_files.specs.HistoryFile.{history_of}

@@ -1,12 +1,12 @@
 -- The report of a run of a step file.
 use Rattle.std.specs.Prelude.{◌≡◌, ℕ, List, [], ◌∷◌, ◌++◌, Ok, Err, codes, decimal}
 use Rattle.std.specs.List.{flat_map}
-use Rattle.txn_trace.specs.declared.answer.Answer.{Answer}
-use Rattle.txn_trace.specs.declared.step.Step.{Step}
-use Rattle.txn_trace.specs.Sizes.{Sizes}
-use Rattle.txn_trace.specs.Text.{text_of}
-use Rattle.txn_trace.specs.Map.{count_of}
-use Rattle.txn_trace.specs.Ordered.{ordered}
+use Rattle.txn_words.specs.declared.answer.Answer.{Answer}
+use Rattle.txn_words.specs.declared.step.Step.{Step}
+use Rattle.txn_words.specs.Sizes.{Sizes}
+use Rattle.txn_words.specs.Text.{text_of}
+use Rattle.txn_words.specs.Map.{count_of}
+use Rattle.txn_words.specs.Ordered.{ordered}
 use Rattle.txn_trace.specs.Now.{now}
 use Rattle.txn_files.specs.FileFault.{FileFault}
 use Rattle.txn_files.specs.StepFile.{file_of}

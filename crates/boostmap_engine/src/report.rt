@@ -2,7 +2,7 @@
 //! of the core after the last step. Each answer is written to the text when its step is taken, so
 //! no list of answers is kept.
 ghost use Rattle.std.specs.Prelude.{◌≡◌, ◌++◌, false, List, OnOk, IfOk, IfErr, string_bytes};
-ghost use Rattle.txn_trace.specs.declared.answer.Answer.{Answer};
+ghost use Rattle.txn_words.specs.declared.answer.Answer.{Answer};
 ghost use Rattle.boost_core.specs.Machine.{Moves};
 ghost use Rattle.boostmap_engine.specs.Report.{answers_text, size_text, pairs_text, last_text, IsReport, IsReportOf, IsNoStepFile};
 ghost use Rattle.boostmap_engine.specs.Written.{HasNone};

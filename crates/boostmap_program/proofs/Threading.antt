@@ -2,10 +2,10 @@
 use Rattle.std.proofs.Common.{◌≡◌, ℕ, ◌≤◌, Bool, true, false, ◌&&◌, nat_le, refl, List, [], ◌∷◌, ◌++◌, Result, Ok, Err, ap, subst, sym, ◌∙◌, if◌then◌else◌}
 use Rattle.std.specs.List.{list_all}
 use Rattle.std.proofs.lemmas.Bool.{leb-true}
-use Rattle.txn_trace.specs.declared.action.Action.{Action}
-use Rattle.txn_trace.specs.declared.entry.Entry.{Entry}
-use Rattle.txn_trace.specs.Sizes.{Sizes}
-use Rattle.txn_trace.specs.Work.{Work}
+use Rattle.txn_words.specs.declared.action.Action.{Action}
+use Rattle.txn_words.specs.declared.entry.Entry.{Entry}
+use Rattle.txn_words.specs.Sizes.{Sizes}
+use Rattle.txn_words.specs.Work.{Work}
 use Rattle.piece_files.specs.declared.file_fault.FileFault.{FileFault}
 use Rattle.piece_files.specs.declared.file_fault.FileFault.TheVariants.{Limit}
 use Rattle.piece_files.specs.Faults.{◌>>=◌}

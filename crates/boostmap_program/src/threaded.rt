@@ -12,7 +12,7 @@ use std::sync::Wait;
 use std::thread::Threads;
 use thread_runs::{Open, run_scripts};
 use txn_files::small_history_text;
-use txn_trace::Refusal;
+use txn_words::Refusal;
 
 /// The version of a history file of a run.
 const VERSION: u64 = 3;

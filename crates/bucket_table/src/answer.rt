@@ -1,5 +1,5 @@
 //! The answers of the calls on buckets, and their refusals. `map_ops` converts them to those of
-//! steps: this crate does not use `txn_trace`.
+//! steps: this crate does not use `txn_words`.
 ghost use Rattle.std.specs.Prelude.{◌≡◌};
 ghost use Rattle.bucket_table.specs.Refusals.{refusal_of};
 ghost use Rattle.bucket_table.specs.Text.{refusal_text};

@@ -14,7 +14,7 @@ use boost_core::Core;
 use std::alloc::Global;
 use std::process::Abort;
 use std::test::Fail;
-use txn_trace::{Answer, Entry, Op, Refusal, Step};
+use txn_words::{Answer, Entry, Op, Refusal, Step};
 
 /// A step, by `step` or by `run`, or a plain call. A call for help that succeeds has the answer
 /// `Ready` here, like the step that finds the bucket initialised.

@@ -4,7 +4,7 @@ use boost_core::Core;
 use std::alloc::{AllocError, Global};
 use std::process::Abort;
 use std::test::Fail;
-use txn_trace::{Answer, Entry, Limits, Op, Refusal, SmallEntry, Step, Unpacked};
+use txn_words::{Answer, Entry, Limits, Op, Refusal, SmallEntry, Step, Unpacked};
 
 /// Limits of these numbers that take every key.
 pub(crate) fn limits_of(rt: &impl Abort, callers: u64, stripes: u64, buckets: u64) -> Limits {

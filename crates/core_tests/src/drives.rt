@@ -1,7 +1,7 @@
 //! Drives of calls, turn by turn.
 use std::process::Abort;
 use txn_drive::{Call, Drive, End, Turn};
-use txn_trace::{Answer, Limits, Op, Refusal, Step};
+use txn_words::{Answer, Limits, Op, Refusal, Step};
 
 /// The drive of a caller's call, with limits that take every key or only half keys.
 fn drive_of(rt: &impl Abort, caller: u64, call: Call, takes_half_keys: bool) -> Drive {

@@ -7,7 +7,7 @@ use history_check::{Checker, Rule, Verdict, check};
 use std::alloc::{AllocError, Global};
 use std::process::Abort;
 use std::test::Fail;
-use txn_trace::{Entry, Holder, Op};
+use txn_words::{Entry, Holder, Op};
 
 /// The answer of `check`.
 fn checked(

@@ -8,7 +8,7 @@ use std::alloc::Global;
 use std::process::Abort;
 use std::test::Fail;
 use txn_files::read_scripts;
-use txn_trace::{Entry, Unpacked};
+use txn_words::{Entry, Unpacked};
 
 /// The generator of this seed.
 fn generator_of(seed: u64) -> Pcg32 {

@@ -2,7 +2,7 @@
 use std::alloc::{AllocError, Global};
 use std::process::Abort;
 use std::test::Fail;
-use txn_trace::{Answer, Entry, Limits, Op, Refusal, Reply, Seat, Step, answer_text};
+use txn_words::{Answer, Entry, Limits, Op, Refusal, Reply, Seat, Step, answer_text};
 
 /// An answer and its text.
 const ANSWERS: [(Answer, &str); 26] = [

@@ -4,7 +4,7 @@ use std::alloc::{AllocError, Global};
 use std::process::Abort;
 use std::test::Fail;
 use txn_drive::Turn;
-use txn_trace::{Action, Answer, Limits, Op, Refusal, Script, Step};
+use txn_words::{Action, Answer, Limits, Op, Refusal, Script, Step};
 
 /// Scripts of these actions, one each.
 fn scripts_of(alloc: Global, scripts: &[&[Action]]) -> Result<Vec<Script>, AllocError> {

@@ -12,7 +12,7 @@ use Rattle.piece_files.specs.Faults.{◌>>=◌, or_fault, Fails, Gives}
 use Rattle.piece_files.proofs.Read.{json_of-is, json_of-unread}
 use Rattle.piece_files.proofs.Whole.{fails_first}
 use Rattle.txn_files.specs.Entries.{entry_of}
-use Rattle.txn_trace.specs.declared.entry.Entry.{Entry}
+use Rattle.txn_words.specs.declared.entry.Entry.{Entry}
 use Rattle.entry_lines.specs.EntryLine.{entry_on, entry_in, entry_found, is_blank}
 
 pub entry_on-text : (line text : List ℕ) → length line ≤ 1000 → is_blank line ≡ false → IsUtf8 line → text ≡ line → entry_on line ≡ (or_fault NotJson (read text) >>= entry_in)

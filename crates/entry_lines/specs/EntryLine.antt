@@ -9,7 +9,7 @@ use Rattle.piece_files.specs.Faults.{◌>>=◌, or_fault}
 use Rattle.piece_files.specs.Json.{json_of}
 use Rattle.txn_files.specs.Entries.{entry_of}
 use Rattle.txn_files.specs.HistoryFile.{is_in_range}
-use Rattle.txn_trace.specs.declared.entry.Entry.{Entry}
+use Rattle.txn_words.specs.declared.entry.Entry.{Entry}
 
 -- The greatest number of bytes of a line, without its line feed.
 abbrev pub max_line : ℕ

@@ -1,7 +1,7 @@
 -- A history as lines, one for each entry.
 use Rattle.std.specs.Prelude.{ℕ, List, [], ◌∷◌, ◌++◌}
 use Rattle.std.specs.List.{flat_map}
-use Rattle.txn_trace.specs.declared.entry.Entry.{Entry}
+use Rattle.txn_words.specs.declared.entry.Entry.{Entry}
 use Rattle.txn_files.specs.HistoryText.{entry_text}
 
 -- The line of an entry: its array, and a line feed.

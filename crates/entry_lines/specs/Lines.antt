@@ -2,7 +2,7 @@
 use Rattle.std.specs.Prelude.{ℕ, ◌+◌, ◌==◌, List, [], ◌∷◌, Option, Some, None, Ok, Err}
 use Rattle.std.specs.List.{slice_split}
 use Rattle.piece_files.specs.declared.file_fault.FileFault.{FileFault}
-use Rattle.txn_trace.specs.declared.entry.Entry.{Entry}
+use Rattle.txn_words.specs.declared.entry.Entry.{Entry}
 use Rattle.entry_lines.specs.EntryLine.{entry_on}
 
 -- The lines that bytes are: the parts before, between and after line feeds. The last has no line

@@ -6,7 +6,7 @@ ghost use Rattle.txn_files.specs.Entries.{busy_of, entry_named, entry_of, transa
 ghost use Rattle.txn_files.specs.Operations.{op_at, op_of, put_if_at};
 
 use piece_files::{Plain, end_in, leading_optional_in, number_in, one_in, optional_in, word_in};
-use txn_trace::{Entry, Op};
+use txn_words::{Entry, Op};
 
 /// A `put_if` of this key, from the elements after it, and the rest of the elements.
 #[tactic(auto, unfolding(txn_files::specs::Operations::put_if_at))]

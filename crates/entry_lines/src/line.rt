@@ -9,7 +9,7 @@ ghost use Rattle.piece_files.specs.Faults.{Fails, Gives, or_fault};
 ghost use Rattle.piece_files.specs.Tokens.{value_at, items_at, items_from};
 ghost use Rattle.piece_files.specs.declared.file_fault.FileFault.TheVariants.{NotJson};
 ghost use Rattle.piece_files.specs.declared.stop.Stop.TheVariants as stops;
-ghost use Rattle.txn_trace.specs.History.{caller_of};
+ghost use Rattle.txn_words.specs.Kinds.{caller_of};
 ghost use Rattle.txn_files.specs.Entries.{entry_of};
 ghost use Rattle.txn_files.specs.HistoryFile.{is_in_range};
 ghost use Rattle.entry_lines.specs.EntryLine.{entry_found, entry_on, is_blank, is_space};
@@ -19,7 +19,7 @@ use arrayvec::ArrayVec;
 use json::{Reader, Scratch, Token};
 use piece_files::{FileFault, Plain, Stop, pass_value, plain_elements, whole_array};
 use std::alloc::Global;
-use txn_trace::{Entry, Limits};
+use txn_words::{Entry, Limits};
 
 /// The greatest number of bytes of a line.
 const MAX_LINE: usize = 1000;

@@ -3,12 +3,12 @@ ghost use Rattle.std.specs.Prelude.{◌≡◌, [], ◌∷◌, ◌++◌, decimal,
 ghost use Rattle.std.specs.List.{join_with_byte};
 ghost use Rattle.txn_files.specs.HistoryText.{array_text, comma, optional_text, quoted};
 ghost use Rattle.txn_files.specs.Operations.{elements_of_op};
-ghost use Rattle.txn_trace.specs.declared.entry.Entry.TheVariants as entries;
+ghost use Rattle.txn_words.specs.declared.entry.Entry.TheVariants as entries;
 ghost use Rattle.entry_lines.specs.LineText.{line_of, text_of_lines};
 
 use std::alloc::{AllocError, Global};
 use std::fmt;
-use txn_trace::{Entry, Op};
+use txn_words::{Entry, Op};
 
 /// A number, or null.
 #[derive(Clone, Copy)]

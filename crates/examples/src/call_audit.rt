@@ -2,7 +2,7 @@
 use audit::is_legal;
 use std::io;
 use std::io::Print;
-use txn_trace::{Entry, Op};
+use txn_words::{Entry, Op};
 
 /// The number of stripes of the map whose histories are judged.
 const STRIPES: u64 = 8;

@@ -6,7 +6,7 @@ use bank::transfer;
 use owned_map::{OwnedMap, Stop, Transaction};
 use std::io;
 use std::io::Print;
-use txn_trace::Limits;
+use txn_words::Limits;
 
 /// Puts the first balances of two accounts.
 #[tactic(auto, using(owned_map::proofs::Calls::keeps_stay, owned_map::proofs::Calls::keeps_on))]

@@ -7,7 +7,7 @@ use std::marker::Brand;
 use std::sync::Wait;
 use std::sync::ledger::Blank;
 use std::thread::Threads;
-use txn_trace::{Limits, Refusal};
+use txn_words::{Limits, Refusal};
 use visits::{Answer, Visit, visit_all};
 
 /// The values that the visitors put.

@@ -15,7 +15,7 @@ use std::sync::Wait;
 use std::sync::ledger::{Blank, Ledger};
 use std::thread::Threads;
 use std::{io, thread};
-use txn_trace::{Limits, Refusal};
+use txn_words::{Limits, Refusal};
 
 /// The number of workers. Each has its own thread.
 const WORKERS: u64 = 4;

@@ -16,7 +16,7 @@ use std::sync::Wait;
 use std::sync::ledger::{Blank, Ledger};
 use std::thread::Threads;
 use std::{io, thread};
-use txn_trace::{Limits, Refusal};
+use txn_words::{Limits, Refusal};
 
 /// The number of threads. Each has its own caller.
 const THREADS: u64 = 4;

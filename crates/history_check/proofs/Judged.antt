@@ -1,9 +1,9 @@
 -- The tests of an entry: its shape and its reply.
 use Rattle.std.proofs.Common.{◌≡◌, ℕ, true, List, [], ◌∷◌, ◌++◌, refl, sym, ◌∙◌, Option}
-use Rattle.txn_trace.specs.declared.entry.Entry.{Entry}
-use Rattle.txn_trace.specs.declared.holder.Holder.{Holder}
-use Rattle.txn_trace.specs.declared.entry.Entry.TheVariants.{Did}
-use Rattle.txn_trace.specs.Shape.{is_shaped}
+use Rattle.txn_words.specs.declared.entry.Entry.{Entry}
+use Rattle.txn_words.specs.declared.holder.Holder.{Holder}
+use Rattle.txn_words.specs.declared.entry.Entry.TheVariants.{Did}
+use Rattle.txn_words.specs.Shape.{is_shaped}
 use Rattle.txn_trace.specs.Legal.{IsLegal, replies_hold}
 use Rattle.txn_trace.proofs.Breaking.{is_right, replies_hold-push}
 

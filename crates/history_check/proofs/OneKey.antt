@@ -11,9 +11,8 @@ use Rattle.std.proofs.Math.ListN.{set}
 use Rattle.std.proofs.lemmas.Bool.{ne_eqb}
 use Rattle.std.proofs.lemmas.List.Elements.{All-head, All-tail}
 use Rattle.std.proofs.lemmas.Option.{slice_get_read}
-use Rattle.txn_trace.specs.Map.{Map, empty, get}
-use Rattle.txn_trace.specs.Now.{set_at}
-use Rattle.txn_trace.proofs.Table.{get-set_at}
+use Rattle.txn_words.specs.Map.{Map, empty, get, set_at}
+use Rattle.txn_words.proofs.Maps.{get-set_at}
 use Rattle.history_check.specs.declared.values.Values.{Values}
 use Rattle.history_check.specs.Remainders.{HasOf, Have}
 use Rattle.history_check.proofs.Seating.{each-set, if_some, at_some}

@@ -6,13 +6,13 @@ use Rattle.std.proofs.Math.ListN.{set}
 use Rattle.std.proofs.lemmas.Bool.{false≢true, and_parts}
 use Rattle.std.proofs.lemmas.List.Elements.{All-push}
 use Rattle.std.proofs.lemmas.Option.{slice_get_read}
-use Rattle.txn_trace.specs.declared.op.Op.{Op}
-use Rattle.txn_trace.specs.declared.entry.Entry.{Entry}
-use Rattle.txn_trace.specs.declared.entry.Entry.TheVariants.{Began, Asked, Did, Saved, Leave, Undone, Returned, Committed, Busy, Aborted}
-use Rattle.txn_trace.specs.declared.seat.Phase.{Phase}
-use Rattle.txn_trace.specs.declared.seat.Phase.TheVariants.{Waiting}
-use Rattle.txn_trace.specs.History.{caller_of, is_began, is_commit}
-use Rattle.txn_trace.specs.Shape.{Seat, row, seat_after, own, how_many, is_numbered, is_shaped}
+use Rattle.txn_words.specs.declared.op.Op.{Op}
+use Rattle.txn_words.specs.declared.entry.Entry.{Entry}
+use Rattle.txn_words.specs.declared.entry.Entry.TheVariants.{Began, Asked, Did, Saved, Leave, Undone, Returned, Committed, Busy, Aborted}
+use Rattle.txn_words.specs.declared.seat.Phase.{Phase}
+use Rattle.txn_words.specs.declared.seat.Phase.TheVariants.{Waiting}
+use Rattle.txn_words.specs.Kinds.{caller_of, is_began, is_commit}
+use Rattle.txn_words.specs.Shape.{Seat, row, seat_after, own, how_many, is_numbered, is_shaped}
 use Rattle.txn_trace.specs.Log.{Log, log_of, log_after, log_step, log_did}
 use Rattle.txn_trace.proofs.Callers.{shaped_seat}
 use Rattle.txn_trace.proofs.Entries.{length-log_of}

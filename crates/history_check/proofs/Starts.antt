@@ -6,9 +6,9 @@ use Rattle.std.specs.List.{All, fold, range_with_len, count_by}
 use Rattle.std.proofs.lemmas.List.Elements.{All-nil, All-head, All-tail}
 use Rattle.std.proofs.lemmas.List.Sums.{length-filter, sum_by-cons}
 use mathlib.Core.List.{IsPrefix}
-use Rattle.txn_trace.specs.declared.entry.Entry.{Entry}
-use Rattle.txn_trace.specs.History.{caller_of}
-use Rattle.txn_trace.specs.Shape.{closed_seat, seat_after, own}
+use Rattle.txn_words.specs.declared.entry.Entry.{Entry}
+use Rattle.txn_words.specs.Kinds.{caller_of}
+use Rattle.txn_words.specs.Shape.{closed_seat, seat_after, own}
 use Rattle.txn_trace.specs.Legal.{runs, is_running, callers_in, running}
 use Rattle.txn_trace.proofs.Counts.{length-open_txns}
 use Rattle.history_check.specs.declared.caller.Caller.{Caller}

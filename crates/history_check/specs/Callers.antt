@@ -2,14 +2,14 @@
 use Rattle.std.specs.Prelude.{◌≡◌, ◌||◌, ℕ, ◌<◌, true, Option, Some, None, List, reverse, slice_get, vec_len, vec_capacity}
 use Rattle.std.specs.List.{All}
 use Rattle.std.specs.Option.{IfSome}
-use Rattle.txn_trace.specs.declared.entry.Entry.{Entry}
-use Rattle.txn_trace.specs.declared.seat.Phase.{Phase}
-use Rattle.txn_trace.specs.declared.seat.Phase.TheVariants.{LeavingTo, LeavingToEnd}
-use Rattle.txn_trace.specs.History.{caller_of, is_began, is_commit}
+use Rattle.txn_words.specs.declared.entry.Entry.{Entry}
+use Rattle.txn_words.specs.declared.seat.Phase.{Phase}
+use Rattle.txn_words.specs.declared.seat.Phase.TheVariants.{LeavingTo, LeavingToEnd}
+use Rattle.txn_words.specs.Kinds.{caller_of, is_began, is_commit}
 use Rattle.txn_trace.specs.Locks.{has_begun}
 use Rattle.txn_trace.specs.Log.{log_of}
-use Rattle.txn_trace.specs.Seats.{is_saved}
-use Rattle.txn_trace.specs.Shape.{Seat, row, seat_after, own, how_many, IsShaped}
+use Rattle.txn_words.specs.Seats.{is_saved}
+use Rattle.txn_words.specs.Shape.{Seat, row, seat_after, own, how_many, IsShaped}
 use Rattle.history_check.specs.declared.caller.Caller.{Caller}
 use Rattle.history_check.specs.declared.callers.Callers.{Callers}
 use Rattle.history_check.specs.Logs.{is_did, log_entered}

@@ -1,7 +1,7 @@
 -- Which entries a checker was fed.
 use Rattle.std.specs.Prelude.{ℕ, List}
-use Rattle.txn_trace.specs.declared.entry.Entry.{Entry}
-use Rattle.txn_trace.specs.declared.holder.Holder.{Holder}
+use Rattle.txn_words.specs.declared.entry.Entry.{Entry}
+use Rattle.txn_words.specs.declared.holder.Holder.{Holder}
 use Rattle.txn_trace.specs.Legal.{broken}
 use Rattle.history_check.specs.declared.checker.Checker.{Checker}
 use Rattle.history_check.specs.FirstBad.{FedBy}

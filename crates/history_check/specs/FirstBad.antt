@@ -1,8 +1,8 @@
 -- The first bad entry of a history, by any rule that says which entry breaks it after a beginning.
 use Rattle.std.specs.Prelude.{◌≡◌, ℕ, ◌+◌, Option, Some, None, List, [], ◌∷◌, ◌++◌, length}
-use Rattle.txn_trace.specs.declared.entry.Entry.{Entry}
-use Rattle.txn_trace.specs.History.{is_commit}
-use Rattle.txn_trace.specs.Shape.{how_many}
+use Rattle.txn_words.specs.declared.entry.Entry.{Entry}
+use Rattle.txn_words.specs.Kinds.{is_commit}
+use Rattle.txn_words.specs.Shape.{how_many}
 use Rattle.txn_trace.specs.Legal.{Verdict, Legal, Illegal, callers_in, running}
 use Rattle.history_check.specs.declared.verdict.Rule.{Rule}
 use Rattle.history_check.specs.Verdicts.{number_of}

@@ -1,10 +1,10 @@
 -- What the live map of a checker says of the entries so far.
 use Rattle.std.specs.Prelude.{◌≡◌, ℕ, ◌<◌, Bool, true, List, [], ◌∷◌, ◌++◌}
-use Rattle.txn_trace.specs.declared.entry.Entry.{Entry}
-use Rattle.txn_trace.specs.declared.holder.Holder.{Holder}
+use Rattle.txn_words.specs.declared.entry.Entry.{Entry}
+use Rattle.txn_words.specs.declared.holder.Holder.{Holder}
 use Rattle.txn_trace.specs.Now.{now}
 use Rattle.txn_trace.specs.Locks.{holder_of, is_locked}
-use Rattle.txn_trace.specs.Shape.{is_shaped}
+use Rattle.txn_words.specs.Shape.{is_shaped}
 use Rattle.txn_trace.specs.Legal.{IsLegal, replies_hold}
 use Rattle.key_locks.specs.Locks as locks
 use Rattle.history_check.specs.declared.callers.Callers.{Callers}

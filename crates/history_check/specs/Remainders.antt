@@ -3,7 +3,7 @@ use Rattle.std.specs.Prelude.{◌≡◌, ℕ, ◌%◌, slice_get}
 use Rattle.std.specs.Option.{IfSome}
 use Rattle.std.specs.Ordering.{nat_cmp}
 use Rattle.std.specs.BTreeMap.{BTreeMap, get as value_at}
-use Rattle.txn_trace.specs.Map.{Map, get}
+use Rattle.txn_words.specs.Map.{Map, get}
 use Rattle.history_check.specs.declared.values.Values.{Values}
 
 -- A sorted map has the same value at each key that has this remainder.

@@ -1,7 +1,7 @@
 -- What the state of a checker says of the entries so far.
 use Rattle.std.specs.Prelude.{◌≡◌, ℕ, Option, None, Some, List, [], ◌∷◌, ◌++◌}
-use Rattle.txn_trace.specs.declared.entry.Entry.{Entry}
-use Rattle.txn_trace.specs.declared.holder.Holder.{Holder}
+use Rattle.txn_words.specs.declared.entry.Entry.{Entry}
+use Rattle.txn_words.specs.declared.holder.Holder.{Holder}
 use Rattle.txn_trace.specs.Legal.{IsLegal, broken}
 use Rattle.history_check.specs.declared.state.State.{State}
 use Rattle.history_check.specs.declared.verdict.Rule.{Rule}

@@ -2,7 +2,7 @@
 use Rattle.std.specs.Prelude.{◌≡◌, ℕ}
 use Rattle.std.specs.Ordering.{nat_cmp}
 use Rattle.std.specs.BTreeMap.{BTreeMap, get as value_at}
-use Rattle.txn_trace.specs.Map.{Map, get}
+use Rattle.txn_words.specs.Map.{Map, get}
 
 -- They have the same value at each key.
 abbrev pub Has : Map → BTreeMap ℕ ℕ → Type 0

@@ -1,8 +1,8 @@
 //! What a caller's entries so far make of it: its seat, whether it has begun, and the value before
 //! each of its standing changes. Going back drops the newest of these.
 ghost use Rattle.std.specs.Prelude.{◌≡◌, ◌<◌, [], true, false, reverse, slice_get, vec_len, vec_capacity, is_some, OnOk};
-ghost use Rattle.txn_trace.specs.History.{is_began};
-ghost use Rattle.txn_trace.specs.Shape.{closed_seat, row};
+ghost use Rattle.txn_words.specs.Kinds.{is_began};
+ghost use Rattle.txn_words.specs.Shape.{closed_seat, row};
 ghost use Rattle.txn_trace.specs.Legal.{runs};
 ghost use Rattle.history_check.specs.Logs.{is_did, log_entered};
 

@@ -2,9 +2,9 @@
 //! It keeps each caller's seat and how many transactions began and committed; an entry takes
 //! constant time.
 ghost use Rattle.std.specs.Prelude.{◌≡◌, ℕ, ◌+◌, ◌<◌, ◌==◌, ◌++◌, [], ◌∷◌, List, length, true, slice_get, IfOk, OnOk, vec_len};
-ghost use Rattle.txn_trace.specs.History.{caller_of, is_began, is_commit};
-ghost use Rattle.txn_trace.specs.Shape.{how_many, is_numbered, is_shaped};
-ghost use Rattle.txn_trace.specs.declared.entry.Entry.{Entry};
+ghost use Rattle.txn_words.specs.Kinds.{caller_of, is_began, is_commit};
+ghost use Rattle.txn_words.specs.Shape.{how_many, is_numbered, is_shaped};
+ghost use Rattle.txn_words.specs.declared.entry.Entry.{Entry};
 
 use crate::caller::Caller;
 use key_locks::CALLERS;

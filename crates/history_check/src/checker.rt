@@ -1,8 +1,8 @@
 //! A checker that is fed the entries of a history one after another. Once an entry breaks a rule,
 //! the verdict stays, whatever is fed after it.
 ghost use Rattle.std.specs.Prelude.{◌≡◌, ℕ, ◌<◌, ◌++◌, [], ◌∷◌, List, IfOk, OnOk, OnErr};
-ghost use Rattle.txn_trace.specs.History.{caller_of};
-ghost use Rattle.txn_trace.specs.declared.holder.Holder.{Holder};
+ghost use Rattle.txn_words.specs.Kinds.{caller_of};
+ghost use Rattle.txn_words.specs.declared.holder.Holder.{Holder};
 ghost use Rattle.history_check.specs.Verdicts.{IsVerdictOn};
 
 use crate::callers::Callers;
@@ -26,7 +26,7 @@ pub struct Checker {
 
 impl Checker {
     ghost use Rattle.txn_trace.specs.Legal.{IsLegal};
-    ghost use Rattle.txn_trace.specs.Map.{get};
+    ghost use Rattle.txn_words.specs.Map.{get};
     ghost use Rattle.txn_trace.specs.Now.{now};
     ghost use Rattle.history_check.specs.Callers.{HaveEntered};
     ghost use Rattle.history_check.specs.Fed.{IsFed};

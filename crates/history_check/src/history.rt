@@ -2,7 +2,7 @@
 //! unpacked one at a time.
 ghost use Rattle.std.specs.Prelude.{◌<◌, IfOk};
 ghost use Rattle.std.specs.List.{All};
-ghost use Rattle.txn_trace.specs.History.{caller_of};
+ghost use Rattle.txn_words.specs.Kinds.{caller_of};
 ghost use Rattle.history_check.specs.Verdicts.{IsVerdictOn};
 
 use crate::checker::Checker;

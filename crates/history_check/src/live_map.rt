@@ -1,9 +1,9 @@
 //! The judge of replies and of locks: the map as it is now, and who holds its stripes. Apart from
 //! the judge of shape, since serializable histories need that one and not this.
 ghost use Rattle.std.specs.Prelude.{◌≡◌, ℕ, ◌<◌, ◌++◌, [], ◌∷◌, List, length, true, IfOk, OnOk, OnErr};
-ghost use Rattle.txn_trace.specs.History.{caller_of};
+ghost use Rattle.txn_words.specs.Kinds.{caller_of};
 ghost use Rattle.txn_trace.specs.Legal.{IsLegal};
-ghost use Rattle.txn_trace.specs.declared.holder.Holder.{Holder};
+ghost use Rattle.txn_words.specs.declared.holder.Holder.{Holder};
 
 use crate::callers::Callers;
 use crate::values::Values;
@@ -29,7 +29,7 @@ pub(crate) struct LiveMap {
 impl LiveMap {
     ghost use Rattle.txn_trace.specs.Legal.{replies_hold};
     ghost use Rattle.txn_trace.specs.Locks.{is_locked};
-    ghost use Rattle.txn_trace.specs.Shape.{is_shaped};
+    ghost use Rattle.txn_words.specs.Shape.{is_shaped};
     ghost use Rattle.history_check.specs.Callers.{HaveEntered, IsIn};
     ghost use Rattle.history_check.specs.LiveMaps.{Shows, Follows, Keeps};
 

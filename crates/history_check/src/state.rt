@@ -1,7 +1,7 @@
 //! What a checker keeps of the history that it was fed: callers and live map, and whether an entry
 //! was bad. Its view is the history; no list of the entries is kept.
 ghost use Rattle.std.specs.Prelude.{◌<◌, [], IfOk, OnErr};
-ghost use Rattle.txn_trace.specs.History.{caller_of};
+ghost use Rattle.txn_words.specs.Kinds.{caller_of};
 
 use crate::callers::Callers;
 use crate::live_map::LiveMap;

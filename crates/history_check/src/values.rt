@@ -2,8 +2,7 @@
 //! operation, and the taking back of one. Few keys fall to each of the maps, so that a look-up reads
 //! less memory than in one map of all keys; keys of one remainder cost the logarithm of their number.
 ghost use Rattle.std.specs.Prelude.{◌≡◌, Option, Some, None, IfOk, OnOk, OnErr, vec_len};
-ghost use Rattle.txn_trace.specs.Map.{Map, empty, get, after};
-ghost use Rattle.txn_trace.specs.Now.{set_at};
+ghost use Rattle.txn_words.specs.Map.{Map, empty, get, after, set_at};
 
 use std::alloc::{AllocError, Global};
 use std::collections::BTreeMap;

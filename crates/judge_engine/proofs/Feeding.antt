@@ -1,7 +1,7 @@
 -- Feeding a judge.
 use Rattle.std.proofs.Common.{◌≡◌, ℕ, List, [], ◌∷◌, ◌++◌, subst}
-use Rattle.txn_trace.specs.declared.entry.Entry.{Entry}
-use Rattle.txn_trace.specs.declared.holder.Holder.{Holder}
+use Rattle.txn_words.specs.declared.entry.Entry.{Entry}
+use Rattle.txn_words.specs.declared.holder.Holder.{Holder}
 use Rattle.history_check.specs.declared.checker.Checker as locks_checker
 use Rattle.history_check.specs.Fed as locks
 use Rattle.serial_check.specs.declared.checker.Checker as commits_checker

@@ -1,7 +1,7 @@
 -- A bad entry stays the first bad one, whatever comes after.
 use Rattle.std.proofs.Common.{◌≡◌, ℕ, ◌+◌, List, [], ◌∷◌, ◌++◌, Option, Some, None, refl, ◌∙◌}
-use Rattle.txn_trace.specs.declared.entry.Entry.{Entry}
-use Rattle.txn_trace.specs.declared.holder.Holder.{Holder}
+use Rattle.txn_words.specs.declared.entry.Entry.{Entry}
+use Rattle.txn_words.specs.declared.holder.Holder.{Holder}
 use Rattle.txn_trace.specs.Legal as legal
 use Rattle.txn_trace.proofs.Judging.{legal_iff}
 use Rattle.serial_check.specs.Serializable as serializable

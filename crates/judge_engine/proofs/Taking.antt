@@ -1,7 +1,7 @@
 -- What a watcher took in, and what follows for the verdict.
 use Rattle.std.proofs.Common.{◌≡◌, ℕ, ◌+◌, true, false, List, [], ◌∷◌, ◌++◌, Option, Some, None, is_some, refl, sym, ap, subst, ◌∙◌, append-nil}
 use Rattle.std.specs.Option.{SomeIff}
-use Rattle.txn_trace.specs.declared.entry.Entry.{Entry}
+use Rattle.txn_words.specs.declared.entry.Entry.{Entry}
 use Rattle.piece_files.specs.declared.file_fault.FileFault.{FileFault}
 use Rattle.history_check.specs.declared.verdict.Rule.{Rule}
 use Rattle.history_check.specs.declared.verdict.Verdict.{Verdict}

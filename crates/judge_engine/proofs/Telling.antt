@@ -6,8 +6,8 @@ use Rattle.std.specs.List.{filter}
 use Rattle.script_outcomes.specs.declared.outcome.Outcome.{Outcome}
 use Rattle.judge_engine.specs.declared.outcomes.Kind.{Kind}
 use Rattle.std.specs.Prelude.{◌↔◌, IfSome}
-use Rattle.txn_trace.specs.declared.entry.Entry.{Entry}
-use Rattle.txn_trace.specs.Work.{Work}
+use Rattle.txn_words.specs.declared.entry.Entry.{Entry}
+use Rattle.txn_words.specs.Work.{Work}
 use Rattle.txn_files.specs.HistoryFile.{history_of}
 use Rattle.txn_files.specs.ScriptFile.{scripts_of}
 use Rattle.piece_files.specs.Faults.{Fails}

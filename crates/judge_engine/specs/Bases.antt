@@ -1,6 +1,6 @@
 -- By which rules a history is judged.
 use Rattle.std.specs.Prelude.{◌<◌, List}
-use Rattle.txn_trace.specs.declared.entry.Entry.{Entry}
+use Rattle.txn_words.specs.declared.entry.Entry.{Entry}
 use Rattle.txn_trace.specs.Legal.{IsLegal}
 use Rattle.history_check.specs.declared.verdict.Verdict.{Verdict}
 use Rattle.history_check.specs.Fed as locks

@@ -1,8 +1,8 @@
 -- What is said of a history file.
 use Rattle.std.specs.Prelude.{◌≡◌, ℕ, Bool, true, false, nat_le, List, take, Option, Ok, Err, IfSome, if◌then◌else◌}
-use Rattle.txn_trace.specs.declared.entry.Entry.{Entry}
-use Rattle.txn_trace.specs.declared.holder.Holder.{Holder}
-use Rattle.txn_trace.specs.declared.holder.Holder.TheVariants.{Now, Begun}
+use Rattle.txn_words.specs.declared.entry.Entry.{Entry}
+use Rattle.txn_words.specs.declared.holder.Holder.{Holder}
+use Rattle.txn_words.specs.declared.holder.Holder.TheVariants.{Now, Begun}
 use Rattle.txn_files.specs.HistoryFile.{history_of}
 use Rattle.history_check.specs.declared.verdict.Verdict.{Verdict}
 use Rattle.judge_engine.specs.declared.basis.Basis.{Basis}

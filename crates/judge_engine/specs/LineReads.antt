@@ -1,6 +1,6 @@
 -- What reading a line does to a judge.
 use Rattle.std.specs.Prelude.{◌≡◌, List, [], ◌∷◌, ◌++◌, Option, Some, None, Result, Ok, Err}
-use Rattle.txn_trace.specs.declared.entry.Entry.{Entry}
+use Rattle.txn_words.specs.declared.entry.Entry.{Entry}
 use Rattle.piece_files.specs.declared.file_fault.FileFault.{FileFault}
 use Rattle.judge_engine.specs.declared.basis.Basis.{Basis}
 use Rattle.judge_engine.specs.declared.judge.Judge.{Judge}

@@ -1,6 +1,6 @@
 -- What a watcher makes of the bytes that it took in.
 use Rattle.std.specs.Prelude.{◌≡◌, ℕ, List, ◌++◌, Option, Some, None}
-use Rattle.txn_trace.specs.declared.entry.Entry.{Entry}
+use Rattle.txn_words.specs.declared.entry.Entry.{Entry}
 use Rattle.piece_files.specs.declared.file_fault.FileFault.{FileFault}
 use Rattle.entry_lines.specs.Lines.{history_from, history_of_lines, lines_of}
 use Rattle.judge_engine.specs.declared.basis.Basis.{Basis}

@@ -1,7 +1,7 @@
 //! A history file.
 ghost use Rattle.std.specs.Prelude.{◌≡◌, ◌<◌, IfOk, IfErr};
 ghost use Rattle.std.specs.List.{All};
-ghost use Rattle.txn_trace.specs.History.{caller_of};
+ghost use Rattle.txn_words.specs.Kinds.{caller_of};
 ghost use Rattle.piece_files.specs.Faults.{Gives};
 ghost use Rattle.txn_files.specs.HistoryFile.{history_of};
 ghost use Rattle.judge_engine.specs.declared.basis.Basis.TheVariants as bases;

@@ -1,7 +1,7 @@
 //! A checker of either kind.
 ghost use Rattle.std.specs.Prelude.{◌≡◌, ◌<◌, ◌++◌, [], ◌∷◌, List, IfOk, OnOk};
-ghost use Rattle.txn_trace.specs.declared.entry.Entry.{Entry};
-ghost use Rattle.txn_trace.specs.History.{caller_of};
+ghost use Rattle.txn_words.specs.declared.entry.Entry.{Entry};
+ghost use Rattle.txn_words.specs.Kinds.{caller_of};
 ghost use Rattle.judge_engine.specs.declared.basis.Basis.{Basis};
 
 use crate::basis::Basis;

@@ -3,7 +3,7 @@
 //! The wording is tested and not proved. What the words say is the reason of `bad_entry`.
 ghost use Rattle.std.specs.Prelude.{◌<◌, IfSome};
 ghost use Rattle.std.specs.List.{All};
-ghost use Rattle.txn_trace.specs.History.{caller_of};
+ghost use Rattle.txn_words.specs.Kinds.{caller_of};
 
 use bad_entry::{Change, Fate, Held, Reason, fate_of, last_change, last_commit, txn_of};
 use entry_lines::history_lines;

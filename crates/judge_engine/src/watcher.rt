@@ -1,7 +1,7 @@
 //! Entries that come as lines, in parts of any length: what is kept between two parts.
 ghost use Rattle.std.specs.Prelude.{◌≡◌, ◌++◌, [], ◌∷◌, ℕ, List, Option, Some, None, Ok, IfOk, IfErr, OnOk, IfSome, MatchResult};
 ghost use Rattle.std.specs.List.{position};
-ghost use Rattle.txn_trace.specs.declared.entry.Entry.{Entry};
+ghost use Rattle.txn_words.specs.declared.entry.Entry.{Entry};
 ghost use Rattle.entry_lines.specs.EntryLine.{entry_on};
 ghost use Rattle.judge_engine.specs.declared.basis.Basis.{Basis};
 ghost use Rattle.judge_engine.specs.declared.fault.Fault.TheVariants as faults;

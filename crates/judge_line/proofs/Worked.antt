@@ -3,7 +3,7 @@ use Rattle.std.proofs.Common.{true, false, inl, List, [], ◌∷◌, Some, None,
 use Rattle.clap.specs.declared.error.kind.ErrorKind.TheVariants.{ArgumentConflict, DisplayHelp, DisplayVersion, MissingRequiredArgument, MissingSubcommand, UnknownArgument}
 use Rattle.clap.specs.Words.{Text}
 use Rattle.clap.proofs.OnLiterals.{clap_on_literals}
-use Rattle.txn_trace.specs.declared.holder.Holder.TheVariants.{Begun}
+use Rattle.txn_words.specs.declared.holder.Holder.TheVariants.{Begun}
 use Rattle.judge_engine.specs.declared.basis.Basis.TheVariants.{Locks, Commits}
 use Rattle.judge_line.specs.Words.{Asks, Check, Why, Watch, Outcomes, Help, Version}
 

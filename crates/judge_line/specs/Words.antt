@@ -11,7 +11,7 @@ use Rattle.clap.specs.Words.{App, IsAmong, Kinds, Rule, Row, Text, fault_of, fir
 use Rattle.clap.specs.Words.{new_app, new_rule, subcommand_of, with_rule, with_subcommand}
 use Rattle.clap.specs.Simple.{on_top}
 use Rattle.program_host.specs.Words.{is_numeral}
-use Rattle.txn_trace.specs.declared.holder.Holder.TheVariants.{Begun}
+use Rattle.txn_words.specs.declared.holder.Holder.TheVariants.{Begun}
 use Rattle.judge_engine.specs.declared.basis.Basis.{Basis}
 use Rattle.judge_engine.specs.declared.basis.Basis.TheVariants.{Locks, Commits}
 use Rattle.judge_engine.specs.Bases.{HasStripes}

@@ -17,7 +17,7 @@ use clap::error::ErrorKind;
 use clap::{Arg, ArgAction, ArgMatches, Command};
 use judge_engine::{Basis, Fault};
 use std::alloc::{AllocError, Global};
-use txn_trace::Holder;
+use txn_words::Holder;
 
 /// What the words of a call ask for.
 #[derive(Clone, Copy, Debug, PartialEq, Eq)]

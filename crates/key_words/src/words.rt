@@ -14,7 +14,7 @@ use crate::view::View;
 use atomic_table::{Refused, Seat, Table};
 use key_locks::StripeRight;
 use std::alloc::{AllocError, Global};
-use txn_trace::Refusal;
+use txn_words::Refusal;
 
 /// A word for each stripe, and the rights of the stripes that no seat holds.
 #[derive(Drop)]

@@ -2,9 +2,9 @@
 use Rattle.std.proofs.Common.{◌≡◌, ℕ, ◌+◌, ◌<◌, ◌==◌, ◌↔◌, cond, List, ◌∷◌, drop, get_or, length, ap, sym, ◌∙◌}
 use Rattle.std.proofs.lemmas.Bool.{eq-eqb, ne_eqb}
 use Rattle.std.proofs.lemmas.List.{drop_more}
-use Rattle.txn_trace.specs.History.{caller_of}
-use Rattle.txn_trace.specs.Shape.{own}
-use Rattle.txn_trace.specs.declared.entry.Entry.{Entry}
+use Rattle.txn_words.specs.Kinds.{caller_of}
+use Rattle.txn_words.specs.Shape.{own}
+use Rattle.txn_words.specs.declared.entry.Entry.{Entry}
 
 -- A caller's own entries from one position on.
 pub own_drop : (c : ℕ) (h : List Entry) (i : ℕ) (d : Entry) → i < length h → own c (drop i h) ≡ cond (caller_of (get_or h i d) == c) (get_or h i d ∷ own c (drop (i + 1) h)) (own c (drop (i + 1) h))

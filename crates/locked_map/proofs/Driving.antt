@@ -1,8 +1,8 @@
 -- A call in progress, from hold to hold.
 use Rattle.std.proofs.Common.{◌≡◌, ◌∙◌, ℕ, suc, [], ◌++◌, Option, Some, None, refl, sym, ap, subst}
 use Rattle.std.proofs.lemmas.List.{append-nil}
-use Rattle.txn_trace.specs.Shape.{seat_after}
-use Rattle.txn_trace.specs.Sizes.{Sizes}
+use Rattle.txn_words.specs.Shape.{seat_after}
+use Rattle.txn_words.specs.Sizes.{Sizes}
 use Rattle.txn_drive.specs.declared.call.Call.{Call}
 use Rattle.txn_drive.specs.declared.drive.Drive.{Drive}
 use Rattle.txn_drive.specs.declared.«end».End.{End}

@@ -2,14 +2,14 @@
 -- stored.
 use Rattle.std.proofs.Common.{◌≡◌, ℕ, ◌<◌, ◌==◌, ◌&&◌, ◌^◌, ◌%◌, nat_lt, Bool, true, false, if◌then◌else◌, List, Option, Some, None, refl, sym, ap, subst, ◌∙◌, arith}
 use Rattle.std.proofs.lemmas.Bool.{eqb-true}
-use Rattle.txn_trace.specs.declared.answer.Answer.{Answer}
-use Rattle.txn_trace.specs.declared.answer.Answer.TheVariants as answers
-use Rattle.txn_trace.specs.declared.entry.Entry.{Entry}
-use Rattle.txn_trace.specs.declared.refusal.Refusal.{Refusal}
-use Rattle.txn_trace.specs.declared.refusal.Refusal.TheVariants.{NoMemory, OutOfStep, StampsUsedUp}
-use Rattle.txn_trace.specs.declared.step.Step.{Step}
-use Rattle.txn_trace.specs.declared.step.Step.TheVariants as steps
-use Rattle.txn_trace.specs.Shape.{Seat}
+use Rattle.txn_words.specs.declared.answer.Answer.{Answer}
+use Rattle.txn_words.specs.declared.answer.Answer.TheVariants as answers
+use Rattle.txn_words.specs.declared.entry.Entry.{Entry}
+use Rattle.txn_words.specs.declared.refusal.Refusal.{Refusal}
+use Rattle.txn_words.specs.declared.refusal.Refusal.TheVariants.{NoMemory, OutOfStep, StampsUsedUp}
+use Rattle.txn_words.specs.declared.step.Step.{Step}
+use Rattle.txn_words.specs.declared.step.Step.TheVariants as steps
+use Rattle.txn_words.specs.Shape.{Seat}
 use Rattle.txn_drive.specs.declared.call.Call.{Call}
 use Rattle.txn_drive.specs.declared.call.Call.TheVariants as calls
 use Rattle.txn_drive.specs.declared.drive.Drive.{Drive}

@@ -1,11 +1,11 @@
 -- The call after a hold, with core and token in step.
 use Rattle.std.proofs.Common.{◌≡◌, ◌≢◌, ℕ, ◌||◌, nat_lt, Bool, true, false, not, if◌then◌else◌, List, [], ◌++◌, is_some, IfSome, Option, Some, None, refl, sym, ap, subst, ◌∙◌}
 use Rattle.std.proofs.lemmas.Bool.{false≢true}
-use Rattle.txn_trace.specs.declared.entry.Entry.{Entry}
-use Rattle.txn_trace.specs.declared.refusal.Refusal.TheVariants.{OutOfStep, NoMemory}
-use Rattle.txn_trace.specs.declared.step.Step.TheVariants as steps
-use Rattle.txn_trace.specs.Sizes.{Sizes}
-use Rattle.txn_trace.specs.Shape.{Seat, seat_after, IsShaped}
+use Rattle.txn_words.specs.declared.entry.Entry.{Entry}
+use Rattle.txn_words.specs.declared.refusal.Refusal.TheVariants.{OutOfStep, NoMemory}
+use Rattle.txn_words.specs.declared.step.Step.TheVariants as steps
+use Rattle.txn_words.specs.Sizes.{Sizes}
+use Rattle.txn_words.specs.Shape.{Seat, seat_after, IsShaped}
 use Rattle.txn_trace.proofs.Running.{has_seat}
 use Rattle.txn_drive.specs.declared.call.Call.{Call}
 use Rattle.txn_drive.specs.declared.call.Call.TheVariants as calls

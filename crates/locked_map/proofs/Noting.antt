@@ -4,20 +4,20 @@ use Rattle.std.proofs.lemmas.List.Sums.{fold-append}
 use Rattle.std.proofs.Common.{◌≡◌, ℕ, suc, ◌==◌, ◌&&◌, nat_lt, cond, if◌then◌else◌, take, slice_index, ◌+◌, ◌-◌, ◌<◌, ◌≤◌, ◌^◌, true, false, Bool, length, length-append, vec_len, vec_capacity, is_some, List, [], ◌∷◌, ◌++◌, Option, Some, None, refl, sym, ap, subst, ◌∙◌, arith}
 use Rattle.std.specs.Global.{Vec}
 use Rattle.std.specs.Option.{option_and_then}
-use Rattle.txn_trace.specs.declared.entry.Entry.{Entry}
-use Rattle.txn_trace.specs.declared.entry.Entry.TheVariants as entries
-use Rattle.txn_trace.specs.declared.step.Step.{Step}
-use Rattle.txn_trace.specs.declared.step.Step.TheVariants.{Begin, Ask, Act, Save, Back, Commit, Abort}
-use Rattle.txn_trace.specs.declared.answer.Answer.{Answer}
-use Rattle.txn_trace.specs.declared.answer.Answer.TheVariants as answers
-use Rattle.txn_trace.specs.Entries.{entries_of}
-use Rattle.txn_trace.specs.Owed.{owed_by, reserved}
-use Rattle.txn_trace.specs.declared.seat.Phase.{Phase as Standing}
-use Rattle.txn_trace.specs.declared.seat.Phase.TheVariants as seats
-use Rattle.txn_trace.specs.Shape.{Seat, RoomySeat, closed_seat, changes, row, seat_after}
+use Rattle.txn_words.specs.declared.entry.Entry.{Entry}
+use Rattle.txn_words.specs.declared.entry.Entry.TheVariants as entries
+use Rattle.txn_words.specs.declared.step.Step.{Step}
+use Rattle.txn_words.specs.declared.step.Step.TheVariants.{Begin, Ask, Act, Save, Back, Commit, Abort}
+use Rattle.txn_words.specs.declared.answer.Answer.{Answer}
+use Rattle.txn_words.specs.declared.answer.Answer.TheVariants as answers
+use Rattle.txn_words.specs.Entries.{entries_of}
+use Rattle.txn_words.specs.Owed.{owed_by, reserved}
+use Rattle.txn_words.specs.declared.seat.Phase.{Phase as Standing}
+use Rattle.txn_words.specs.declared.seat.Phase.TheVariants as seats
+use Rattle.txn_words.specs.Shape.{Seat, RoomySeat, closed_seat, changes, row, seat_after}
 use Rattle.txn_trace.proofs.Pushes.{seat_after-push}
 use Rattle.txn_trace.proofs.Room.{reserved_for, owed_by-row}
-use Rattle.txn_trace.specs.Seats.{is_saved}
+use Rattle.txn_words.specs.Seats.{is_saved}
 use Rattle.locked_map.specs.Noted.{Noted, IsNoted, HasRoomFor, adds_entry, is_save, began_by, last_txn}
 
 -- The requirements of the entry of a step.

@@ -2,14 +2,14 @@
 use Rattle.std.proofs.Common.{◌≡◌, ℕ, ◌<◌, ◌≤◌, nat_lt, Bool, true, false, if◌then◌else◌, List, [], is_some, Option, Some, None, refl, sym, ap, subst, ◌∙◌, arith}
 use Rattle.std.specs.Prelude.{unwrap_or, Result, Ok, Err, is_err, OnErr}
 use Rattle.std.proofs.lemmas.Bool.{false≢true}
-use Rattle.txn_trace.specs.declared.entry.Entry.{Entry}
-use Rattle.txn_trace.specs.declared.refusal.Refusal.TheVariants.{NoMemory}
-use Rattle.txn_trace.specs.declared.step.Step.{Step}
-use Rattle.txn_trace.specs.declared.step.Step.TheVariants as steps
-use Rattle.txn_trace.specs.Owed.{owed_in, owed_by, reserved}
-use Rattle.txn_trace.specs.declared.seat.Phase.{Phase as Standing}
-use Rattle.txn_trace.specs.declared.seat.Phase.TheVariants as seats
-use Rattle.txn_trace.specs.Shape.{Seat, closed_seat, seat_after}
+use Rattle.txn_words.specs.declared.entry.Entry.{Entry}
+use Rattle.txn_words.specs.declared.refusal.Refusal.TheVariants.{NoMemory}
+use Rattle.txn_words.specs.declared.step.Step.{Step}
+use Rattle.txn_words.specs.declared.step.Step.TheVariants as steps
+use Rattle.txn_words.specs.Owed.{owed_in, owed_by, reserved}
+use Rattle.txn_words.specs.declared.seat.Phase.{Phase as Standing}
+use Rattle.txn_words.specs.declared.seat.Phase.TheVariants as seats
+use Rattle.txn_words.specs.Shape.{Seat, closed_seat, seat_after}
 use Rattle.txn_drive.specs.declared.call.Call.{Call}
 use Rattle.txn_drive.specs.declared.call.Call.TheVariants as calls
 use Rattle.txn_drive.specs.declared.drive.Drive.{Drive}
@@ -21,7 +21,7 @@ use Rattle.txn_drive.specs.declared.turn.Turn.{Turn}
 use Rattle.txn_drive.specs.declared.turn.Turn.TheVariants.{One, Two, Ended}
 use Rattle.txn_drive.specs.Drives.{first_step, turn_in, turn_of}
 use Rattle.txn_drive.specs.Made.{made, made_in}
-use Rattle.txn_trace.specs.Seats.{refusal_in}
+use Rattle.txn_words.specs.Seats.{refusal_in}
 use Rattle.boost_core.specs.Refusals.{is_closed, is_leaving}
 use Rattle.boost_core.proofs.Refused.{commit_open, abort_runs}
 use Rattle.locked_map.specs.Noted.{Noted, HasRoomFor, adds_entry, is_save}

@@ -1,16 +1,16 @@
 -- A core and a drive stay in step over a move.
 use Rattle.std.proofs.Common.{◌≡◌, ℕ, ◌-◌, ◌<◌, ◌^◌, Bool, false, [], length, Option, Some, None, refl, sym, ap, ◌∙◌}
 use Rattle.std.specs.Prelude.{nat_le}
-use Rattle.txn_trace.specs.declared.answer.Answer.{Answer}
-use Rattle.txn_trace.specs.declared.step.Step.{Step}
-use Rattle.txn_trace.specs.Shape.{Seat}
+use Rattle.txn_words.specs.declared.answer.Answer.{Answer}
+use Rattle.txn_words.specs.declared.step.Step.{Step}
+use Rattle.txn_words.specs.Shape.{Seat}
 use Rattle.txn_drive.specs.declared.call.Call.{Call}
 use Rattle.txn_drive.specs.declared.call.Call.TheVariants as calls
 use Rattle.txn_drive.specs.declared.phase.Phase.{Phase}
 use Rattle.txn_drive.specs.declared.phase.Phase.TheVariants.{Fresh, Seeking, Acting, Doubling, Initialising, Linking, Storing}
 use Rattle.txn_drive.specs.Drives.{first_step, step_in, told_in}
 use Rattle.boost_core.specs.State.{State, seat_in}
-use Rattle.txn_trace.specs.Seats.{refusal_in}
+use Rattle.txn_words.specs.Seats.{refusal_in}
 use Rattle.boost_core.specs.Machine.{Move}
 use Rattle.boost_core.specs.Whole.{IsWhole}
 use Rattle.locked_map.proofs.Phases.{entries_if}

@@ -4,16 +4,16 @@ use Rattle.std.specs.Prelude.{nat_le, slice_get, slice_set, unwrap_or}
 use Rattle.std.proofs.lemmas.Bool.{false≢true, and_parts, lt-ltb}
 use Rattle.std.proofs.lemmas.Option.{unwrap_or-slice_get}
 use mathlib.Core.Logic.{inl, inr}
-use Rattle.txn_trace.specs.declared.answer.Answer.{Answer}
-use Rattle.txn_trace.specs.declared.answer.Answer.TheVariants as answers
-use Rattle.txn_trace.specs.declared.refusal.Refusal.{Refusal}
-use Rattle.txn_trace.specs.declared.refusal.Refusal.TheVariants as refusals
-use Rattle.txn_trace.specs.declared.refusal.Refusal.TheVariants.{OutOfStep, NothingToSeek}
-use Rattle.txn_trace.specs.declared.step.Step.TheVariants as steps
-use Rattle.txn_trace.specs.Map.{Map}
-use Rattle.txn_trace.specs.declared.seat.Phase.{Phase as Standing}
-use Rattle.txn_trace.specs.declared.seat.Phase.TheVariants as seats
-use Rattle.txn_trace.specs.Shape.{Seat}
+use Rattle.txn_words.specs.declared.answer.Answer.{Answer}
+use Rattle.txn_words.specs.declared.answer.Answer.TheVariants as answers
+use Rattle.txn_words.specs.declared.refusal.Refusal.{Refusal}
+use Rattle.txn_words.specs.declared.refusal.Refusal.TheVariants as refusals
+use Rattle.txn_words.specs.declared.refusal.Refusal.TheVariants.{OutOfStep, NothingToSeek}
+use Rattle.txn_words.specs.declared.step.Step.TheVariants as steps
+use Rattle.txn_words.specs.Map.{Map}
+use Rattle.txn_words.specs.declared.seat.Phase.{Phase as Standing}
+use Rattle.txn_words.specs.declared.seat.Phase.TheVariants as seats
+use Rattle.txn_words.specs.Shape.{Seat}
 use Rattle.txn_drive.specs.declared.call.Call.{Call}
 use Rattle.txn_drive.specs.declared.call.Call.TheVariants as calls
 use Rattle.txn_drive.specs.declared.«end».End.TheVariants as ends

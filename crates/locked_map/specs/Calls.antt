@@ -2,12 +2,12 @@
 use Rattle.std.specs.Prelude.{ℕ, ◌≡◌, ◌≤◌, ◌⊎◌, if◌then◌else◌, Bool, true, false, List, ◌++◌}
 use Rattle.std.specs.Prelude.{length, Option, Some, None, is_some, Result, Ok, Err}
 use Rattle.std.specs.Option.{option_or}
-use Rattle.txn_trace.specs.declared.entry.Entry.{Entry}
-use Rattle.txn_trace.specs.declared.refusal.Refusal.{Refusal}
-use Rattle.txn_trace.specs.declared.refusal.Refusal.TheVariants.{BadKey, NoMemory, OutOfStep}
-use Rattle.txn_trace.specs.Seats.{refusal_in}
-use Rattle.txn_trace.specs.Shape.{Seat, seat_after}
-use Rattle.txn_trace.specs.Sizes.{is_bad_key}
+use Rattle.txn_words.specs.declared.entry.Entry.{Entry}
+use Rattle.txn_words.specs.declared.refusal.Refusal.{Refusal}
+use Rattle.txn_words.specs.declared.refusal.Refusal.TheVariants.{BadKey, NoMemory, OutOfStep}
+use Rattle.txn_words.specs.Seats.{refusal_in}
+use Rattle.txn_words.specs.Shape.{Seat, seat_after}
+use Rattle.txn_words.specs.Sizes.{is_bad_key}
 use Rattle.txn_drive.specs.declared.call.Call.{Call}
 use Rattle.txn_drive.specs.declared.call.Call.TheVariants as calls
 use Rattle.txn_drive.specs.declared.«end».End.{End}

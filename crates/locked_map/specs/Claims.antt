@@ -2,11 +2,11 @@
 use Rattle.std.specs.Prelude.{ℕ, ◌≡◌, ◌≢◌, ◌+◌, ◌-◌, ◌==◌, List, [], ◌∷◌, ◌++◌, Option, Some, None}
 use Rattle.std.specs.Prelude.{slice_get, if◌then◌else◌}
 use Rattle.atomic_table.specs.Seated.{TableId}
-use Rattle.txn_trace.specs.declared.answer.Answer.TheVariants as answers
-use Rattle.txn_trace.specs.declared.step.Step.{Step}
-use Rattle.txn_trace.specs.declared.step.Step.TheVariants.{Ask}
+use Rattle.txn_words.specs.declared.answer.Answer.TheVariants as answers
+use Rattle.txn_words.specs.declared.step.Step.{Step}
+use Rattle.txn_words.specs.declared.step.Step.TheVariants.{Ask}
 use Rattle.txn_trace.specs.Locks.{stripe_of}
-use Rattle.txn_trace.specs.Map.{key_of}
+use Rattle.txn_words.specs.Map.{key_of}
 use Rattle.txn_drive.specs.declared.call.Call.{Call}
 use Rattle.txn_drive.specs.declared.call.Call.TheVariants as calls
 use Rattle.txn_drive.specs.declared.«end».End.{End}

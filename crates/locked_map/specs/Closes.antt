@@ -1,9 +1,9 @@
 -- The result of closing a map.
 use Rattle.std.specs.Prelude.{ℕ, ◌≡◌, ◌==◌, ◌<◌, List, length, IsTrue, All}
 use Rattle.std.specs.List.{list_any, sum_by}
-use Rattle.txn_trace.specs.declared.entry.Entry.{Entry}
-use Rattle.txn_trace.specs.Shape.{own}
-use Rattle.txn_trace.specs.Sizes.{Sizes}
+use Rattle.txn_words.specs.declared.entry.Entry.{Entry}
+use Rattle.txn_words.specs.Shape.{own}
+use Rattle.txn_words.specs.Sizes.{Sizes}
 use Rattle.locked_map.specs.Tokens.{Token}
 use Rattle.locked_map.specs.declared.unclosed.Unclosed.{Unclosed}
 use Rattle.locked_map.specs.declared.unclosed.Unclosed.TheVariants.{Missing, Differs}

@@ -4,16 +4,16 @@ use Rattle.std.specs.Prelude.{is_some}
 use Rattle.std.specs.Prelude.{vec_capacity}
 use Rattle.std.specs.Global.{Vec}
 use Rattle.std.specs.List.{fold}
-use Rattle.txn_trace.specs.declared.entry.Entry.{Entry}
-use Rattle.txn_trace.specs.declared.entry.Entry.TheVariants.{Began}
-use Rattle.txn_trace.specs.declared.answer.Answer.{Answer}
-use Rattle.txn_trace.specs.declared.step.Step.{Step}
-use Rattle.txn_trace.specs.declared.step.Step.TheVariants.{Begin, Ask, Act, Save, Back, Commit}
-use Rattle.txn_trace.specs.declared.step.Step.TheVariants.{Abort}
-use Rattle.txn_trace.specs.Shape.{RoomySeat, seat_after}
-use Rattle.txn_trace.specs.Entries.{entries_of}
-use Rattle.txn_trace.specs.Owed.{owed_by, reserved}
-use Rattle.txn_trace.specs.Packed.{is_small}
+use Rattle.txn_words.specs.declared.entry.Entry.{Entry}
+use Rattle.txn_words.specs.declared.entry.Entry.TheVariants.{Began}
+use Rattle.txn_words.specs.declared.answer.Answer.{Answer}
+use Rattle.txn_words.specs.declared.step.Step.{Step}
+use Rattle.txn_words.specs.declared.step.Step.TheVariants.{Begin, Ask, Act, Save, Back, Commit}
+use Rattle.txn_words.specs.declared.step.Step.TheVariants.{Abort}
+use Rattle.txn_words.specs.Shape.{RoomySeat, seat_after}
+use Rattle.txn_words.specs.Entries.{entries_of}
+use Rattle.txn_words.specs.Owed.{owed_by, reserved}
+use Rattle.txn_words.specs.Packed.{is_small}
 
 -- The number of the last transaction that the entries begin, or 0 if they begin none.
 abbrev pub began_by : ℕ → Entry → ℕ

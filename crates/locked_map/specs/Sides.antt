@@ -1,6 +1,6 @@
 -- The effect of a call on its caller's side value. `words` are the words of a value.
 use Rattle.std.specs.Prelude.{ℕ, ◌<◌, List, length}
-use Rattle.txn_trace.specs.declared.answer.Answer.TheVariants as answers
+use Rattle.txn_words.specs.declared.answer.Answer.TheVariants as answers
 use Rattle.txn_drive.specs.declared.call.Call.{Call}
 use Rattle.txn_drive.specs.declared.call.Call.TheVariants as calls
 use Rattle.txn_drive.specs.declared.«end».End.{End}

@@ -2,14 +2,14 @@
 use Rattle.std.specs.Prelude.{ℕ, ◌≡◌, ◌<◌, ◌≤◌, Bool, true, false, not, List, length, Option, Some}
 use Rattle.std.specs.Prelude.{None, is_some}
 use Rattle.split_key.specs.Split.{parent_of, IsAncestor}
-use Rattle.txn_trace.specs.declared.entry.Entry.{Entry}
-use Rattle.txn_trace.specs.declared.refusal.Refusal.{Refusal}
-use Rattle.txn_trace.specs.declared.refusal.Refusal.TheVariants.{NoMemory, StampsUsedUp, StaleWord}
-use Rattle.txn_trace.specs.declared.step.Step.TheVariants.{Act}
-use Rattle.txn_trace.specs.Sizes.{Sizes}
-use Rattle.txn_trace.specs.declared.seat.Phase.{Phase as Standing}
-use Rattle.txn_trace.specs.declared.seat.Phase.TheVariants as seats
-use Rattle.txn_trace.specs.Shape.{Seat, own}
+use Rattle.txn_words.specs.declared.entry.Entry.{Entry}
+use Rattle.txn_words.specs.declared.refusal.Refusal.{Refusal}
+use Rattle.txn_words.specs.declared.refusal.Refusal.TheVariants.{NoMemory, StampsUsedUp, StaleWord}
+use Rattle.txn_words.specs.declared.step.Step.TheVariants.{Act}
+use Rattle.txn_words.specs.Sizes.{Sizes}
+use Rattle.txn_words.specs.declared.seat.Phase.{Phase as Standing}
+use Rattle.txn_words.specs.declared.seat.Phase.TheVariants as seats
+use Rattle.txn_words.specs.Shape.{Seat, own}
 use Rattle.txn_drive.specs.declared.call.Call.{Call}
 use Rattle.txn_drive.specs.declared.call.Call.TheVariants as calls
 use Rattle.txn_drive.specs.declared.drive.Drive.{Drive}

@@ -2,9 +2,9 @@
 //! share of the ledger counts as many entries as `seen` has. The shared calls are in `calls.rt`.
 ghost use Rattle.std.specs.Prelude.{◌≡◌, ◌≢◌, ◌<◌, true, false, is_some, length, unwrap_or, Some};
 ghost use Rattle.std.specs.Prelude.{None, [], ◌∷◌, List, ◌+◌, IfSome, IfNone, IfErr, OnOk, OnErr};
-ghost use Rattle.txn_trace.specs.declared.entry.Entry.{Entry};
-ghost use Rattle.txn_trace.specs.declared.refusal.Refusal.{Refusal};
-ghost use Rattle.txn_trace.specs.Shape.{Seat, seat_after};
+ghost use Rattle.txn_words.specs.declared.entry.Entry.{Entry};
+ghost use Rattle.txn_words.specs.declared.refusal.Refusal.{Refusal};
+ghost use Rattle.txn_words.specs.Shape.{Seat, seat_after};
 ghost use Rattle.txn_drive.specs.declared.«end».End.{End};
 ghost use Rattle.txn_drive.specs.Drives.{first_step};
 ghost use Rattle.locked_map.specs.Calls.{Failed, refused_by, refused_help, refused_side};
@@ -49,7 +49,7 @@ pub struct Caller<L: Ledger, S: Side> {
 
 impl<L: Ledger, S: Side> Model for Caller<L, S> {
     ghost use Rattle.std.specs.Prelude.{◌≡◌, true, false, is_some};
-    ghost use Rattle.txn_trace.specs.Shape.{seat_after};
+    ghost use Rattle.txn_words.specs.Shape.{seat_after};
     ghost use Rattle.locked_map.specs.Tokens.{IsSeated, Token};
 
     ghost Value = { Token S };

@@ -17,9 +17,9 @@
 //!   (`Leaves` in `specs/Calls.antt`).
 ghost use Rattle.std.specs.Prelude.{◌≡◌, ◌↔◌, ℕ, ◌+◌, [], ◌∷◌, ◌++◌, length, None, Some, true};
 ghost use Rattle.std.specs.Prelude.{false, Err, IfOk, IfErr, OnOk};
-ghost use Rattle.txn_trace.specs.declared.entry.Entry.TheVariants as entries;
-ghost use Rattle.txn_trace.specs.Shape.{Seat, seat_after};
-ghost use Rattle.txn_trace.specs.Sizes.{is_bad_key};
+ghost use Rattle.txn_words.specs.declared.entry.Entry.TheVariants as entries;
+ghost use Rattle.txn_words.specs.Shape.{Seat, seat_after};
+ghost use Rattle.txn_words.specs.Sizes.{is_bad_key};
 ghost use Rattle.txn_drive.specs.Made.{undone_by};
 ghost use Rattle.locked_map.specs.Calls.{Leaves, WentOn, refused_side};
 ghost use Rattle.locked_map.specs.Noted.{last_txn};

@@ -2,7 +2,7 @@
 //! asked for by one of these.
 ghost use Rattle.std.specs.Prelude.{◌≡◌, ◌<◌, [], true, None, IfErr, OnOk};
 ghost use Rattle.txn_trace.specs.Locks.{stripe_of};
-ghost use Rattle.txn_trace.specs.Map.{key_of};
+ghost use Rattle.txn_words.specs.Map.{key_of};
 ghost use Rattle.boost_core.specs.Words.{Goes};
 ghost use Rattle.locked_map.specs.Claims.{HasTriedAt, HasTriedStep, IsIdle, Tries, claim_in};
 ghost use Rattle.locked_map.specs.Claims.{claims_at};

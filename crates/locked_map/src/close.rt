@@ -2,9 +2,9 @@
 //! they saw, so if each caller's own entries are right there are no others.
 ghost use Rattle.std.specs.Prelude.{◌≡◌, ◌+◌, ◌==◌, ◌↔◌, All, IsTrue, IfOk, IfErr, length};
 ghost use Rattle.std.specs.List.{list_any, sum_by};
-ghost use Rattle.txn_trace.specs.declared.holder.Holder.TheVariants.{Begun};
+ghost use Rattle.txn_words.specs.declared.holder.Holder.TheVariants.{Begun};
 ghost use Rattle.txn_trace.specs.Legal.{IsLegal};
-ghost use Rattle.txn_trace.specs.Shape.{own};
+ghost use Rattle.txn_words.specs.Shape.{own};
 ghost use Rattle.locked_map.specs.Closes.{AreCounted, IsAllHere, IsBeside, IsCounted, IsOwn, IsWhy};
 ghost use Rattle.locked_map.specs.Closes.{back_of};
 

@@ -2,11 +2,11 @@
 //! Invariant: there is room for all that the caller owes, and the share counts the entries.
 ghost use Rattle.std.specs.Prelude.{◌≡◌, ◌+◌, ◌<◌, ◌≤◌, ◌^◌, ℕ, true, [], ◌++◌, is_some, length};
 ghost use Rattle.std.specs.Prelude.{Some, OnOk, OnErr};
-ghost use Rattle.txn_trace.specs.Entries.{entries_of};
-ghost use Rattle.txn_trace.specs.Owed.{owed_by};
-ghost use Rattle.txn_trace.specs.Packed.{is_small};
-ghost use Rattle.txn_trace.specs.Shape.{Seat as Standing, seat_after};
-ghost use Rattle.txn_trace.specs.Seats.{refusal_in};
+ghost use Rattle.txn_words.specs.Entries.{entries_of};
+ghost use Rattle.txn_words.specs.Owed.{owed_by};
+ghost use Rattle.txn_words.specs.Packed.{is_small};
+ghost use Rattle.txn_words.specs.Shape.{Seat as Standing, seat_after};
+ghost use Rattle.txn_words.specs.Seats.{refusal_in};
 ghost use Rattle.locked_map.specs.Noted.{AddsSmall, HasRoomFor, adds_entry, began_by, last_txn};
 ghost use Rattle.locked_map.specs.Tokens.{is_over};
 

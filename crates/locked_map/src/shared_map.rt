@@ -3,13 +3,13 @@
 //! holds (`WentOn`).
 ghost use Rattle.std.specs.Prelude.{◌≡◌, ◌<◌, ◌≤◌, true, IfOk, IfErr, map};
 ghost use Rattle.std.specs.List.{range_with_len};
-ghost use Rattle.txn_trace.specs.Shape.{seat_after};
+ghost use Rattle.txn_words.specs.Shape.{seat_after};
 ghost use Rattle.txn_drive.specs.Drives.{first_phase};
 ghost use Rattle.locked_map.specs.Calls.{Ended, IsDone, Leaves, Ran};
 ghost use Rattle.locked_map.specs.Holds.{FitsIf, HasRun, IsHeld, is_out};
 ghost use Rattle.locked_map.specs.Tokens.{AreTickets, HasTried, IsSameCaller, IsSameClaims};
 ghost use Rattle.locked_map.specs.Tokens.{new_ticket};
-ghost use Rattle.txn_trace.specs.declared.holder.Holder.TheVariants.{Begun};
+ghost use Rattle.txn_words.specs.declared.holder.Holder.TheVariants.{Begun};
 ghost use Rattle.txn_trace.specs.Legal.{IsLegal};
 ghost use Rattle.key_words.specs.Seats.{AreSeats, stripes_of};
 

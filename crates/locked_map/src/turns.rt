@@ -1,11 +1,11 @@
 //! The turns of a drive on the core. A step is taken on the core, in the book, in the seen entries
 //! and in the drive by one function, so that none of them misses it.
 ghost use Rattle.std.specs.Prelude.{◌≡◌, ℕ, true, false, Some, List, [], is_some};
-ghost use Rattle.txn_trace.specs.declared.entry.Entry.{Entry};
-ghost use Rattle.txn_trace.specs.declared.refusal.Refusal.{Refusal};
-ghost use Rattle.txn_trace.specs.Entries.{entries_of};
-ghost use Rattle.txn_trace.specs.Shape.{seat_after};
-ghost use Rattle.txn_trace.specs.Sizes.{Sizes};
+ghost use Rattle.txn_words.specs.declared.entry.Entry.{Entry};
+ghost use Rattle.txn_words.specs.declared.refusal.Refusal.{Refusal};
+ghost use Rattle.txn_words.specs.Entries.{entries_of};
+ghost use Rattle.txn_words.specs.Shape.{seat_after};
+ghost use Rattle.txn_words.specs.Sizes.{Sizes};
 ghost use Rattle.txn_drive.specs.Drives.{step_of, turn_of};
 ghost use Rattle.txn_drive.specs.Made.{made};
 ghost use Rattle.locked_map.specs.Noted.{HasRoomFor};

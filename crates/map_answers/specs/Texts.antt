@@ -1,6 +1,6 @@
 -- The text of a stopped call.
 use Rattle.std.specs.Prelude.{ℕ, List, ◌++◌, codes, decimal}
-use Rattle.txn_trace.specs.Sentences.{sentence_of}
+use Rattle.txn_words.specs.Sentences.{sentence_of}
 use Rattle.map_answers.specs.declared.stop.Stop.{Stop}
 use Rattle.map_answers.specs.declared.stop.Stop.TheVariants.{Busy, Refused}
 

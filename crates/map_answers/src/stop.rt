@@ -1,13 +1,13 @@
 //! The reason why a call of a transaction was not done: another caller held a stripe, or it was
 //! refused. Each map says what becomes of the transaction.
 ghost use Rattle.std.specs.Prelude.{◌≡◌};
-ghost use Rattle.txn_trace.specs.declared.refusal.Refusal.TheVariants.{NoMemory};
+ghost use Rattle.txn_words.specs.declared.refusal.Refusal.TheVariants.{NoMemory};
 ghost use Rattle.map_answers.specs.declared.stop.Stop.TheVariants.{Refused};
 
 use std::alloc::AllocError;
 use std::error::Error;
 use std::fmt;
-use txn_trace::Refusal;
+use txn_words::Refusal;
 
 /// The reason why a call of a transaction was not done. It is an error with a text, so `?` returns
 /// it, also as an `anyhow::Error`.

@@ -13,8 +13,8 @@ use Rattle.bucket_table.specs.declared.answer.InitLink.{InitLink}
 use Rattle.bucket_table.specs.declared.answer.InitLink.TheVariants.{Again, Present, Linked}
 use Rattle.bucket_table.specs.declared.answer.InitRefusal.{InitRefusal}
 use Rattle.bucket_table.specs.declared.answer.InitRefusal.TheVariants.{NoSuchBucket, ParentMissing, NoSuchHelper, HelperOutOfOrder, NoMemory, StampsUsedUp}
-use Rattle.txn_trace.specs.declared.refusal.Refusal.{Refusal}
-use Rattle.txn_trace.specs.declared.refusal.Refusal.TheVariants as refusals
+use Rattle.txn_words.specs.declared.refusal.Refusal.{Refusal}
+use Rattle.txn_words.specs.declared.refusal.Refusal.TheVariants as refusals
 use Rattle.bucket_table.specs.declared.helper.Helper.{Helper}
 use Rattle.bucket_table.specs.declared.helper.Helper.TheVariants.{Idle, Seeking, Holding}
 use Rattle.bucket_table.specs.Directory.{Directory, IsInOrder, limit_of, helper_of}

@@ -12,8 +12,8 @@ use Rattle.split_key.specs.declared.sort.SortKey.{SortKey}
 use Rattle.split_key.specs.Sort.{regular_at}
 use Rattle.bucket_table.specs.Directory.{Directory}
 use Rattle.bucket_table.specs.Dummies.{has_dummy}
-use Rattle.txn_trace.proofs.Order.{Rises}
-use Rattle.txn_trace.specs.Map.{get}
+use Rattle.txn_words.proofs.Order.{Rises}
+use Rattle.txn_words.specs.Map.{get}
 use Rattle.map_ops.specs.TableAt.{map_of, table_of}
 use Rattle.map_ops.specs.Steps.{HasNode, HasRoom, Sets}
 use Rattle.map_ops.specs.Nodes.{LinksNode, MarksNode, WritesNode}

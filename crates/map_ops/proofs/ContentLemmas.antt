@@ -13,11 +13,11 @@ use Rattle.split_key.specs.declared.sort.SortKey.{SortKey}
 use Rattle.split_key.specs.Sort.{IsBefore, regular_at}
 use Rattle.split_key.proofs.SortLemmas.{before_apart}
 use Rattle.bucket_table.specs.Dummies.{IsKeyed}
-use Rattle.txn_trace.specs.Map.{Map, count_of, empty, get, insert, remove}
-use Rattle.txn_trace.specs.Ordered.{ordered}
-use Rattle.txn_trace.proofs.Maps.{get-insert, same_map}
-use Rattle.txn_trace.proofs.Order.{Rises, IsSortedBySplit, value_at, or_else, or_else_none, split_cmp_tied, sorted-rises, value_at-ordered, ordered_rising, length-ordered}
-use Rattle.txn_trace.proofs.OrderedPairs.{ordered-linked, ordered-written, ordered-unlinked}
+use Rattle.txn_words.specs.Map.{Map, count_of, empty, get, insert, remove}
+use Rattle.txn_words.specs.Ordered.{ordered}
+use Rattle.txn_words.proofs.Maps.{get-insert, same_map}
+use Rattle.txn_words.proofs.Order.{Rises, IsSortedBySplit, value_at, or_else, or_else_none, split_cmp_tied, sorted-rises, value_at-ordered, ordered_rising, length-ordered}
+use Rattle.txn_words.proofs.OrderedPairs.{ordered-linked, ordered-written, ordered-unlinked}
 use Rattle.map_ops.specs.TableAt.{map_of}
 
 -- A key that belongs before all others is not among them.

@@ -11,10 +11,10 @@ use Rattle.split_key.specs.Sort.{regular_at}
 use Rattle.bucket_table.specs.Directory.{Directory}
 use Rattle.bucket_table.specs.Dummies.{has_dummy}
 use Rattle.bucket_table.proofs.DummyLemmas.{has_dummy-sought}
-use Rattle.txn_trace.specs.declared.op.Op.TheVariants.{Put, Take, Get, PutIf}
+use Rattle.txn_words.specs.declared.op.Op.TheVariants.{Put, Take, Get, PutIf}
 use Rattle.std.specs.Prelude.{nat_eq}
 use Rattle.std.specs.Option.{option_eq}
-use Rattle.txn_trace.specs.Map.{get, insert}
+use Rattle.txn_words.specs.Map.{get, insert}
 use Rattle.map_ops.specs.declared.job.MapJob.TheVariants.{Relink}
 use Rattle.map_ops.specs.TableAt.{TableAt, content, map_of, table_of, KeepsSpares}
 use Rattle.map_ops.specs.declared.job.MapJob.{MapJob}

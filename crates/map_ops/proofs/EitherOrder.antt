@@ -2,10 +2,8 @@
 use Rattle.std.proofs.Common.{◌≡◌, ◌≢◌, ℕ, inl, inr, Bool, true, false, cond, Option, Some, None, refl, sym, ap, ◌∙◌}
 use Rattle.std.specs.Prelude.{◌==◌, is_some}
 use Rattle.std.proofs.lemmas.Bool.{cases_eq, eq-eqb, ne_eqb}
-use Rattle.txn_trace.specs.Map.{Map, get}
-use Rattle.txn_trace.specs.Now.{set_at}
-use Rattle.txn_trace.proofs.Maps.{same_map}
-use Rattle.txn_trace.proofs.Table.{get-set_at}
+use Rattle.txn_words.specs.Map.{Map, get, set_at}
+use Rattle.txn_words.proofs.Maps.{same_map, get-set_at}
 use Rattle.map_ops.specs.declared.job.MapJob.{MapJob}
 use Rattle.map_ops.specs.declared.job.MapJob.TheVariants.{Unput, Restore, Relink}
 use Rattle.map_ops.specs.TableAt.{TableAt, SpareAt, content, KeepsSpares, spare_out}

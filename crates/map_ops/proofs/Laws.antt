@@ -6,12 +6,10 @@ use Rattle.std.proofs.lemmas.Bool.{cases_eq, eq-eqb, false≢true, ne_eqb}
 use Rattle.node_list.specs.Nodes.{SpareAt, out_at}
 use Rattle.node_list.proofs.OrderLemmas.{some-injective, some-none}
 use Rattle.bucket_table.specs.Directory.{Directory}
-use Rattle.txn_trace.specs.declared.op.Op.{Op}
-use Rattle.txn_trace.specs.declared.op.Op.TheVariants.{Put, Take, Get, PutIf}
-use Rattle.txn_trace.specs.Map.{Map, after, get, insert, remove}
-use Rattle.txn_trace.specs.Now.{set_at}
-use Rattle.txn_trace.proofs.Maps.{get-insert, get-remove, get-insert-here, get-remove-here, same_map}
-use Rattle.txn_trace.proofs.Table.{get-set_at}
+use Rattle.txn_words.specs.declared.op.Op.{Op}
+use Rattle.txn_words.specs.declared.op.Op.TheVariants.{Put, Take, Get, PutIf}
+use Rattle.txn_words.specs.Map.{Map, after, get, insert, remove, set_at}
+use Rattle.txn_words.proofs.Maps.{get-insert, get-remove, get-insert-here, get-remove-here, same_map, get-set_at}
 use Rattle.map_ops.specs.declared.job.MapJob.{MapJob}
 use Rattle.map_ops.specs.declared.job.MapJob.TheVariants.{Unput, Restore, Relink}
 use Rattle.map_ops.specs.TableAt.{TableAt, content, Owns, KeepsOthers, KeepsSpares}

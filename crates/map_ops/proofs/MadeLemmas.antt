@@ -7,7 +7,7 @@ use Rattle.std.specs.BTreeMap.{BTreeMap, IsFromIterResult, get as value_at}
 use Rattle.std.specs.Ordering.{nat_cmp, eq_by_cmp}
 use Rattle.std.specs.Cmp.{nat_cmp_total, eq_by_cmp_equiv}
 use Rattle.std.specs.FinMap.Entries.{find-put}
-use Rattle.txn_trace.specs.Map.{Map, empty, get, insert}
+use Rattle.txn_words.specs.Map.{Map, empty, get, insert}
 use Rattle.map_ops.specs.TableAt.{map_of}
 
 -- Pairs that are inserted one after another are found as in their map.

@@ -1,8 +1,8 @@
 -- The removal of a key that is not in a map.
 use Rattle.std.proofs.Common.{◌≡◌, ℕ, inl, inr, None, cond, sym, ◌∙◌, ap}
 use Rattle.std.proofs.lemmas.Bool.{cases_eq, eq-eqb, ne_eqb}
-use Rattle.txn_trace.specs.Map.{Map, get, remove}
-use Rattle.txn_trace.proofs.Maps.{get-remove, same_map}
+use Rattle.txn_words.specs.Map.{Map, get, remove}
+use Rattle.txn_words.proofs.Maps.{get-remove, same_map}
 
 -- To remove a key that is not there changes nothing.
 pub remove-absent : (m : Map) (k : ℕ) → get m k ≡ None → remove m k ≡ m

@@ -19,8 +19,8 @@ use Rattle.list_steps.proofs.CursorLemmas.{there}
 use Rattle.split_key.specs.declared.sort.SortKey.{SortKey}
 use Rattle.split_key.specs.Sort.{regular_at}
 use Rattle.split_key.proofs.SplitLemmas.{split_odd}
-use Rattle.txn_trace.specs.Map.{get}
-use Rattle.txn_trace.proofs.Order.{Rises}
+use Rattle.txn_words.specs.Map.{get}
+use Rattle.txn_words.proofs.Order.{Rises}
 use Rattle.map_ops.specs.TableAt.{map_of}
 use Rattle.map_ops.specs.Sound.{Belong, IsEvenDummy}
 use Rattle.map_ops.specs.Steps.{HasNode, HasRoom, Stands, place_in}

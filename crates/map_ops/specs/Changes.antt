@@ -1,10 +1,9 @@
 -- The answer and the changes of each call.
 use Rattle.std.specs.Prelude.{◌≡◌, ◌≢◌, ◌<◌, ◌-◌, ◌^◌, ◌+◌, ℕ, Bool, true, false, Option, Some, None, is_some, if◌then◌else◌}
-use Rattle.txn_trace.specs.declared.op.Op.{Op}
-use Rattle.txn_trace.specs.declared.refusal.Refusal.{Refusal}
-use Rattle.txn_trace.specs.declared.refusal.Refusal.TheVariants as refusals
-use Rattle.txn_trace.specs.Map.{get, key_of, reply_of, after}
-use Rattle.txn_trace.specs.Now.{set_at}
+use Rattle.txn_words.specs.declared.op.Op.{Op}
+use Rattle.txn_words.specs.declared.refusal.Refusal.{Refusal}
+use Rattle.txn_words.specs.declared.refusal.Refusal.TheVariants as refusals
+use Rattle.txn_words.specs.Map.{get, key_of, reply_of, after, set_at}
 use Rattle.map_ops.specs.declared.act.Act.{Act}
 use Rattle.map_ops.specs.declared.act.Act.TheVariants.{Acted, Again as ActAgain}
 use Rattle.map_ops.specs.declared.act.Undo.{Undo}

@@ -4,8 +4,8 @@ use Rattle.std.specs.Option.{option_eq}
 use Rattle.node_list.specs.declared.node.Kind.TheVariants.{Regular}
 use Rattle.node_list.specs.Nodes.{NodeAt, Listing, SpareAt, IsLinked, node_of, linked_after, marked_at, written_at, one_more, changes_after}
 use Rattle.split_key.specs.Sort.{regular_at}
-use Rattle.txn_trace.specs.declared.op.Op.{Op}
-use Rattle.txn_trace.specs.declared.op.Op.TheVariants.{Put, Take, Get, PutIf}
+use Rattle.txn_words.specs.declared.op.Op.{Op}
+use Rattle.txn_words.specs.declared.op.Op.TheVariants.{Put, Take, Get, PutIf}
 use Rattle.map_ops.specs.declared.job.MapJob.{MapJob}
 use Rattle.map_ops.specs.declared.job.MapJob.TheVariants.{Unput, Restore, Relink}
 

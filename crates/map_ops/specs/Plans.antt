@@ -1,6 +1,6 @@
 -- Plans: operations whose key is right, with their spares.
 use Rattle.std.specs.Prelude.{Some, None}
-use Rattle.txn_trace.specs.declared.op.Op.TheVariants as ops
+use Rattle.txn_words.specs.declared.op.Op.TheVariants as ops
 use Rattle.map_ops.specs.declared.pending.Plan.{Plan}
 use Rattle.map_ops.specs.declared.pending.Plan.TheVariants.{Put, Take, Get, PutIf}
 use Rattle.map_ops.specs.Jobs.{PendingAt}

@@ -4,10 +4,9 @@ use Rattle.node_list.specs.Nodes.{Listing, NodeAt}
 use Rattle.node_list.specs.Order.{IsVacant}
 use Rattle.list_steps.specs.Content.{pairs}
 use Rattle.split_key.specs.Sort.{regular_at}
-use Rattle.txn_trace.specs.declared.refusal.Refusal.{Refusal}
-use Rattle.txn_trace.specs.declared.refusal.Refusal.TheVariants.{StampsUsedUp, NoMemory}
-use Rattle.txn_trace.specs.Map.{get}
-use Rattle.txn_trace.specs.Now.{set_at}
+use Rattle.txn_words.specs.declared.refusal.Refusal.{Refusal}
+use Rattle.txn_words.specs.declared.refusal.Refusal.TheVariants.{StampsUsedUp, NoMemory}
+use Rattle.txn_words.specs.Map.{get, set_at}
 use Rattle.map_ops.specs.TableAt.{TableAt, SpareAt, KeepsBuckets, KeepsNodes, content, last_of, linked_of, map_of}
 use Rattle.map_ops.specs.Nodes.{IsNodeOf}
 use Rattle.map_ops.specs.Changes.{GivesSpare}

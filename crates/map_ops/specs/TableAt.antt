@@ -21,7 +21,7 @@ pub use Rattle.bucket_table.specs.Helpers.{Help, Nothing, Sought, Dummy, help_of
 use Rattle.bucket_table.specs.Helpers.{cursor_fits}
 use Rattle.bucket_table.specs.declared.helper.Helper.{Helper}
 use Rattle.bucket_table.specs.declared.helper.Helper.TheVariants.{Idle, Seeking, Holding}
-use Rattle.txn_trace.specs.Map.{Map, empty, insert}
+use Rattle.txn_words.specs.Map.{Map, empty, insert}
 
 -- The list of nodes and the buckets. Contracts speak of them only in the words below.
 pub record TableAt : Type 0 where

@@ -2,7 +2,7 @@
 //! Both are enums, so that a value that owns a spare cannot be lost when the cursor does not fit.
 use crate::job::MapJob;
 use crate::pending::Pending;
-use txn_trace::Reply;
+use txn_words::Reply;
 
 /// The answer of `Table::act`.
 #[derive(Debug, Drop)]

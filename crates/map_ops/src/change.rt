@@ -11,7 +11,7 @@ ghost use Rattle.list_steps.specs.Found.{IsPlaced, at_of, fits, pred_of};
 ghost use Rattle.split_key.specs.Sort.{regular_at};
 ghost use Rattle.bucket_table.specs.Directory.{Directory};
 ghost use Rattle.bucket_table.specs.Home.{IsHome};
-ghost use Rattle.txn_trace.specs.Map.{get, key_of};
+ghost use Rattle.txn_words.specs.Map.{get, key_of};
 ghost use Rattle.map_ops.specs.declared.pending.Plan.TheVariants.{PutIf as PutIfPlan, Take as TakePlan};
 ghost use Rattle.map_ops.specs.TableAt.{KeepsSpares, map_of, table_of};
 ghost use Rattle.map_ops.specs.Jobs.{IsDue, key_of_job, spare_of_job, unput};
@@ -27,7 +27,7 @@ use bucket_table::Buckets;
 use list_steps::{Again, Cursor, link_at, look, mark_at, seek, swap_at};
 use node_list::{Kind, NodeList, NodeRef, SpareFault, Unfilled};
 use split_key::{Key, SortKey, bucket_of};
-use txn_trace::{Op, Refusal, Reply};
+use txn_words::{Op, Refusal, Reply};
 
 /// A spare of the list.
 fn give_spare(list: &mut NodeList) -> Result<Unfilled, Refusal>

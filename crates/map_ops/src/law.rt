@@ -2,7 +2,7 @@
 //! inverse, and two inverses of different keys in either order.
 
 ghost use Rattle.std.specs.Prelude.{◌≡◌, ◌≢◌, ℕ, Option, None};
-ghost use Rattle.txn_trace.specs.declared.op.Op.{Op};
+ghost use Rattle.txn_words.specs.declared.op.Op.{Op};
 ghost use Rattle.map_ops.specs.declared.job.MapJob.{MapJob};
 ghost use Rattle.map_ops.specs.TableAt.{KeepsSpares, TableAt, content, regular};
 ghost use Rattle.map_ops.specs.Jobs.{key_of_job, spare_of_job};

@@ -1,11 +1,11 @@
-//! Prepared operations: each has all that it needs. It is a type apart from `Op` (`txn_trace`),
+//! Prepared operations: each has all that it needs. It is a type apart from `Op` (`txn_words`),
 //! since every operation but a get owns a spare node from here on, until it is done or withdrawn.
 ghost use Rattle.std.specs.Prelude.{◌≡◌, is_some};
 
 use node_list::Unfilled;
 use split_key::Key;
 use std::marker::Model;
-use txn_trace::Op;
+use txn_words::Op;
 
 /// An operation, and the spare that it takes.
 #[derive(Debug, Drop)]
@@ -36,7 +36,7 @@ impl Model for Pending {
 }
 
 impl Pending {
-    ghost use Rattle.txn_trace.specs.Map.{key_of};
+    ghost use Rattle.txn_words.specs.Map.{key_of};
     ghost use Rattle.map_ops.specs.Jobs.{takes_node};
     ghost use Rattle.map_ops.specs.Plans.{pending_of};
 

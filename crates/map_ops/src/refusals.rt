@@ -1,10 +1,10 @@
 //! The refusals of calls on buckets, converted to those of steps: `bucket_table` does not use
-//! `txn_trace`.
+//! `txn_words`.
 ghost use Rattle.std.specs.Prelude.{◌≡◌};
 ghost use Rattle.map_ops.specs.Buckets.{answer_for, refusal_for};
 
 use bucket_table::InitRefusal;
-use txn_trace::Refusal;
+use txn_words::Refusal;
 
 /// The refusal of a call on buckets.
 fn refusal_for(refusal: InitRefusal) -> Refusal

@@ -5,8 +5,8 @@ ghost use Rattle.std.specs.Prelude.{◌≡◌, ◌≢◌, ℕ, ◌<◌, ◌≤�
 ghost use Rattle.std.specs.List.{slice_get};
 ghost use Rattle.std.specs.BTreeMap.{get as value_at};
 ghost use Rattle.std.specs.Ordering.{nat_cmp};
-ghost use Rattle.txn_trace.specs.Map.{count_of, get, key_of};
-ghost use Rattle.txn_trace.specs.Ordered.{ordered};
+ghost use Rattle.txn_words.specs.Map.{count_of, get, key_of};
+ghost use Rattle.txn_words.specs.Ordered.{ordered};
 ghost use Rattle.bucket_table.specs.Home.{IsHome};
 ghost use Rattle.list_steps.specs.Steps.{IsBeforeMarks};
 
@@ -23,7 +23,7 @@ use split_key::bucket_at;
 use std::alloc::{AllocError, Global};
 use std::collections::BTreeMap;
 use std::marker::Model;
-use txn_trace::{Op, Refusal, Reply};
+use txn_words::{Op, Refusal, Reply};
 
 /// The table: the nodes of its keys in one split-ordered list, and the buckets through which they
 /// are found (Shalev and Shavit, "Split-Ordered Lists: Lock-Free Extensible Hash Tables", Journal

@@ -2,11 +2,11 @@
 use Rattle.std.proofs.Common.{◌≡◌, ℕ, Bool, ◌++◌, ◌∷◌, [], refl, sym, ap, subst, ◌∙◌, Option}
 use Rattle.std.specs.Prelude.{Result, Ok, Err, OnErr}
 use mathlib.Core.Logic.{inl, inr}
-use Rattle.txn_trace.specs.declared.entry.Entry.TheVariants.{Committed}
-use Rattle.txn_trace.specs.declared.op.Op.{Op}
-use Rattle.txn_trace.specs.Map.{Map}
+use Rattle.txn_words.specs.declared.entry.Entry.TheVariants.{Committed}
+use Rattle.txn_words.specs.declared.op.Op.{Op}
+use Rattle.txn_words.specs.Map.{Map}
 use Rattle.txn_trace.specs.Now.{now}
-use Rattle.txn_trace.specs.Sizes.{Sizes}
+use Rattle.txn_words.specs.Sizes.{Sizes}
 use Rattle.boost_core.specs.State.{State, holder_by}
 use Rattle.owned_map.specs.Within.{Stands, IsAt, CanAbort, IsBeside, GoesOn, HasDone, IsTakenBack, IsCommitted, IsRun, IsSameMap, IsGrown}
 use Rattle.owned_map.specs.Keeps.{Keeps}

@@ -8,30 +8,30 @@ use Rattle.std.specs.Ordering.{eq_by_cmp}
 use Rattle.std.proofs.lemmas.List.{take-append-drop}
 use Rattle.std.proofs.Math.Seq.{drop-cons}
 use mathlib.Core.Logic.{inl, inr, ◌⊎◌}
-use Rattle.txn_trace.specs.declared.op.Op.{Op}
-use Rattle.txn_trace.specs.declared.op.Op.TheVariants.{Put}
-use Rattle.txn_trace.specs.declared.refusal.Refusal.{Refusal}
-use Rattle.txn_trace.specs.declared.refusal.Refusal.TheVariants as refusals
-use Rattle.txn_trace.specs.declared.step.Step.{Step}
-use Rattle.txn_trace.specs.declared.step.Step.TheVariants.{Begin, Ask, Commit}
-use Rattle.txn_trace.specs.declared.answer.Answer.{Answer}
-use Rattle.txn_trace.specs.declared.answer.Answer.TheVariants as answers
-use Rattle.txn_trace.specs.declared.entry.Entry.{Entry}
-use Rattle.txn_trace.specs.declared.entry.Entry.TheVariants as entry
-use Rattle.txn_trace.specs.declared.holder.Holder.TheVariants.{Now}
-use Rattle.txn_trace.specs.declared.seat.Phase.{Phase}
-use Rattle.txn_trace.specs.declared.seat.Phase.TheVariants.{Opened}
+use Rattle.txn_words.specs.declared.op.Op.{Op}
+use Rattle.txn_words.specs.declared.op.Op.TheVariants.{Put}
+use Rattle.txn_words.specs.declared.refusal.Refusal.{Refusal}
+use Rattle.txn_words.specs.declared.refusal.Refusal.TheVariants as refusals
+use Rattle.txn_words.specs.declared.step.Step.{Step}
+use Rattle.txn_words.specs.declared.step.Step.TheVariants.{Begin, Ask, Commit}
+use Rattle.txn_words.specs.declared.answer.Answer.{Answer}
+use Rattle.txn_words.specs.declared.answer.Answer.TheVariants as answers
+use Rattle.txn_words.specs.declared.entry.Entry.{Entry}
+use Rattle.txn_words.specs.declared.entry.Entry.TheVariants as entry
+use Rattle.txn_words.specs.declared.holder.Holder.TheVariants.{Now}
+use Rattle.txn_words.specs.declared.seat.Phase.{Phase}
+use Rattle.txn_words.specs.declared.seat.Phase.TheVariants.{Opened}
 use Rattle.txn_trace.specs.Legal.{IsLegal, is_running}
 use Rattle.txn_trace.specs.Locks.{stripe_of, is_locked, holder_of}
-use Rattle.txn_trace.specs.Map.{Map, get, key_of}
+use Rattle.txn_words.specs.Map.{Map, get, key_of}
 use Rattle.txn_trace.specs.Now.{now}
-use Rattle.txn_trace.specs.Ordered.{split_cmp, ordered}
-use Rattle.txn_trace.specs.Seats.{is_closed, is_leaving, is_waiting}
-use Rattle.txn_trace.specs.Shape.{Seat, closed_seat, seat_after, own}
-use Rattle.txn_trace.specs.Sizes.{Sizes, are_limits, is_bad_key}
+use Rattle.txn_words.specs.Ordered.{split_cmp, ordered}
+use Rattle.txn_words.specs.Seats.{is_closed, is_leaving, is_waiting}
+use Rattle.txn_words.specs.Shape.{Seat, closed_seat, seat_after, own}
+use Rattle.txn_words.specs.Sizes.{Sizes, are_limits, is_bad_key}
 use Rattle.txn_trace.proofs.Holders.{is_locked-busy}
 use Rattle.txn_trace.proofs.Held.{holder_running}
-use Rattle.txn_trace.proofs.Order.{split_cmp_tied, value_at, value_at-ordered}
+use Rattle.txn_words.proofs.Order.{split_cmp_tied, value_at, value_at-ordered}
 use Rattle.boost_core.specs.State.{State, holder_by, seat_in}
 use Rattle.boost_core.specs.Refusals.{refusal_of, MayLack, has_stamp_for}
 use Rattle.boost_core.specs.Machine.{IsAllowed, Move, Event}

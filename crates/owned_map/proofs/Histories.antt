@@ -4,21 +4,20 @@ use Rattle.std.specs.Prelude.{nat_le}
 use Rattle.std.proofs.lemmas.Bool.{false≢true, and_parts, cases_eq, ne_eqb}
 use Rattle.std.proofs.lemmas.List.{append-nil, append_assoc}
 use mathlib.Core.Logic.{inl, inr}
-use Rattle.txn_trace.specs.declared.holder.Holder.{Holder}
-use Rattle.txn_trace.specs.declared.op.Op.{Op}
-use Rattle.txn_trace.specs.declared.entry.Entry.{Entry}
-use Rattle.txn_trace.specs.declared.entry.Entry.TheVariants as entry
-use Rattle.txn_trace.specs.declared.seat.Phase.TheVariants.{Closed, Opened, Waiting, LeavingToEnd}
-use Rattle.txn_trace.specs.Sizes.{Sizes}
-use Rattle.txn_trace.specs.Map.{Map, key_of, reply_of, after}
+use Rattle.txn_words.specs.declared.holder.Holder.{Holder}
+use Rattle.txn_words.specs.declared.op.Op.{Op}
+use Rattle.txn_words.specs.declared.entry.Entry.{Entry}
+use Rattle.txn_words.specs.declared.entry.Entry.TheVariants as entry
+use Rattle.txn_words.specs.declared.seat.Phase.TheVariants.{Closed, Opened, Waiting, LeavingToEnd}
+use Rattle.txn_words.specs.Sizes.{Sizes}
+use Rattle.txn_words.specs.Map.{Map, key_of, reply_of, after}
 use Rattle.txn_trace.specs.Now.{now}
 use Rattle.txn_trace.specs.Log.{log_of}
-use Rattle.txn_trace.specs.History.{caller_of, is_began, is_commit}
-use Rattle.txn_trace.specs.Shape.{Seat, seat_after, own, closed_seat, changes, IsShaped, is_numbered, how_many}
+use Rattle.txn_words.specs.Kinds.{caller_of, is_began, is_commit}
+use Rattle.txn_words.specs.Shape.{Seat, seat_after, own, closed_seat, changes, IsShaped, is_numbered, how_many}
 use Rattle.txn_trace.specs.Legal.{IsLegal}
 use Rattle.txn_trace.specs.Locks.{is_locked}
-use Rattle.txn_trace.proofs.Acting.{after_unchanged}
-use Rattle.txn_trace.proofs.Fits.{changes-reply}
+use Rattle.txn_words.proofs.Effects.{after_unchanged, changes-reply}
 use Rattle.txn_trace.proofs.Pushes.{own-push_out}
 use Rattle.txn_trace.proofs.Next.{Next}
 use Rattle.txn_trace.proofs.Entries as laws

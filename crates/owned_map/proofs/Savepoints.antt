@@ -4,28 +4,27 @@ use Rattle.std.specs.Prelude.{nat_le, nat_lt, ◌||◌, unwrap_or}
 use Rattle.std.proofs.lemmas.Bool.{and_parts, ltb-true, leb-false}
 use Rattle.std.proofs.lemmas.List.{append-nil, get_or_append_left, length_push, get_or_push, get_or-take, length-take-le}
 use mathlib.Core.Logic.{inl, inr}
-use Rattle.txn_trace.specs.declared.holder.Holder.{Holder}
-use Rattle.txn_trace.specs.declared.op.Op.{Op}
-use Rattle.txn_trace.specs.declared.refusal.Refusal.TheVariants as refusals
-use Rattle.txn_trace.specs.declared.step.Step.{Step}
-use Rattle.txn_trace.specs.declared.step.Step.TheVariants.{Seek, Act, Save}
-use Rattle.txn_trace.specs.declared.answer.Answer.{Answer}
-use Rattle.txn_trace.specs.declared.answer.Answer.TheVariants as answers
-use Rattle.txn_trace.specs.declared.entry.Entry.{Entry}
-use Rattle.txn_trace.specs.declared.entry.Entry.TheVariants as entry
-use Rattle.txn_trace.specs.declared.seat.Phase.{Phase}
-use Rattle.txn_trace.specs.declared.seat.Phase.TheVariants.{Opened, Waiting, LeavingTo, LeavingToEnd}
-use Rattle.txn_trace.specs.Sizes.{Sizes}
-use Rattle.txn_trace.specs.Map.{Map, key_of, reply_of, after}
-use Rattle.txn_trace.specs.Now.{now, set_at}
+use Rattle.txn_words.specs.declared.holder.Holder.{Holder}
+use Rattle.txn_words.specs.declared.op.Op.{Op}
+use Rattle.txn_words.specs.declared.refusal.Refusal.TheVariants as refusals
+use Rattle.txn_words.specs.declared.step.Step.{Step}
+use Rattle.txn_words.specs.declared.step.Step.TheVariants.{Seek, Act, Save}
+use Rattle.txn_words.specs.declared.answer.Answer.{Answer}
+use Rattle.txn_words.specs.declared.answer.Answer.TheVariants as answers
+use Rattle.txn_words.specs.declared.entry.Entry.{Entry}
+use Rattle.txn_words.specs.declared.entry.Entry.TheVariants as entry
+use Rattle.txn_words.specs.declared.seat.Phase.{Phase}
+use Rattle.txn_words.specs.declared.seat.Phase.TheVariants.{Opened, Waiting, LeavingTo, LeavingToEnd}
+use Rattle.txn_words.specs.Sizes.{Sizes}
+use Rattle.txn_words.specs.Map.{Map, key_of, reply_of, after, set_at}
+use Rattle.txn_trace.specs.Now.{now}
 use Rattle.txn_trace.specs.Log.{log_of}
-use Rattle.txn_trace.specs.History.{caller_of}
-use Rattle.txn_trace.specs.Shape.{Seat, seat_after, own, closed_seat, changes, IsShaped}
+use Rattle.txn_words.specs.Kinds.{caller_of}
+use Rattle.txn_words.specs.Shape.{Seat, seat_after, own, closed_seat, changes, IsShaped}
 use Rattle.txn_trace.specs.Legal.{IsLegal}
 use Rattle.txn_trace.specs.Locks.{is_locked}
-use Rattle.txn_trace.proofs.Acting.{after_unchanged}
-use Rattle.txn_trace.proofs.Fits.{changes-reply}
-use Rattle.txn_trace.proofs.Levels.{Leveled, IsLevelIn, seat_leveled}
+use Rattle.txn_words.proofs.Effects.{after_unchanged, changes-reply}
+use Rattle.txn_words.proofs.Levels.{Leveled, IsLevelIn, seat_leveled}
 use Rattle.txn_trace.proofs.Next.{Next}
 use Rattle.txn_trace.proofs.Entries as laws
 use Rattle.boost_core.proofs.Due.{set_at-after}

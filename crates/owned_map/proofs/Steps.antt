@@ -4,20 +4,20 @@ use Rattle.std.specs.Prelude.{nat_le, nat_lt, not, ◌||◌, unwrap_or}
 use Rattle.std.proofs.lemmas.Bool.{false≢true, and_parts, ltb-true, lt-ltb}
 use Rattle.std.proofs.lemmas.List.{append-nil}
 use mathlib.Core.Logic.{inl, inr, ◌⊎◌}
-use Rattle.txn_trace.specs.declared.op.Op.{Op}
-use Rattle.txn_trace.specs.declared.refusal.Refusal.{Refusal}
-use Rattle.txn_trace.specs.declared.refusal.Refusal.TheVariants as refusals
-use Rattle.txn_trace.specs.declared.step.Step.{Step}
-use Rattle.txn_trace.specs.declared.step.Step.TheVariants.{Begin, Ask, Seek, Act, Commit, Abort}
-use Rattle.txn_trace.specs.declared.answer.Answer.{Answer}
-use Rattle.txn_trace.specs.declared.answer.Answer.TheVariants as answers
-use Rattle.txn_trace.specs.declared.seat.Phase.{Phase}
-use Rattle.txn_trace.specs.declared.seat.Phase.TheVariants.{Closed, Opened, Waiting, LeavingTo, LeavingToEnd}
-use Rattle.txn_trace.specs.Map.{Map, reply_of}
-use Rattle.txn_trace.specs.Map as map
+use Rattle.txn_words.specs.declared.op.Op.{Op}
+use Rattle.txn_words.specs.declared.refusal.Refusal.{Refusal}
+use Rattle.txn_words.specs.declared.refusal.Refusal.TheVariants as refusals
+use Rattle.txn_words.specs.declared.step.Step.{Step}
+use Rattle.txn_words.specs.declared.step.Step.TheVariants.{Begin, Ask, Seek, Act, Commit, Abort}
+use Rattle.txn_words.specs.declared.answer.Answer.{Answer}
+use Rattle.txn_words.specs.declared.answer.Answer.TheVariants as answers
+use Rattle.txn_words.specs.declared.seat.Phase.{Phase}
+use Rattle.txn_words.specs.declared.seat.Phase.TheVariants.{Closed, Opened, Waiting, LeavingTo, LeavingToEnd}
+use Rattle.txn_words.specs.Map.{Map, reply_of}
+use Rattle.txn_words.specs.Map as map
 use Rattle.txn_trace.specs.Log.{log_of}
 use Rattle.txn_trace.specs.Now.{now}
-use Rattle.txn_trace.specs.Shape.{Seat, closed_seat, seat_after, own}
+use Rattle.txn_words.specs.Shape.{Seat, closed_seat, seat_after, own}
 use Rattle.txn_trace.specs.Legal.{IsLegal}
 use Rattle.boost_core.specs.State.{State, holder_by, seat_in}
 use Rattle.boost_core.specs.Refusals.{refusal_of, is_closed, is_leaving, is_waiting, has_job, has_stamp_for}

@@ -3,21 +3,22 @@ use Rattle.std.proofs.Common.{◌≡◌, ℕ, ◌+◌, zero, suc, Bool, true, fa
 use Rattle.std.specs.Prelude.{not, ◌&&◌}
 use Rattle.std.specs.List.{filter, fold}
 use Rattle.std.proofs.lemmas.Bool.{and_from, and_parts}
-use Rattle.txn_trace.specs.declared.op.Op.{Op}
-use Rattle.txn_trace.specs.declared.refusal.Refusal.TheVariants as refusals
-use Rattle.txn_trace.specs.declared.step.Step.{Step}
-use Rattle.txn_trace.specs.declared.step.Step.TheVariants.{Begin, Ask, Seek, Act, Save, Back, Commit, Abort}
-use Rattle.txn_trace.specs.declared.answer.Answer.{Answer}
-use Rattle.txn_trace.specs.declared.answer.Answer.TheVariants as answers
-use Rattle.txn_trace.specs.declared.entry.Entry.{Entry}
-use Rattle.txn_trace.specs.declared.entry.Entry.TheVariants as entry
-use Rattle.txn_trace.specs.Entries.{entries_of}
-use Rattle.txn_trace.specs.History.{Line, caller_of, txn_after, lines_from, is_of, of, commits, open_txns}
+use Rattle.txn_words.specs.declared.op.Op.{Op}
+use Rattle.txn_words.specs.declared.refusal.Refusal.TheVariants as refusals
+use Rattle.txn_words.specs.declared.step.Step.{Step}
+use Rattle.txn_words.specs.declared.step.Step.TheVariants.{Begin, Ask, Seek, Act, Save, Back, Commit, Abort}
+use Rattle.txn_words.specs.declared.answer.Answer.{Answer}
+use Rattle.txn_words.specs.declared.answer.Answer.TheVariants as answers
+use Rattle.txn_words.specs.declared.entry.Entry.{Entry}
+use Rattle.txn_words.specs.declared.entry.Entry.TheVariants as entry
+use Rattle.txn_words.specs.Entries.{entries_of}
+use Rattle.txn_trace.specs.History.{Line, txn_after, lines_from, is_of, of, commits, open_txns}
+use Rattle.txn_words.specs.Kinds.{caller_of}
 use Rattle.txn_trace.specs.Alone.{Run, alone, last_map, map_after}
-use Rattle.txn_trace.specs.Map.{Map, empty, get, key_of}
+use Rattle.txn_words.specs.Map.{Map, empty, get, key_of}
 use Rattle.txn_trace.specs.Now.{now, first_differing}
 use Rattle.txn_trace.specs.Serial.{serial}
-use Rattle.txn_trace.specs.Sizes.{is_bad_key}
+use Rattle.txn_words.specs.Sizes.{is_bad_key}
 use Rattle.txn_trace.proofs.Local.{AsksFor, AllAskFor, RunsAlike, alone_alike}
 use Rattle.txn_trace.proofs.Table.{get-now}
 use Rattle.boost_core.specs.State.{State, seat_in}

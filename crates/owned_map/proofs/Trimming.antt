@@ -11,24 +11,24 @@ use Rattle.std.proofs.Math.Seq.{drop-cons, take-suc}
 use Rattle.std.proofs.lemmas.Grind.{flat_map-append}
 use Rattle.std.proofs.lemmas.List.Sums.{sum_by-cons}
 use mathlib.Core.Logic.{inl, inr}
-use Rattle.txn_trace.specs.declared.op.Op.{Op}
-use Rattle.txn_trace.specs.declared.op.Op.TheVariants.{Put}
-use Rattle.txn_trace.specs.declared.step.Step.TheVariants.{Begin, Commit}
-use Rattle.txn_trace.specs.declared.answer.Answer.TheVariants as answers
-use Rattle.txn_trace.specs.declared.entry.Entry.{Entry}
-use Rattle.txn_trace.specs.declared.entry.Entry.TheVariants.{Began, Asked, Did, Committed}
-use Rattle.txn_trace.specs.declared.seat.Phase.{Phase}
-use Rattle.txn_trace.specs.declared.seat.Phase.TheVariants.{Closed, Opened, Waiting, LeavingTo, LeavingToEnd}
-use Rattle.txn_trace.specs.History.{is_began, is_commit}
-use Rattle.txn_trace.specs.Map.{Map, get, insert}
+use Rattle.txn_words.specs.declared.op.Op.{Op}
+use Rattle.txn_words.specs.declared.op.Op.TheVariants.{Put}
+use Rattle.txn_words.specs.declared.step.Step.TheVariants.{Begin, Commit}
+use Rattle.txn_words.specs.declared.answer.Answer.TheVariants as answers
+use Rattle.txn_words.specs.declared.entry.Entry.{Entry}
+use Rattle.txn_words.specs.declared.entry.Entry.TheVariants.{Began, Asked, Did, Committed}
+use Rattle.txn_words.specs.declared.seat.Phase.{Phase}
+use Rattle.txn_words.specs.declared.seat.Phase.TheVariants.{Closed, Opened, Waiting, LeavingTo, LeavingToEnd}
+use Rattle.txn_words.specs.Kinds.{is_began, is_commit}
+use Rattle.txn_words.specs.Map.{Map, get, insert}
 use Rattle.txn_trace.specs.Now.{now}
 use Rattle.txn_trace.specs.Legal.{IsLegal}
-use Rattle.txn_trace.specs.Ordered.{split_cmp, ordered}
-use Rattle.txn_trace.specs.Owed.{owed, owed_by, owed_in}
-use Rattle.txn_trace.specs.Seats.{is_closed}
-use Rattle.txn_trace.specs.Shape.{Seat, closed_seat, seat_after, own, how_many}
-use Rattle.txn_trace.proofs.Maps.{same_map, get-insert}
-use Rattle.txn_trace.proofs.Order.{split_cmp_total, split_cmp_tied, value_at, IsSortedBySplit, sorted-ordered, value_at-ordered, pair_parts}
+use Rattle.txn_words.specs.Ordered.{split_cmp, ordered}
+use Rattle.txn_words.specs.Owed.{owed, owed_by, owed_in}
+use Rattle.txn_words.specs.Seats.{is_closed}
+use Rattle.txn_words.specs.Shape.{Seat, closed_seat, seat_after, own, how_many}
+use Rattle.txn_words.proofs.Maps.{same_map, get-insert}
+use Rattle.txn_words.proofs.Order.{split_cmp_total, split_cmp_tied, value_at, IsSortedBySplit, sorted-ordered, value_at-ordered, pair_parts}
 use Rattle.boost_core.specs.State.{State, holder_by, seat_in}
 use Rattle.boost_core.specs.Machine.{Move}
 use Rattle.boost_core.specs.Plain.{Operates}

@@ -1,9 +1,9 @@
 -- The keys that the limits of a map take.
 use Rattle.std.specs.Prelude.{ℕ, ◌≡◌, Bool, true, not, ◌&&◌, List, [], ◌∷◌, None}
-use Rattle.txn_trace.specs.declared.entry.Entry.{Entry}
-use Rattle.txn_trace.specs.declared.entry.Entry.TheVariants.{Asked}
-use Rattle.txn_trace.specs.Map.{Map, key_of, get}
-use Rattle.txn_trace.specs.Sizes.{is_bad_key}
+use Rattle.txn_words.specs.declared.entry.Entry.{Entry}
+use Rattle.txn_words.specs.declared.entry.Entry.TheVariants.{Asked}
+use Rattle.txn_words.specs.Map.{Map, key_of, get}
+use Rattle.txn_words.specs.Sizes.{is_bad_key}
 
 -- Whether an entry asks for no key that is refused, if only half keys are taken.
 abbrev pub is_well : Bool → Entry → Bool

@@ -1,17 +1,17 @@
 -- A history that was cut off, and the beginning of the new one.
 use Rattle.std.specs.Prelude.{ℕ, ◌≡◌, ◌≢◌, ◌<◌, false, List, [], ◌∷◌, ◌++◌, None}
 use Rattle.std.specs.List.{flat_map}
-use Rattle.txn_trace.specs.declared.op.Op.TheVariants.{Put}
-use Rattle.txn_trace.specs.declared.entry.Entry.{Entry}
-use Rattle.txn_trace.specs.declared.entry.Entry.TheVariants.{Began, Asked, Did, Committed}
-use Rattle.txn_trace.specs.declared.refusal.Refusal.{Refusal}
-use Rattle.txn_trace.specs.declared.refusal.Refusal.TheVariants.{AlreadyOpen, NoMemory, StampsUsedUp}
-use Rattle.txn_trace.specs.Map.{Map}
+use Rattle.txn_words.specs.declared.op.Op.TheVariants.{Put}
+use Rattle.txn_words.specs.declared.entry.Entry.{Entry}
+use Rattle.txn_words.specs.declared.entry.Entry.TheVariants.{Began, Asked, Did, Committed}
+use Rattle.txn_words.specs.declared.refusal.Refusal.{Refusal}
+use Rattle.txn_words.specs.declared.refusal.Refusal.TheVariants.{AlreadyOpen, NoMemory, StampsUsedUp}
+use Rattle.txn_words.specs.Map.{Map}
 use Rattle.txn_trace.specs.Now.{now}
-use Rattle.txn_trace.specs.Ordered.{ordered}
-use Rattle.txn_trace.specs.declared.seat.Phase.TheVariants.{Opened}
-use Rattle.txn_trace.specs.Seats.{is_closed}
-use Rattle.txn_trace.specs.Shape.{own}
+use Rattle.txn_words.specs.Ordered.{ordered}
+use Rattle.txn_words.specs.declared.seat.Phase.TheVariants.{Opened}
+use Rattle.txn_words.specs.Seats.{is_closed}
+use Rattle.txn_words.specs.Shape.{own}
 use Rattle.boost_core.specs.State.{State, seat_in}
 use Rattle.owned_map.specs.Within.{IsIdle}
 

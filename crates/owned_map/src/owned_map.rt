@@ -4,10 +4,10 @@
 //! `Transaction` are over them. Every bucket below `grown` is initialised, unless memory was
 //! refused.
 ghost use Rattle.std.specs.Prelude.{◌≡◌, ◌==◌, true, false, ℕ, ◌⊎◌, IfOk, IfErr, OnOk, OnErr, Ok, Err};
-ghost use Rattle.txn_trace.specs.Map.{count_of};
+ghost use Rattle.txn_words.specs.Map.{count_of};
 ghost use Rattle.txn_trace.specs.Now.{now};
-ghost use Rattle.txn_trace.specs.declared.answer.Answer.TheVariants as answers;
-ghost use Rattle.txn_trace.specs.declared.step.Step.TheVariants as steps;
+ghost use Rattle.txn_words.specs.declared.answer.Answer.TheVariants as answers;
+ghost use Rattle.txn_words.specs.declared.step.Step.TheVariants as steps;
 ghost use Rattle.boost_core.specs.Machine.{Event, Move};
 ghost use Rattle.boost_core.specs.State.{start};
 ghost use Rattle.boost_core.specs.Plain.{Operates, Returns};

@@ -4,9 +4,9 @@
 //! promises `Keeps`, and so does a work of several operations.
 ghost use Rattle.std.specs.Prelude.{◌≡◌, ◌==◌, ℕ, Option, nat_eq, is_some, IfErr, IfOk, OnErr, OnOk};
 ghost use Rattle.std.specs.Option.{option_eq};
-ghost use Rattle.txn_trace.specs.declared.answer.Answer.TheVariants as answers;
-ghost use Rattle.txn_trace.specs.declared.step.Step.TheVariants as steps;
-ghost use Rattle.txn_trace.specs.Map.{after, count_of, get as value_at};
+ghost use Rattle.txn_words.specs.declared.answer.Answer.TheVariants as answers;
+ghost use Rattle.txn_words.specs.declared.step.Step.TheVariants as steps;
+ghost use Rattle.txn_words.specs.Map.{after, count_of, get as value_at};
 ghost use Rattle.txn_trace.specs.Now.{now};
 ghost use Rattle.boost_core.specs.Machine.{Event};
 ghost use Rattle.boost_core.specs.Plain.{Returns};

@@ -3,13 +3,13 @@
 //! A trim makes a second core, which takes the place of the first. The new history begins with one
 //! transaction, which puts all pairs.
 ghost use Rattle.std.specs.Prelude.{◌≡◌, ◌+◌, ◌++◌, [], ◌∷◌, None, false, IfOk, IfErr, OnOk, OnErr};
-ghost use Rattle.txn_trace.specs.declared.entry.Entry.TheVariants as entries;
-ghost use Rattle.txn_trace.specs.History.{is_commit};
-ghost use Rattle.txn_trace.specs.Map.{Map, get, insert};
+ghost use Rattle.txn_words.specs.declared.entry.Entry.TheVariants as entries;
+ghost use Rattle.txn_words.specs.Kinds.{is_commit};
+ghost use Rattle.txn_words.specs.Map.{Map, get, insert};
 ghost use Rattle.txn_trace.specs.Now.{now};
-ghost use Rattle.txn_trace.specs.Ordered.{ordered};
-ghost use Rattle.txn_trace.specs.Shape.{how_many};
-ghost use Rattle.txn_trace.specs.Sizes.{is_bad_key};
+ghost use Rattle.txn_words.specs.Ordered.{ordered};
+ghost use Rattle.txn_words.specs.Shape.{how_many};
+ghost use Rattle.txn_words.specs.Sizes.{is_bad_key};
 ghost use Rattle.owned_map.specs.Taken.{HasTakenKeys};
 ghost use Rattle.owned_map.specs.Trimmed.{IsFilling, IsLack, IsNotTrimmed, IsTrimmed, filling, put_new as putting};
 

@@ -7,10 +7,8 @@ use Rattle.std.proofs.lemmas.Bool.{false≢true, cases_eq, eq-eqb, ne_eqb}
 use Rattle.std.proofs.lemmas.List.Sorted.{IsPermutation-refl, IsPermutation-sym, IsPermutation-trans, IsPermutation-cons, IsPermutation-middle, length_permutation}
 use Rattle.std.proofs.lemmas.Map.Keys.{IsDistinct-head, IsDistinct-tail}
 use mathlib.Core.Logic.{inl, inr}
-use Rattle.txn_trace.specs.Map.{get}
-use Rattle.txn_trace.specs.Now.{set_at}
-use Rattle.txn_trace.proofs.Maps.{get-insert, same_map}
-use Rattle.txn_trace.proofs.Table.{get-set_at}
+use Rattle.txn_words.specs.Map.{get, set_at}
+use Rattle.txn_words.proofs.Maps.{get-insert, same_map, get-set_at}
 use Rattle.probe_map.specs.MapAt.{map_of}
 
 abbrev Pair : Type 0

@@ -6,10 +6,8 @@ use Rattle.std.proofs.lemmas.Bool.{cases_eq, eq-eqb, ne_eqb, false≢true}
 use Rattle.std.proofs.lemmas.List.{get_or_default, get_or-set_same, get_or-set_other, length-set}
 use Rattle.std.proofs.lemmas.List.Sums.{get_or-le-sum_by, sum_by-cons, sum_by-set}
 use mir.Val.{bool_byte}
-use Rattle.txn_trace.specs.Map.{Map, get, count_of}
-use Rattle.txn_trace.specs.Now.{set_at}
-use Rattle.txn_trace.proofs.Maps.{same_map}
-use Rattle.txn_trace.proofs.Table.{get-set_at}
+use Rattle.txn_words.specs.Map.{Map, get, count_of, set_at}
+use Rattle.txn_words.proofs.Maps.{same_map, get-set_at}
 use Rattle.probe_map.specs.declared.slot.Slot.{Slot}
 use Rattle.probe_map.specs.declared.slot.Slot.TheVariants.{Empty, Removed, Full}
 use Rattle.probe_map.specs.MapAt.{map_of}

@@ -5,8 +5,8 @@ use Rattle.std.specs.Coded.{Coded, code_by, coded×, coded_list, coded_ℕ}
 use Rattle.std.specs.FinMap.Entries.{find}
 use Rattle.std.specs.Ordering.{nat_cmp}
 use base.Stored.{coded_via}
-use Rattle.txn_trace.specs.Map.{Map, empty, insert}
-use Rattle.txn_trace.proofs.Maps.{same_map}
+use Rattle.txn_words.specs.Map.{Map, empty, insert}
+use Rattle.txn_words.proofs.Maps.{same_map}
 
 -- The content, and how many keys can be put without memory that are not there.
 pub record MapAt : Type 0 where

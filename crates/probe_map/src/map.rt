@@ -2,8 +2,7 @@
 //! have a value.
 ghost use Rattle.std.specs.Prelude.{◌≡◌, ℕ, ◌+◌, ◌<◌, ◌≤◌, Option, IfOk, OnOk, OnErr, IfSome, length};
 ghost use Rattle.std.specs.List.Sorted.{IsPermutation};
-ghost use Rattle.txn_trace.specs.Map.{count_of, empty, get};
-ghost use Rattle.txn_trace.specs.Now.{set_at};
+ghost use Rattle.txn_words.specs.Map.{count_of, empty, get, set_at};
 ghost use Rattle.probe_map.specs.MapAt.{map_of, nothing};
 ghost use Rattle.probe_map.specs.Slots.{most_used, pairs_of};
 

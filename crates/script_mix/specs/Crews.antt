@@ -1,10 +1,10 @@
 -- Workers that take turns on one core.
 use Rattle.std.specs.Prelude.{◌≡◌, ◌≢◌, ℕ, ◌^◌, ◌-◌, ◌<◌, ◌⊎◌, false, List, length, slice_index_or}
-use Rattle.txn_trace.specs.declared.action.Action.{Action}
-use Rattle.txn_trace.specs.declared.entry.Entry.{Entry}
-use Rattle.txn_trace.specs.Shape.{own}
+use Rattle.txn_words.specs.declared.action.Action.{Action}
+use Rattle.txn_words.specs.declared.entry.Entry.{Entry}
+use Rattle.txn_words.specs.Shape.{own}
 use Rattle.txn_trace.specs.Plays.{PlayScripts}
-use Rattle.txn_trace.specs.Work.{Work}
+use Rattle.txn_words.specs.Work.{Work}
 use Rattle.boost_core.specs.Machine.{State}
 use Rattle.script_worker.specs.declared.worker.Worker.{Worker}
 use Rattle.script_worker.specs.Accounts.{Outcome, AreTrue, every, tolds_of}

@@ -1,9 +1,9 @@
 -- The worker that takes each turn, and the effect of the turn.
 use Rattle.std.specs.Prelude.{◌≡◌, ℕ, ◌+◌, ◌<◌, ◌%◌, if◌then◌else◌, List, [], ◌∷◌, ◌++◌, All, length, take, Option, None, is_some, slice_index_or, slice_set}
 use Prim.Native.Nat.{zero, suc}
-use Rattle.txn_trace.specs.declared.action.Action.{Action}
-use Rattle.txn_trace.specs.Sizes.{Sizes}
-use Rattle.txn_trace.specs.Work.{Work}
+use Rattle.txn_words.specs.declared.action.Action.{Action}
+use Rattle.txn_words.specs.Sizes.{Sizes}
+use Rattle.txn_words.specs.Work.{Work}
 use Rattle.boost_core.specs.Machine.{State, Move, start}
 use Rattle.script_worker.specs.declared.worker.Worker.{Worker}
 use Rattle.script_worker.specs.declared.attempt.Finish.{Finish}

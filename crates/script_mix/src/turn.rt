@@ -1,7 +1,7 @@
 //! One turn of one worker on the core. Each of its steps adds only entries of this worker's caller,
 //! so the invariants of all other workers still hold.
 ghost use Rattle.std.specs.Prelude.{◌≡◌, is_some, true};
-ghost use Rattle.txn_trace.specs.Shape.{own};
+ghost use Rattle.txn_words.specs.Shape.{own};
 ghost use Rattle.script_worker.specs.Workers.{step_by, IsReady};
 ghost use Rattle.script_worker.specs.Keeps.{Keeps};
 ghost use Rattle.script_mix.specs.Crews.{Goes};

@@ -2,7 +2,7 @@
 use Rattle.std.proofs.Common.{◌≡◌, ℕ, ◌+◌, ◌%◌, ◌<◌, ◌≤◌, ◌⊎◌, List, length, set, Some, refl, sym, ap, ◌∙◌, inl, inr, arith}
 use Rattle.std.specs.Prelude.{slice_get}
 use Rattle.std.proofs.Math.Nat.{add-mod_right}
-use Rattle.txn_trace.specs.declared.action.Action.{Action}
+use Rattle.txn_words.specs.declared.action.Action.{Action}
 use Rattle.script_outcomes.specs.declared.outcome.Outcome.{Outcome}
 use Rattle.script_outcomes.specs.declared.outcome.Outcome.TheVariants.{Committed, Aborted}
 use Rattle.script_outcomes.specs.declared.way.Way.{Way}

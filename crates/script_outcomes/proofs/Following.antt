@@ -6,11 +6,11 @@ use Rattle.std.proofs.lemmas.Bool.{cases_lt, cases_order, cases_Bool, eqb-true, 
 use Rattle.std.proofs.lemmas.List.{drop_more, drop_all, take_more, take_all}
 use Rattle.std.proofs.lemmas.List.Sums.{fold-append}
 use Rattle.std.proofs.lemmas.Option.{slice_get_within, slice_get-get_or, get_or_from_slice_get, slice_get_past}
-use Rattle.txn_trace.specs.declared.action.Action.{Action}
-use Rattle.txn_trace.specs.declared.entry.Entry.{Entry}
-use Rattle.txn_trace.specs.declared.entry.Entry.TheVariants as entries
-use Rattle.txn_trace.specs.History.{caller_of, is_commit}
-use Rattle.txn_trace.specs.Shape.{own}
+use Rattle.txn_words.specs.declared.action.Action.{Action}
+use Rattle.txn_words.specs.declared.entry.Entry.{Entry}
+use Rattle.txn_words.specs.declared.entry.Entry.TheVariants as entries
+use Rattle.txn_words.specs.Kinds.{caller_of, is_commit}
+use Rattle.txn_words.specs.Shape.{own}
 use Rattle.txn_trace.specs.Plays.{IsPlayed, IsScriptOf}
 use Rattle.txn_trace.proofs.Pushes.{own-push_in, own-push_out}
 use Rattle.script_outcomes.specs.declared.outcome.Outcome.{Outcome}

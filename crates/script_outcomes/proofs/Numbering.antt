@@ -5,12 +5,13 @@ use Rattle.std.specs.List.{fold}
 use Rattle.std.proofs.lemmas.List.{take_more, take-append-drop}
 use Rattle.std.proofs.lemmas.List.Elements.{filter-append}
 use Rattle.std.proofs.lemmas.Option.{slice_get_within, get_or_from_slice_get}
-use Rattle.txn_trace.specs.declared.action.Action.{Action}
-use Rattle.txn_trace.specs.declared.entry.Entry.{Entry}
-use Rattle.txn_trace.specs.declared.entry.Entry.TheVariants as entries
-use Rattle.txn_trace.specs.declared.entry.Entry.TheVariants.{Began, Undone}
-use Rattle.txn_trace.specs.History.{is_commit, ends_in, of, is_committed}
-use Rattle.txn_trace.specs.Shape.{own, is_shaped, IsShaped}
+use Rattle.txn_words.specs.declared.action.Action.{Action}
+use Rattle.txn_words.specs.declared.entry.Entry.{Entry}
+use Rattle.txn_words.specs.declared.entry.Entry.TheVariants as entries
+use Rattle.txn_words.specs.declared.entry.Entry.TheVariants.{Began, Undone}
+use Rattle.txn_trace.specs.History.{ends_in, of, is_committed}
+use Rattle.txn_words.specs.Kinds.{is_commit}
+use Rattle.txn_words.specs.Shape.{own, is_shaped, IsShaped}
 use Rattle.txn_trace.specs.Plays.{without_undone, is_undone, IsPlayed, Plays, part_after, parts_of}
 use Rattle.txn_trace.proofs.Pushes.{txn_in, txn_in-push, of-push_in, ends_in-push}
 use Rattle.txn_trace.proofs.Callers.{ended}

@@ -1,9 +1,9 @@
 -- The entries of one action, and those of a script from it on.
 use Rattle.std.proofs.Common.{◌≡◌, ℕ, ◌<◌, List, [], ◌∷◌, drop, length, get_or, Some, None, refl, subst, sym}
-use Rattle.txn_trace.specs.declared.action.Action.{Action}
-use Rattle.txn_trace.specs.declared.action.Action.TheVariants as actions
-use Rattle.txn_trace.specs.declared.entry.Entry.{Entry}
-use Rattle.txn_trace.specs.declared.entry.Entry.TheVariants.{Began, Asked, Did, Saved, Leave, Returned, Committed, Aborted}
+use Rattle.txn_words.specs.declared.action.Action.{Action}
+use Rattle.txn_words.specs.declared.action.Action.TheVariants as actions
+use Rattle.txn_words.specs.declared.entry.Entry.{Entry}
+use Rattle.txn_words.specs.declared.entry.Entry.TheVariants.{Began, Asked, Did, Saved, Leave, Returned, Committed, Aborted}
 use Rattle.txn_trace.specs.Plays.{ArePlayed, IsPlayed}
 use Rattle.script_outcomes.specs.Matches.{Does, ReachAbort, AbortsItself}
 use Rattle.script_outcomes.specs.Ways.{HasBegun, IsLoneCommit, IsLeft}

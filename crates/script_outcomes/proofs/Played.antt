@@ -5,11 +5,12 @@ use Rattle.std.specs.List.{AllByRecursion, cons_option, fold}
 use Rattle.std.proofs.lemmas.Bool.{eqb-true, false≢true}
 use Rattle.std.proofs.lemmas.List.{append-nil, map-append}
 use Rattle.std.proofs.lemmas.List.Elements.{filter-append}
-use Rattle.txn_trace.specs.declared.action.Action.{Action}
-use Rattle.txn_trace.specs.declared.entry.Entry.{Entry}
-use Rattle.txn_trace.specs.declared.entry.Entry.TheVariants.{Committed}
-use Rattle.txn_trace.specs.History.{caller_of, is_commit, ends_in, of}
-use Rattle.txn_trace.specs.Shape.{own, is_shaped, IsShaped}
+use Rattle.txn_words.specs.declared.action.Action.{Action}
+use Rattle.txn_words.specs.declared.entry.Entry.{Entry}
+use Rattle.txn_words.specs.declared.entry.Entry.TheVariants.{Committed}
+use Rattle.txn_trace.specs.History.{ends_in, of}
+use Rattle.txn_words.specs.Kinds.{caller_of, is_commit}
+use Rattle.txn_words.specs.Shape.{own, is_shaped, IsShaped}
 use Rattle.txn_trace.specs.Plays.{without_undone, is_undone, is_commit_of, commits_of, PlayRising, PlayScripts}
 use Rattle.txn_trace.proofs.Pushes.{txn_in, txn_at, of-push_in}
 use Rattle.txn_trace.proofs.Callers.{Callers, at_is, ended, is_end, not_began_is}

@@ -4,8 +4,8 @@ use Rattle.std.specs.Prelude.{slice_get}
 use Rattle.std.proofs.Math.Nat.{mod-eq_of_lt, mod-le}
 use Rattle.std.proofs.lemmas.List.{length_push, take_all, drop_all}
 use Rattle.std.proofs.lemmas.Option.{slice_get_within}
-use Rattle.txn_trace.specs.declared.action.Action.{Action}
-use Rattle.txn_trace.specs.declared.entry.Entry.{Entry}
+use Rattle.txn_words.specs.declared.action.Action.{Action}
+use Rattle.txn_words.specs.declared.entry.Entry.{Entry}
 use Rattle.script_outcomes.specs.declared.outcome.Outcome.{Outcome}
 use Rattle.script_outcomes.specs.declared.outcome.Outcome.TheVariants.{Committed, Aborted, GivenUp}
 use Rattle.script_outcomes.specs.declared.way.Way.{Way}

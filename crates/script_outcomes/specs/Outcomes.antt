@@ -2,11 +2,11 @@
 use Rattle.std.specs.Prelude.{◌≡◌, ℕ, ◌+◌, ◌%◌, ◌<◌, ◌≤◌, ◌==◌, Bool, Option, Some, List, [], ◌∷◌, ◌++◌, length, take, slice_get, if◌then◌else◌}
 use Prim.Native.Nat.{suc}
 use Rattle.std.specs.List.{fold}
-use Rattle.txn_trace.specs.declared.action.Action.{Action}
-use Rattle.txn_trace.specs.declared.entry.Entry.{Entry}
-use Rattle.txn_trace.specs.declared.entry.Entry.TheVariants as entries
-use Rattle.txn_trace.specs.History.{caller_of, is_began, is_commit}
-use Rattle.txn_trace.specs.Shape.{own}
+use Rattle.txn_words.specs.declared.action.Action.{Action}
+use Rattle.txn_words.specs.declared.entry.Entry.{Entry}
+use Rattle.txn_words.specs.declared.entry.Entry.TheVariants as entries
+use Rattle.txn_words.specs.Kinds.{caller_of, is_began, is_commit}
+use Rattle.txn_words.specs.Shape.{own}
 use Rattle.txn_trace.specs.Plays.{is_undone, IsPlayed, IsScriptOf}
 use Rattle.script_outcomes.specs.declared.outcome.Outcome.{Outcome}
 use Rattle.script_outcomes.specs.declared.outcome.Outcome.TheVariants.{Committed, Aborted, GivenUp}

@@ -1,9 +1,9 @@
 -- The position of a worker on its way through its scripts.
 use Rattle.std.specs.Prelude.{◌≡◌, ◌⊎◌, ℕ, ◌+◌, ◌%◌, ◌<◌, ◌≤◌, Bool, true, Some, None, List, [], ◌∷◌, length, slice_get, slice_set}
-use Rattle.txn_trace.specs.declared.action.Action.{Action}
-use Rattle.txn_trace.specs.declared.entry.Entry.{Entry}
-use Rattle.txn_trace.specs.declared.entry.Entry.TheVariants as entries
-use Rattle.txn_trace.specs.declared.entry.Entry.TheVariants.{Began, Leave}
+use Rattle.txn_words.specs.declared.action.Action.{Action}
+use Rattle.txn_words.specs.declared.entry.Entry.{Entry}
+use Rattle.txn_words.specs.declared.entry.Entry.TheVariants as entries
+use Rattle.txn_words.specs.declared.entry.Entry.TheVariants.{Began, Leave}
 use Rattle.txn_trace.specs.Plays.{IsPlayed}
 use Rattle.script_outcomes.specs.declared.matching.Fit.{Fit}
 use Rattle.script_outcomes.specs.declared.matching.Fit.TheVariants.{Itself, Refused, Other}

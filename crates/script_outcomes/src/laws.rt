@@ -4,10 +4,10 @@
 ghost use Rattle.std.specs.Prelude.{◌≡◌, ℕ, ◌<◌, true, List, [], ◌∷◌, ◌++◌, length};
 ghost use Rattle.txn_trace.specs.History.{is_committed, of};
 ghost use Rattle.txn_trace.specs.Plays.{PlayScripts, Plays};
-ghost use Rattle.txn_trace.specs.Shape.{IsShaped};
-ghost use Rattle.txn_trace.specs.declared.action.Action.{Action};
-ghost use Rattle.txn_trace.specs.declared.entry.Entry.{Entry};
-ghost use Rattle.txn_trace.specs.declared.entry.Entry.TheVariants as entries;
+ghost use Rattle.txn_words.specs.Shape.{IsShaped};
+ghost use Rattle.txn_words.specs.declared.action.Action.{Action};
+ghost use Rattle.txn_words.specs.declared.entry.Entry.{Entry};
+ghost use Rattle.txn_words.specs.declared.entry.Entry.TheVariants as entries;
 ghost use Rattle.script_outcomes.specs.declared.outcome.Outcome.{Outcome};
 ghost use Rattle.script_outcomes.specs.Outcomes.{AreCounted, AreOutcomes, Commits};
 

@@ -1,7 +1,7 @@
 //! Compares one transaction with one script: whether its entries are those of the script. A
 //! comparison takes a step for each entry that agrees, and no memory.
 ghost use Rattle.std.specs.Prelude.{◌≡◌, true, false, IfSome, IsNone, List};
-ghost use Rattle.txn_trace.specs.declared.entry.Entry.{Entry as AnEntry};
+ghost use Rattle.txn_words.specs.declared.entry.Entry.{Entry as AnEntry};
 ghost use Rattle.txn_trace.specs.Plays.{IsPlayed};
 ghost use Rattle.script_outcomes.specs.Matches.{AbortsItself, Does};
 ghost use Rattle.script_outcomes.specs.Ways.{HasBegun, IsLoneCommit, IsLeft, SaysItself};

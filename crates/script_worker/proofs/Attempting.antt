@@ -3,11 +3,11 @@ use Rattle.std.proofs.Common.{◌≡◌, ℕ, ◌+◌, ◌≤◌, List, [], ◌�
 use Rattle.std.specs.List.{filter}
 use Rattle.std.proofs.lemmas.List.{append-nil}
 use Rattle.std.proofs.lemmas.List.Elements.{filter-append, filter_map-append}
-use Rattle.txn_trace.specs.declared.action.Action.{Action}
-use Rattle.txn_trace.specs.declared.entry.Entry.{Entry}
-use Rattle.txn_trace.specs.declared.entry.Entry.TheVariants.{Began, Committed}
-use Rattle.txn_trace.specs.History.{is_commit}
-use Rattle.txn_trace.specs.Shape.{how_many}
+use Rattle.txn_words.specs.declared.action.Action.{Action}
+use Rattle.txn_words.specs.declared.entry.Entry.{Entry}
+use Rattle.txn_words.specs.declared.entry.Entry.TheVariants.{Began, Committed}
+use Rattle.txn_words.specs.Kinds.{is_commit}
+use Rattle.txn_words.specs.Shape.{how_many}
 use Rattle.txn_trace.specs.Plays.{is_undone, without_undone, ArePlayed, IsPlayed}
 use Rattle.script_worker.specs.Chunks.{IsFront}
 use Rattle.script_worker.specs.Accounts.{CommitNothing, Outcome, Told, is_busy, reply_in, replies_in, AreBusy, IsPlayedBy, IsAccount, AreAccounts}

@@ -7,12 +7,12 @@ use Rattle.std.proofs.lemmas.Bool.{ltb-true}
 use Rattle.std.proofs.lemmas.List.{append-nil}
 use Rattle.std.proofs.lemmas.Option.{slice_get-get_or}
 use Rattle.std.proofs.Math.Nat.{suc-mul}
-use Rattle.txn_trace.specs.declared.action.Action.{Action}
-use Rattle.txn_trace.specs.declared.answer.Answer.{Answer}
-use Rattle.txn_trace.specs.declared.entry.Entry.{Entry}
-use Rattle.txn_trace.specs.declared.step.Step.{Step}
-use Rattle.txn_trace.specs.Entries.{entries_of}
-use Rattle.txn_trace.specs.Sizes.{Sizes}
+use Rattle.txn_words.specs.declared.action.Action.{Action}
+use Rattle.txn_words.specs.declared.answer.Answer.{Answer}
+use Rattle.txn_words.specs.declared.entry.Entry.{Entry}
+use Rattle.txn_words.specs.declared.step.Step.{Step}
+use Rattle.txn_words.specs.Entries.{entries_of}
+use Rattle.txn_words.specs.Sizes.{Sizes}
 use Rattle.txn_drive.specs.declared.call.Call.{Call}
 use Rattle.txn_drive.specs.declared.call.Call.TheVariants as calls
 use Rattle.txn_drive.specs.declared.«end».End.{End}

@@ -6,12 +6,12 @@ use Rattle.std.proofs.lemmas.Bool.{false≢true}
 use Rattle.std.proofs.lemmas.List.{same_from_push}
 use Rattle.std.proofs.lemmas.List.Elements.{filter-append}
 use Rattle.std.proofs.lemmas.List.Sums.{fold-append}
-use Rattle.txn_trace.specs.declared.action.Action.{Action}
-use Rattle.txn_trace.specs.declared.action.Action.TheVariants as actions
-use Rattle.txn_trace.specs.declared.entry.Entry.{Entry}
-use Rattle.txn_trace.specs.declared.entry.Entry.TheVariants.{Began, Asked, Did, Saved, Leave, Undone, Returned, Committed}
-use Rattle.txn_trace.specs.History.{is_began, is_commit}
-use Rattle.txn_trace.specs.Shape.{Seat, row, closed_seat, seat_after}
+use Rattle.txn_words.specs.declared.action.Action.{Action}
+use Rattle.txn_words.specs.declared.action.Action.TheVariants as actions
+use Rattle.txn_words.specs.declared.entry.Entry.{Entry}
+use Rattle.txn_words.specs.declared.entry.Entry.TheVariants.{Began, Asked, Did, Saved, Leave, Undone, Returned, Committed}
+use Rattle.txn_words.specs.Kinds.{is_began, is_commit}
+use Rattle.txn_words.specs.Shape.{Seat, row, closed_seat, seat_after}
 use Rattle.txn_trace.specs.Plays.{is_undone, without_undone, ArePlayed, IsPlayed}
 use Rattle.script_worker.specs.Accounts.{CommitNothing}
 use Rattle.txn_trace.proofs.Lists.{filter_within}

@@ -1,8 +1,8 @@
 -- A call whose drive has ended out of step has committed nothing.
 use Rattle.std.proofs.Common.{◌≡◌, List, Some, subst, inl, inr}
-use Rattle.txn_trace.specs.declared.answer.Answer.TheVariants as answers
-use Rattle.txn_trace.specs.declared.entry.Entry.{Entry}
-use Rattle.txn_trace.specs.declared.refusal.Refusal.TheVariants.{OutOfStep}
+use Rattle.txn_words.specs.declared.answer.Answer.TheVariants as answers
+use Rattle.txn_words.specs.declared.entry.Entry.{Entry}
+use Rattle.txn_words.specs.declared.refusal.Refusal.TheVariants.{OutOfStep}
 use Rattle.txn_drive.specs.declared.drive.Drive.{Drive}
 use Rattle.txn_drive.specs.declared.«end».End.{End}
 use Rattle.txn_drive.specs.declared.«end».End.TheVariants as ends

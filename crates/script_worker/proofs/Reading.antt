@@ -5,10 +5,11 @@ use Rattle.std.proofs.lemmas.Bool.{false≢true, eq-eqb, cases_eq, ne_eqb}
 use Rattle.std.proofs.Math.Bool.{and-false}
 use Rattle.std.proofs.lemmas.List.{append-nil}
 use Rattle.std.proofs.lemmas.List.Sums.{fold-append}
-use Rattle.txn_trace.specs.declared.entry.Entry.{Entry}
-use Rattle.txn_trace.specs.declared.entry.Entry.TheVariants.{Began, Committed}
-use Rattle.txn_trace.specs.History.{caller_of, is_commit, txn_after}
-use Rattle.txn_trace.specs.Shape.{own, IsShaped}
+use Rattle.txn_words.specs.declared.entry.Entry.{Entry}
+use Rattle.txn_words.specs.declared.entry.Entry.TheVariants.{Began, Committed}
+use Rattle.txn_trace.specs.History.{txn_after}
+use Rattle.txn_words.specs.Kinds.{caller_of, is_commit}
+use Rattle.txn_words.specs.Shape.{own, IsShaped}
 use Rattle.txn_trace.specs.Plays.{is_commit_of, commits_of}
 use Rattle.script_worker.specs.Accounts.{CommitNothing}
 use Rattle.txn_trace.proofs.Pushes.{txn_in, txn_at, txn_in-push, own-push_in, own-push_out}

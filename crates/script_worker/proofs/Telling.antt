@@ -4,12 +4,13 @@ use Prim.Native.Nat.{suc}
 use Rattle.std.specs.List.{fold, filter, filter_map, cons_option, AllByRecursion}
 use Rattle.std.proofs.Math.Nat.{suc-mul}
 use Rattle.std.proofs.lemmas.List.Elements.{filter-append}
-use Rattle.txn_trace.specs.declared.action.Action.{Action}
-use Rattle.txn_trace.specs.declared.entry.Entry.{Entry}
-use Rattle.txn_trace.specs.declared.entry.Entry.TheVariants.{Began, Committed}
-use Rattle.txn_trace.specs.History.{is_commit, of, ends_in}
+use Rattle.txn_words.specs.declared.action.Action.{Action}
+use Rattle.txn_words.specs.declared.entry.Entry.{Entry}
+use Rattle.txn_words.specs.declared.entry.Entry.TheVariants.{Began, Committed}
+use Rattle.txn_trace.specs.History.{of, ends_in}
+use Rattle.txn_words.specs.Kinds.{is_commit}
 use Rattle.txn_trace.specs.Replies.{RepliesHold}
-use Rattle.txn_trace.specs.Shape.{own, how_many, IsShaped}
+use Rattle.txn_words.specs.Shape.{own, how_many, IsShaped}
 use Rattle.txn_trace.specs.Plays.{without_undone, IsPlayed}
 use Rattle.script_worker.specs.Accounts as accounts
 use Rattle.script_worker.specs.Accounts.{Outcome, Told, replies_in, IsAccount, AreAccounts, HasCome, AreTrue}

@@ -1,8 +1,8 @@
 -- The entries of changes that are taken back.
 use Rattle.std.proofs.Common.{◌≡◌, ℕ, zero, suc, false, if◌then◌else◌, List, [], ◌∷◌, ◌++◌, length, refl, ap}
-use Rattle.txn_trace.specs.declared.entry.Entry.{Entry}
-use Rattle.txn_trace.specs.History.{is_commit}
-use Rattle.txn_trace.specs.Shape.{how_many}
+use Rattle.txn_words.specs.declared.entry.Entry.{Entry}
+use Rattle.txn_words.specs.Kinds.{is_commit}
+use Rattle.txn_words.specs.Shape.{how_many}
 use Rattle.txn_trace.specs.Plays.{without_undone}
 use Rattle.script_worker.specs.Accounts.{CommitNothing, is_busy, replies_in}
 use Rattle.txn_drive.specs.Made.{undone_by}

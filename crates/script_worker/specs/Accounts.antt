@@ -3,12 +3,13 @@
 use Rattle.std.specs.Prelude.{◌≡◌, ℕ, ◌+◌, ◌-◌, ◌*◌, ◌<◌, ◌≤◌, Bool, true, false, Option, Some, None, List, [], ◌∷◌, ◌++◌, length, slice_get}
 use Prim.Native.Nat.{zero, suc}
 use Rattle.std.specs.List.{filter, filter_map, AllByRecursion}
-use Rattle.txn_trace.specs.declared.action.Action.{Action}
-use Rattle.txn_trace.specs.declared.refusal.Refusal.{Refusal}
-use Rattle.txn_trace.specs.declared.entry.Entry.{Entry}
-use Rattle.txn_trace.specs.declared.entry.Entry.TheVariants as entries
-use Rattle.txn_trace.specs.History.{is_commit, of, is_committed, commits}
-use Rattle.txn_trace.specs.Shape.{own, how_many}
+use Rattle.txn_words.specs.declared.action.Action.{Action}
+use Rattle.txn_words.specs.declared.refusal.Refusal.{Refusal}
+use Rattle.txn_words.specs.declared.entry.Entry.{Entry}
+use Rattle.txn_words.specs.declared.entry.Entry.TheVariants as entries
+use Rattle.txn_trace.specs.History.{of, is_committed, commits}
+use Rattle.txn_words.specs.Kinds.{is_commit}
+use Rattle.txn_words.specs.Shape.{own, how_many}
 use Rattle.txn_trace.specs.Plays.{without_undone, IsPlayed, Plays, commits_of}
 
 -- None of the entries commits.

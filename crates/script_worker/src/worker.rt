@@ -2,10 +2,10 @@
 //! step to take while it has a script left. `task` says what follows an answer.
 ghost use Rattle.std.specs.Option.{option_or};
 ghost use Rattle.std.specs.Prelude.{◌≡◌, ℕ, ◌<◌, ◌++◌, List, [], Some, true, is_some};
-ghost use Rattle.txn_trace.specs.declared.action.Action.{Action};
-ghost use Rattle.txn_trace.specs.declared.entry.Entry.{Entry};
-ghost use Rattle.txn_trace.specs.declared.step.Step.{Step};
-ghost use Rattle.txn_trace.specs.Entries.{entries_of};
+ghost use Rattle.txn_words.specs.declared.action.Action.{Action};
+ghost use Rattle.txn_words.specs.declared.entry.Entry.{Entry};
+ghost use Rattle.txn_words.specs.declared.step.Step.{Step};
+ghost use Rattle.txn_words.specs.Entries.{entries_of};
 ghost use Rattle.script_worker.specs.Workers.{new_worker, told_by, told_drive, finish_told, sized_by, turn_by, step_by, IsReady, IsTurnBy, TakesNext};
 ghost use Rattle.script_worker.specs.Keeps.{Keeps};
 

@@ -5,8 +5,8 @@ use Rattle.std.specs.BTreeMap.{is_at}
 use Rattle.std.specs.Cmp.{unsigned_tied}
 use Rattle.std.specs.Map.{lookup}
 use Rattle.std.specs.Ordering.{nat_cmp}
-use Rattle.txn_trace.specs.Map.{Map, empty, get, insert, remove}
-use Rattle.txn_trace.proofs.Maps.{get-insert, get-remove}
+use Rattle.txn_words.specs.Map.{Map, empty, get, insert, remove}
+use Rattle.txn_words.proofs.Maps.{get-insert, get-remove}
 use Rattle.serial_check.specs.declared.footprint.Cell.{Cell}
 
 -- A map with this at a key, a value or none.

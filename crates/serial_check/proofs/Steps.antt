@@ -2,11 +2,12 @@
 use Rattle.std.proofs.Common.{◌≡◌, ◌≢◌, ℕ, true, false, List, [], ◌∷◌, ◌++◌, refl, ap, sym, ◌∙◌, Some}
 use Rattle.std.proofs.lemmas.Bool.{false≢true}
 use mathlib.Core.Logic.{inl, inr}
-use Rattle.txn_trace.specs.declared.entry.Entry.{Entry}
-use Rattle.txn_trace.specs.History.{caller_of, is_began, is_commit, is_open, of}
+use Rattle.txn_words.specs.declared.entry.Entry.{Entry}
+use Rattle.txn_trace.specs.History.{is_open, of}
+use Rattle.txn_words.specs.Kinds.{caller_of, is_began, is_commit}
 use Rattle.txn_trace.specs.Alone.{map_after}
 use Rattle.txn_trace.specs.Serial.{serial}
-use Rattle.txn_trace.specs.Shape.{is_shaped, IsShaped}
+use Rattle.txn_words.specs.Shape.{is_shaped, IsShaped}
 use Rattle.txn_trace.proofs.Pushes.{txn_at, of-push_in, of-push_out}
 use Rattle.txn_trace.proofs.Callers.{Callers, is_end, at_is, not_began_is}
 use Rattle.txn_trace.proofs.Shaped.{callers_of, step, same, not_ended_before, ended_in}

@@ -1,14 +1,14 @@
 -- The committed map and the footprints of a checker, as statements about the entries so far.
 use Rattle.std.specs.Prelude.{◌≡◌, ◌≢◌, ◌⊎◌, ℕ, Bool, true, false, List, [], ◌∷◌, ◌++◌, None, Some, IsSome, slice_get}
 use Rattle.std.specs.Option.{IfSome}
-use Rattle.txn_trace.specs.declared.entry.Entry.{Entry}
+use Rattle.txn_words.specs.declared.entry.Entry.{Entry}
 use Rattle.txn_trace.specs.Alone.{Run, alone}
 use Rattle.txn_trace.specs.History.{is_open, of}
 use Rattle.txn_trace.specs.Legal.{is_running}
 use Rattle.txn_trace.specs.Log.{log_of}
-use Rattle.txn_trace.specs.Map.{Map, get}
+use Rattle.txn_words.specs.Map.{Map, get}
 use Rattle.txn_trace.specs.Serial.{serial}
-use Rattle.txn_trace.specs.Shape.{seat_after, own, is_shaped}
+use Rattle.txn_words.specs.Shape.{seat_after, own, is_shaped}
 use Rattle.history_check.specs.declared.callers.Callers.{Callers}
 use Rattle.history_check.specs.Callers.{HaveEntered}
 use Rattle.history_check.specs.Values.{Has}

@@ -1,6 +1,6 @@
 -- The entries that a checker was fed.
 use Rattle.std.specs.Prelude.{List}
-use Rattle.txn_trace.specs.declared.entry.Entry.{Entry}
+use Rattle.txn_words.specs.declared.entry.Entry.{Entry}
 use Rattle.history_check.specs.FirstBad.{FedBy}
 use Rattle.serial_check.specs.declared.checker.Checker.{Checker}
 use Rattle.serial_check.specs.Serializable.{broken}

@@ -1,6 +1,6 @@
 -- The state of a checker, as a statement about the entries so far.
 use Rattle.std.specs.Prelude.{◌≡◌, Option, None, Some, List, [], ◌∷◌, ◌++◌}
-use Rattle.txn_trace.specs.declared.entry.Entry.{Entry}
+use Rattle.txn_words.specs.declared.entry.Entry.{Entry}
 use Rattle.history_check.specs.declared.verdict.Rule.{Rule}
 use Rattle.history_check.specs.Callers.{HaveEntered}
 use Rattle.history_check.specs.Verdicts.{number_of}

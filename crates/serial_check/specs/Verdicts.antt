@@ -1,6 +1,6 @@
 -- The meaning of the checker's verdict.
 use Rattle.std.specs.Prelude.{◌≡◌, ◌↔◌, List}
-use Rattle.txn_trace.specs.declared.entry.Entry.{Entry}
+use Rattle.txn_words.specs.declared.entry.Entry.{Entry}
 use Rattle.history_check.specs.declared.verdict.Verdict.{Verdict}
 use Rattle.history_check.specs.Verdicts.{meaning_of, SaysLegal}
 use Rattle.serial_check.specs.Serializable as serializable

@@ -1,7 +1,7 @@
 //! A checker that is fed the entries of a history one after another, and judges replies at each
 //! commit. After an entry breaks a rule, the verdict no longer changes.
 ghost use Rattle.std.specs.Prelude.{◌≡◌, ℕ, ◌<◌, ◌++◌, [], ◌∷◌, List, IfOk, OnOk, OnErr, IfSome, IsNone, Some, true, false};
-ghost use Rattle.txn_trace.specs.History.{caller_of};
+ghost use Rattle.txn_words.specs.Kinds.{caller_of};
 ghost use Rattle.serial_check.specs.Verdicts.{IsVerdictOn};
 
 use crate::commits::Misread;
@@ -24,7 +24,7 @@ pub struct Checker {
 
 impl Checker {
     ghost use Rattle.txn_trace.specs.History.{is_open};
-    ghost use Rattle.txn_trace.specs.Map.{get};
+    ghost use Rattle.txn_words.specs.Map.{get};
     ghost use Rattle.txn_trace.specs.Serial.{serial};
     ghost use Rattle.history_check.specs.Callers.{HaveEntered};
     ghost use Rattle.serial_check.specs.Commits.{IsMisread, IsTorn, FitsOrTorn, RunsSomewhere};

@@ -1,8 +1,9 @@
 //! The judge of commits: the committed map and the footprints of open transactions. A commit is
 //! right if the committed map has the values that its footprint needs.
 ghost use Rattle.std.specs.Prelude.{◌≡◌, ℕ, ◌<◌, true, false, [], List, Some, IfOk, OnErr, IfSome, IsNone, vec_len};
-ghost use Rattle.txn_trace.specs.History.{caller_of, is_open};
-ghost use Rattle.txn_trace.specs.declared.entry.Entry.{Entry};
+ghost use Rattle.txn_trace.specs.History.{is_open};
+ghost use Rattle.txn_words.specs.Kinds.{caller_of};
+ghost use Rattle.txn_words.specs.declared.entry.Entry.{Entry};
 
 use crate::footprint::Footprint;
 use history_check::Callers;

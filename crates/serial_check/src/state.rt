@@ -1,7 +1,7 @@
 //! The state of a checker: callers, committed map and footprints. Its model is the history that it
 //! was fed; no list of the entries is kept.
 ghost use Rattle.std.specs.Prelude.{◌<◌, [], IfOk, OnErr};
-ghost use Rattle.txn_trace.specs.History.{caller_of};
+ghost use Rattle.txn_words.specs.Kinds.{caller_of};
 
 use crate::commits::Commits;
 use history_check::{Callers, Rule};

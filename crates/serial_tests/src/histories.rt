@@ -5,7 +5,7 @@ use serial_check::Checker;
 use std::alloc::{AllocError, Global};
 use std::process::Abort;
 use std::test::Fail;
-use txn_trace::{Entry, Holder, Op};
+use txn_words::{Entry, Holder, Op};
 
 /// Two transactions touch key 1, each as if the other were not there; the reader commits first.
 const READS_BESIDE: [Entry; 8] = [

@@ -8,7 +8,7 @@ use std::alloc::{AllocError, Global};
 use std::fmt::Display;
 use std::process::Abort;
 use std::test::Fail;
-use txn_trace::Refusal;
+use txn_words::Refusal;
 
 /// Checks that a value has this text.
 fn prints(

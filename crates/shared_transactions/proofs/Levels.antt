@@ -2,8 +2,8 @@
 use Rattle.std.proofs.Common.{◌≡◌, ℕ, true, List, [], ◌∷◌, ◌++◌, append_assoc, Some, refl, sym, ap, ◌∙◌}
 use Rattle.std.specs.Prelude.{Result, Ok, Err, OnOk}
 use Rattle.std.specs.Borrow.{MutBor}
-use Rattle.txn_trace.specs.declared.entry.Entry.{Entry}
-use Rattle.txn_trace.specs.declared.entry.Entry.TheVariants as entries
+use Rattle.txn_words.specs.declared.entry.Entry.{Entry}
+use Rattle.txn_words.specs.declared.entry.Entry.TheVariants as entries
 use Rattle.txn_drive.specs.declared.call.Call.{Call}
 use Rattle.txn_drive.specs.declared.call.Call.TheVariants as calls
 use Rattle.txn_drive.specs.declared.«end».End.TheVariants as ends

@@ -1,12 +1,12 @@
 -- What the first caller of a map does that goes on from another.
 use Rattle.std.proofs.Common.{◌≡◌, ℕ, ◌+◌, ◌<◌, ◌≤◌, zero, suc, true, List, [], ◌∷◌, ◌++◌, length, map, take, remove, slice_index_or, append_assoc, Option, refl, sym, ap, subst, ◌∙◌, arith}
 use Rattle.std.specs.List.{range_with_len}
-use Rattle.txn_trace.specs.Sizes.{Sizes, are_limits}
+use Rattle.txn_words.specs.Sizes.{Sizes, are_limits}
 use Rattle.std.proofs.lemmas.List.{append-nil, take_all}
 use Rattle.std.proofs.Math.Seq.{take-suc}
-use Rattle.txn_trace.specs.declared.op.Op.TheVariants.{Put}
-use Rattle.txn_trace.specs.declared.entry.Entry.{Entry}
-use Rattle.txn_trace.specs.declared.entry.Entry.TheVariants.{Began, Asked, Did, Committed}
+use Rattle.txn_words.specs.declared.op.Op.TheVariants.{Put}
+use Rattle.txn_words.specs.declared.entry.Entry.{Entry}
+use Rattle.txn_words.specs.declared.entry.Entry.TheVariants.{Began, Asked, Did, Committed}
 use Rattle.locked_map.specs.Tokens.{Token, Ticket, AreTickets, new_ticket}
 use Rattle.shared_transactions.specs.Within.{IsBegun, IsCommitted, GoesOn}
 use Rattle.shared_transactions.specs.Restarted.{ArePuts, HasPut, IsRefilled}

@@ -6,17 +6,17 @@ use Rattle.std.proofs.lemmas.Bool.{false≢true}
 use Rattle.std.proofs.lemmas.List.{append-nil}
 use Rattle.std.proofs.lemmas.List.Elements.{filter-append}
 use Rattle.std.proofs.lemmas.List.Sums.{fold-append}
-use Rattle.txn_trace.specs.History.{is_commit}
-use Rattle.txn_trace.specs.declared.answer.Answer.TheVariants as answers
-use Rattle.txn_trace.specs.declared.entry.Entry.{Entry}
-use Rattle.txn_trace.specs.declared.entry.Entry.TheVariants as entries
-use Rattle.txn_trace.specs.declared.op.Op.{Op}
-use Rattle.txn_trace.specs.declared.refusal.Refusal.{Refusal}
-use Rattle.txn_trace.specs.declared.refusal.Refusal.TheVariants.{OutOfStep}
-use Rattle.txn_trace.specs.declared.seat.Phase.{Phase}
-use Rattle.txn_trace.specs.declared.seat.Phase.TheVariants.{Closed, Opened, Waiting, LeavingTo, LeavingToEnd}
-use Rattle.txn_trace.specs.Shape.{Seat, seat_after, row, closed_seat}
-use Rattle.txn_trace.specs.Seats.{is_closed, refusal_in}
+use Rattle.txn_words.specs.Kinds.{is_commit}
+use Rattle.txn_words.specs.declared.answer.Answer.TheVariants as answers
+use Rattle.txn_words.specs.declared.entry.Entry.{Entry}
+use Rattle.txn_words.specs.declared.entry.Entry.TheVariants as entries
+use Rattle.txn_words.specs.declared.op.Op.{Op}
+use Rattle.txn_words.specs.declared.refusal.Refusal.{Refusal}
+use Rattle.txn_words.specs.declared.refusal.Refusal.TheVariants.{OutOfStep}
+use Rattle.txn_words.specs.declared.seat.Phase.{Phase}
+use Rattle.txn_words.specs.declared.seat.Phase.TheVariants.{Closed, Opened, Waiting, LeavingTo, LeavingToEnd}
+use Rattle.txn_words.specs.Shape.{Seat, seat_after, row, closed_seat}
+use Rattle.txn_words.specs.Seats.{is_closed, refusal_in}
 use Rattle.txn_drive.specs.declared.call.Call.{Call}
 use Rattle.txn_drive.specs.declared.call.Call.TheVariants as calls
 use Rattle.txn_drive.specs.declared.«end».End.{End}

@@ -3,11 +3,11 @@ use Rattle.std.specs.Prelude.{ℕ, ◌≡◌, ◌<◌, ◌⊎◌, false, List, [
 use Rattle.std.specs.Prelude.{slice_index_or}
 use Rattle.map_answers.specs.declared.stop.Stop.{Stop}
 use Rattle.map_answers.specs.declared.stop.Stop.TheVariants.{Refused}
-use Rattle.txn_trace.specs.Sizes.{Sizes}
-use Rattle.txn_trace.specs.declared.op.Op.TheVariants.{Put}
-use Rattle.txn_trace.specs.declared.refusal.Refusal.TheVariants.{NoMemory}
-use Rattle.txn_trace.specs.declared.entry.Entry.{Entry}
-use Rattle.txn_trace.specs.declared.entry.Entry.TheVariants.{Began, Asked, Did, Committed}
+use Rattle.txn_words.specs.Sizes.{Sizes}
+use Rattle.txn_words.specs.declared.op.Op.TheVariants.{Put}
+use Rattle.txn_words.specs.declared.refusal.Refusal.TheVariants.{NoMemory}
+use Rattle.txn_words.specs.declared.entry.Entry.{Entry}
+use Rattle.txn_words.specs.declared.entry.Entry.TheVariants.{Began, Asked, Did, Committed}
 use Rattle.locked_map.specs.Claims.{IsIdle}
 use Rattle.locked_map.specs.Tokens.{Token}
 use Rattle.shared_transactions.specs.Stops.{IsNotCommitted, StoppedGrowing}

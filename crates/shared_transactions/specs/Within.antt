@@ -1,12 +1,12 @@
 -- What the calls within a transaction leave of a caller's token, and what its end does.
 use Rattle.std.specs.Prelude.{ℕ, ◌≡◌, Bool, true, false, List, [], ◌∷◌, ◌++◌, Option, Some, None}
 use Rattle.std.specs.Prelude.{is_some}
-use Rattle.txn_trace.specs.declared.entry.Entry.TheVariants.{Began, Committed}
-use Rattle.txn_trace.specs.declared.entry.Entry.{Entry}
-use Rattle.txn_trace.specs.declared.seat.Phase.{Phase}
-use Rattle.txn_trace.specs.declared.seat.Phase.TheVariants.{Closed, Opened}
-use Rattle.txn_trace.specs.Seats.{is_closed}
-use Rattle.txn_trace.specs.Shape.{Seat, seat_after}
+use Rattle.txn_words.specs.declared.entry.Entry.TheVariants.{Began, Committed}
+use Rattle.txn_words.specs.declared.entry.Entry.{Entry}
+use Rattle.txn_words.specs.declared.seat.Phase.{Phase}
+use Rattle.txn_words.specs.declared.seat.Phase.TheVariants.{Closed, Opened}
+use Rattle.txn_words.specs.Seats.{is_closed}
+use Rattle.txn_words.specs.Shape.{Seat, seat_after}
 use Rattle.txn_drive.specs.declared.call.Call.{Call}
 use Rattle.txn_drive.specs.declared.call.Call.TheVariants as calls
 use Rattle.locked_map.specs.Claims.{Claimed, given_back}

@@ -5,8 +5,8 @@
 ghost use Rattle.std.specs.Prelude.{◌≡◌, ◌+◌, ◌++◌, [], ◌∷◌, ℕ, Option, Some, is_some, length};
 ghost use Rattle.std.specs.Prelude.{nat_eq, true, false, IfErr, IfOk, OnErr, OnOk};
 ghost use Rattle.std.specs.Option.{option_eq};
-ghost use Rattle.txn_trace.specs.declared.entry.Entry.TheVariants as entries;
-ghost use Rattle.txn_trace.specs.Shape.{Seat, seat_after};
+ghost use Rattle.txn_words.specs.declared.entry.Entry.TheVariants as entries;
+ghost use Rattle.txn_words.specs.Shape.{Seat, seat_after};
 ghost use Rattle.txn_drive.specs.Made.{undone_by};
 ghost use Rattle.locked_map.specs.Calls.{Ended, Ran, Stopped, WasRefused};
 ghost use Rattle.shared_transactions.specs.Keeps.{Keeps};

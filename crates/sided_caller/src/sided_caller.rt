@@ -2,9 +2,9 @@
 //! what it answered.
 ghost use Rattle.std.specs.Prelude.{◌≡◌, ℕ, ◌+◌, ◌≤◌, ◌<◌, ◌%◌, ◌^◌, true, false, [], ◌∷◌, IfOk, IfErr, OnOk, OnErr, Some, None, length, if◌then◌else◌};
 ghost use mathlib.Core.List.{IsPrefix};
-ghost use Rattle.txn_trace.specs.declared.entry.Entry.TheVariants.{Began, Asked, Did, Saved, Leave, Returned, Committed, Aborted};
-ghost use Rattle.txn_trace.specs.declared.op.Op.TheVariants.{Get, Put, Take, PutIf};
-ghost use Rattle.txn_trace.specs.declared.refusal.Refusal.TheVariants.{NoMemory, NotOpen, AlreadyOpen, NoSuchLevel};
+ghost use Rattle.txn_words.specs.declared.entry.Entry.TheVariants.{Began, Asked, Did, Saved, Leave, Returned, Committed, Aborted};
+ghost use Rattle.txn_words.specs.declared.op.Op.TheVariants.{Get, Put, Take, PutIf};
+ghost use Rattle.txn_words.specs.declared.refusal.Refusal.TheVariants.{NoMemory, NotOpen, AlreadyOpen, NoSuchLevel};
 ghost use Rattle.undo_log.specs.Sides.{HasLevel, IsBackAt, IsSameSide, IsSettled};
 ghost use Rattle.striped_map.specs.Callers.{number, seen, levels, changes, changes_above, stripes_held, IsStep, IsStopped};
 ghost use Rattle.striped_map.specs.Lone.{RunsAlone};
@@ -13,7 +13,7 @@ ghost use Rattle.sided_caller.specs.Calls.{HasStopped};
 
 use std::alloc::{AllocFailed, Global};
 use striped_map::{Caller, Stop};
-use txn_trace::{Refusal, Reply};
+use txn_words::{Refusal, Reply};
 use undo_log::{Side, SideJob, SideValue};
 
 /// A caller of a striped map with a side value. It may cross threads, and runs one transaction at a

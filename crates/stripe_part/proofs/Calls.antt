@@ -1,13 +1,12 @@
 -- What the calls of a part leave, from what they do to its map and its count of changes.
 use Rattle.std.proofs.Common.{◌≡◌, ℕ, false, true, cond, Option, None, sym, refl, ◌∙◌, ap}
 use Rattle.std.proofs.lemmas.Bool.{false≢true}
-use Rattle.txn_trace.specs.declared.op.Op.{Op}
-use Rattle.txn_trace.specs.declared.op.Op.TheVariants.{Get, Put, PutIf, Take}
-use Rattle.txn_trace.specs.Map.{Map, empty, get, key_of}
-use Rattle.txn_trace.specs.Owed.{may_change}
-use Rattle.txn_trace.specs.Shape.{changes}
-use Rattle.txn_trace.proofs.Acting.{after_unchanged}
-use Rattle.txn_trace.proofs.Fits.{changes-reply}
+use Rattle.txn_words.specs.declared.op.Op.{Op}
+use Rattle.txn_words.specs.declared.op.Op.TheVariants.{Get, Put, PutIf, Take}
+use Rattle.txn_words.specs.Map.{Map, empty, get, key_of}
+use Rattle.txn_words.specs.Owed.{may_change}
+use Rattle.txn_words.specs.Shape.{changes}
+use Rattle.txn_words.proofs.Effects.{after_unchanged, changes-reply}
 use Rattle.stripe_part.specs.Calls.{Does}
 use Rattle.stripe_part.specs.PartAt.{nothing}
 use Rattle.stripe_part.specs.Stored.{part_of}

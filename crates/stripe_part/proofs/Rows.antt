@@ -8,8 +8,8 @@ use Rattle.std.specs.Ordering.{ordering_then, MatchOrdering}
 use Rattle.std.specs.Cmp.{ranks}
 use Rattle.std.proofs.lemmas.List.Sorted.{sum_by-IsPermutation, IsNonDecreasingBy-from_sort}
 use Rattle.std.proofs.lemmas.List.Sums.{sum_by-cons}
-use Rattle.txn_trace.specs.Map.{Map}
-use Rattle.txn_trace.proofs.Order.{pair_parts}
+use Rattle.txn_words.specs.Map.{Map}
+use Rattle.txn_words.proofs.Order.{pair_parts}
 
 abbrev Pair : Type 0
 Pair = ℕ × ℕ

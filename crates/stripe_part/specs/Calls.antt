@@ -1,12 +1,11 @@
 -- What each call of a part answers and leaves.
 use Rattle.std.specs.Prelude.{◌≡◌, ℕ, ◌+◌, true, cond, Option}
-use Rattle.txn_trace.specs.declared.op.Op.{Op}
-use Rattle.txn_trace.specs.declared.refusal.Refusal.{Refusal}
-use Rattle.txn_trace.specs.declared.refusal.Refusal.TheVariants.{NoMemory}
-use Rattle.txn_trace.specs.Map.{reply_of, after}
-use Rattle.txn_trace.specs.Now.{set_at}
-use Rattle.txn_trace.specs.Owed.{may_change}
-use Rattle.txn_trace.specs.Shape.{changes}
+use Rattle.txn_words.specs.declared.op.Op.{Op}
+use Rattle.txn_words.specs.declared.refusal.Refusal.{Refusal}
+use Rattle.txn_words.specs.declared.refusal.Refusal.TheVariants.{NoMemory}
+use Rattle.txn_words.specs.Map.{reply_of, after, set_at}
+use Rattle.txn_words.specs.Owed.{may_change}
+use Rattle.txn_words.specs.Shape.{changes}
 use Rattle.stripe_part.specs.PartAt.{PartAt}
 
 -- An operation is done: its reply and what it leaves are the map's, and one change more can be

@@ -1,7 +1,7 @@
 -- A contract sees a part as its content and how many changes can be taken back.
 use Rattle.std.specs.Prelude.{ℕ, refl}
 use Rattle.std.specs.Coded.{Coded, code_by, coded×, coded_ℕ}
-use Rattle.txn_trace.specs.Map.{Map, empty}
+use Rattle.txn_words.specs.Map.{Map, empty}
 use Rattle.probe_map.specs.MapAt.{content_code}
 
 -- The content, and how many changes of the open transaction can be taken back.

@@ -2,13 +2,12 @@
 //! the two fields, and not methods of `CountedMap`, since its invariant does not hold between their
 //! steps.
 ghost use Rattle.std.specs.Prelude.{◌≡◌, ℕ, ◌+◌, ◌<◌, ◌≤◌, OnErr, IfOk, IfErr};
-ghost use Rattle.txn_trace.specs.Map.{after, reply_of};
-ghost use Rattle.txn_trace.specs.Now.{set_at};
+ghost use Rattle.txn_words.specs.Map.{after, reply_of, set_at};
 ghost use Rattle.stripe_part.specs.Calls.{Does, IsRefused, TakesBack};
 ghost use Rattle.stripe_part.specs.Stored.{part_of};
 
 use probe_map::ProbeMap;
-use txn_trace::{Op, Refusal, Reply};
+use txn_words::{Op, Refusal, Reply};
 
 /// Gives a key this value, or none.
 fn set(map: &mut ProbeMap, key: u64, value: Option<u64>)

@@ -2,7 +2,7 @@
 //! the map has room for as many keys, so that taking back needs no memory. What is done to the two
 //! fields stands in `change.rt`.
 ghost use Rattle.std.specs.Prelude.{◌≡◌, ℕ, ◌<◌, IfOk, IfErr, OnErr};
-ghost use Rattle.txn_trace.specs.Map.{count_of};
+ghost use Rattle.txn_words.specs.Map.{count_of};
 ghost use Rattle.stripe_part.specs.PartAt.{nothing};
 ghost use Rattle.stripe_part.specs.Calls.{Does, IsRefused, TakesBack};
 
@@ -10,7 +10,7 @@ use crate::change::{apply, take_back};
 use probe_map::ProbeMap;
 use std::alloc::{AllocError, Global};
 use std::marker::Model;
-use txn_trace::{Op, Refusal, Reply};
+use txn_words::{Op, Refusal, Reply};
 
 /// A map, and how many changes of the open transaction can be taken back.
 #[derive(Drop)]

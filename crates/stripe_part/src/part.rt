@@ -1,15 +1,15 @@
 //! The public type: a box with the map and the number of its changes, made at the first change.
 //! Until then a part is empty, and the calls answer as on the empty map.
 ghost use Rattle.std.specs.Prelude.{◌≡◌, ℕ, ◌<◌, true, Option, IfOk, IfErr, OnErr};
-ghost use Rattle.txn_trace.specs.Map.{count_of};
-ghost use Rattle.txn_trace.specs.Shape.{changes};
+ghost use Rattle.txn_words.specs.Map.{count_of};
+ghost use Rattle.txn_words.specs.Shape.{changes};
 ghost use Rattle.stripe_part.specs.PartAt.{nothing};
 ghost use Rattle.stripe_part.specs.Calls.{Does, IsRefused, TakesBack};
 
 use crate::counted_map::CountedMap;
 use std::alloc::{AllocError, Global};
 use std::marker::Model;
-use txn_trace::{Op, Refusal, Reply};
+use txn_words::{Op, Refusal, Reply};
 
 /// The map of one stripe, which can take changes of the open transaction back.
 ///

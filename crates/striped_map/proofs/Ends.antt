@@ -1,9 +1,9 @@
 -- What a hand has added by a step.
 use Rattle.std.proofs.Common.{◌≡◌, ◌≢◌, ℕ, zero, suc, ◌-◌, ◌<◌, List, [], ◌∷◌, get_or, Option, sym, refl, ap, subst, ◌∙◌, arith}
-use Rattle.txn_trace.specs.declared.entry.Entry.{Entry}
-use Rattle.txn_trace.specs.declared.entry.Entry.TheVariants.{Asked, Did, Busy, Aborted}
-use Rattle.txn_trace.specs.declared.holder.Holder.TheVariants.{Begun}
-use Rattle.txn_trace.specs.declared.op.Op.{Op}
+use Rattle.txn_words.specs.declared.entry.Entry.{Entry}
+use Rattle.txn_words.specs.declared.entry.Entry.TheVariants.{Asked, Did, Busy, Aborted}
+use Rattle.txn_words.specs.declared.holder.Holder.TheVariants.{Begun}
+use Rattle.txn_words.specs.declared.op.Op.{Op}
 use Rattle.txn_trace.specs.Legal.{IsLegal}
 use Rattle.stripe_part.specs.PartAt.{PartAt}
 use Rattle.striped_map.specs.declared.hand.Hand.{Hand}

@@ -7,18 +7,17 @@ use Rattle.std.specs.Prelude.{nat_eq}
 use Rattle.std.proofs.Math.Nat.{div-add-mod}
 use Rattle.std.proofs.lemmas.Bool.{false≢true}
 use Rattle.std.proofs.lemmas.List.{reverse-append}
-use Rattle.txn_trace.specs.declared.entry.Entry.{Entry}
-use Rattle.txn_trace.specs.declared.holder.Holder.TheVariants.{Begun}
-use Rattle.txn_trace.specs.declared.op.Op.{Op}
-use Rattle.txn_trace.specs.declared.op.Op.TheVariants.{Put, Take, Get, PutIf}
-use Rattle.txn_trace.specs.Map.{Map, get, insert, after, key_of}
-use Rattle.txn_trace.specs.Now.{now, set_at}
+use Rattle.txn_words.specs.declared.entry.Entry.{Entry}
+use Rattle.txn_words.specs.declared.holder.Holder.TheVariants.{Begun}
+use Rattle.txn_words.specs.declared.op.Op.{Op}
+use Rattle.txn_words.specs.declared.op.Op.TheVariants.{Put, Take, Get, PutIf}
+use Rattle.txn_words.specs.Map.{Map, get, insert, after, key_of, set_at}
+use Rattle.txn_trace.specs.Now.{now}
 use Rattle.txn_trace.specs.Locks.{stripe_of}
 use Rattle.txn_trace.specs.Legal.{IsLegal}
-use Rattle.txn_trace.specs.Shape.{changes, own}
-use Rattle.txn_trace.proofs.Acting.{get-after_other}
-use Rattle.txn_trace.proofs.Maps.{get-insert-here, get-remove-here}
-use Rattle.txn_trace.proofs.Table.{get-set_at}
+use Rattle.txn_words.specs.Shape.{changes, own}
+use Rattle.txn_words.proofs.Effects.{get-after_other}
+use Rattle.txn_words.proofs.Maps.{get-insert-here, get-remove-here, get-set_at}
 use Rattle.stripe_part.specs.PartAt.{PartAt}
 use Rattle.stripe_part.specs.Calls.{Does, TakesBack}
 use Rattle.striped_map.specs.declared.view.View.{View}

@@ -6,28 +6,28 @@ use Rattle.std.specs.List.{AllByRecursion}
 use Rattle.std.proofs.lemmas.Bool.{and_from, or_left}
 use Rattle.std.proofs.lemmas.List.Folds.{list_any-append}
 use Rattle.std.proofs.lemmas.List.Elements.{filter-append}
-use Rattle.txn_trace.specs.declared.entry.Entry.{Entry}
-use Rattle.txn_trace.specs.declared.entry.Entry.TheVariants.{Began, Asked, Did, Saved, Leave, Undone, Returned, Committed, Busy, Aborted}
-use Rattle.txn_trace.specs.declared.holder.Holder.TheVariants.{Begun}
-use Rattle.txn_trace.specs.declared.op.Op.{Op}
-use Rattle.txn_trace.specs.declared.seat.Phase.TheVariants.{Closed, Opened, Waiting, LeavingTo, LeavingToEnd}
-use Rattle.txn_trace.specs.History.{caller_of, is_began, is_commit}
-use Rattle.txn_trace.specs.Map.{Map, get, key_of, reply_of, after}
-use Rattle.txn_trace.specs.Now.{now, set_at}
+use Rattle.txn_words.specs.declared.entry.Entry.{Entry}
+use Rattle.txn_words.specs.declared.entry.Entry.TheVariants.{Began, Asked, Did, Saved, Leave, Undone, Returned, Committed, Busy, Aborted}
+use Rattle.txn_words.specs.declared.holder.Holder.TheVariants.{Begun}
+use Rattle.txn_words.specs.declared.op.Op.{Op}
+use Rattle.txn_words.specs.declared.seat.Phase.TheVariants.{Closed, Opened, Waiting, LeavingTo, LeavingToEnd}
+use Rattle.txn_words.specs.Kinds.{caller_of, is_began, is_commit}
+use Rattle.txn_words.specs.Map.{Map, get, key_of, reply_of, after, set_at}
+use Rattle.txn_trace.specs.Now.{now}
 use Rattle.txn_trace.specs.Locks.{stripe_of, holder_of, has_begun, is_locked}
 use Rattle.txn_trace.specs.Serial.{serial}
-use Rattle.txn_trace.specs.Shape.{Seat, changes, row, seat_after, own, how_many}
+use Rattle.txn_words.specs.Shape.{Seat, changes, row, seat_after, own, how_many}
 use Rattle.txn_trace.specs.Legal.{IsLegal, runs, is_running}
 use Rattle.txn_trace.specs.Log.{log_after, log_of}
 use Rattle.txn_trace.proofs.Pushes.{how_many-push}
 use Rattle.txn_trace.proofs.Callers.{not_equal}
-use Rattle.txn_trace.proofs.Acting.{get-after_other, get-after_same}
+use Rattle.txn_words.proofs.Effects.{get-after_other, get-after_same}
 use Rattle.txn_trace.proofs.Holders.{is_locked-asked}
 use Rattle.txn_trace.proofs.Naming.{txn_begun}
 use Rattle.txn_trace.proofs.Next.{Next, in_txn}
 use Rattle.txn_trace.proofs.Entries.{asked, began, did, saved, left_to, left_to_end, busy, committed, returned, undone_to, undone_to_end, aborted, length-log_of}
 use Rattle.txn_trace.proofs.Held.{log_held}
-use Rattle.txn_trace.proofs.Table.{get-set_at}
+use Rattle.txn_words.proofs.Maps.{get-set_at}
 use Rattle.striped_map.specs.declared.view.View.{View}
 use Rattle.striped_map.specs.Rule.{Holds, HasSeen}
 use Rattle.striped_map.specs.Steps.{Standing, at_begin, at_end, undone, undoing, noting, saving, returning}

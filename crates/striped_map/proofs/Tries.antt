@@ -1,7 +1,7 @@
 -- A work that is tried several times.
 use Rattle.std.proofs.Common.{◌≡◌, ℕ, zero, suc, true, false, [], ◌∷◌, Result, sym, subst, ◌∙◌}
-use Rattle.txn_trace.specs.declared.entry.Entry.TheVariants.{Began}
-use Rattle.txn_trace.specs.declared.refusal.Refusal.TheVariants.{AlreadyOpen}
+use Rattle.txn_words.specs.declared.entry.Entry.TheVariants.{Began}
+use Rattle.txn_words.specs.declared.refusal.Refusal.TheVariants.{AlreadyOpen}
 use Rattle.striped_map.specs.declared.caller.Caller.{Caller}
 use Rattle.map_answers.specs.declared.stop.Stop.{Stop}
 use Rattle.map_answers.specs.declared.stop.Stop.TheVariants.{Busy, Refused}

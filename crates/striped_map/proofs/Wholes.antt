@@ -11,8 +11,8 @@ use Rattle.std.proofs.lemmas.List.Sorted.{IsPermutation-refl, IsPermutation-sym,
 use Rattle.std.proofs.lemmas.List.{length-map, length-append}
 use Rattle.std.proofs.lemmas.List.Sums.{sum_by-cons}
 use Rattle.txn_trace.specs.Locks.{stripe_of}
-use Rattle.txn_trace.specs.Map.{Map, get}
-use Rattle.txn_trace.proofs.Order.{pair_parts, pair_both}
+use Rattle.txn_words.specs.Map.{Map, get}
+use Rattle.txn_words.proofs.Order.{pair_parts, pair_both}
 use Rattle.stripe_part.proofs.Rows.{below_is}
 use Rattle.stripe_part.specs.PartAt.{PartAt}
 use Rattle.striped_map.specs.declared.view.View.{View}

@@ -1,12 +1,12 @@
 -- Which entries a caller may add to the history.
 use Rattle.std.specs.Prelude.{◌≡◌, ◌≢◌, ℕ, ◌+◌, ◌<◌, ◌⊎◌, List, [], ◌++◌, Some}
-use Rattle.txn_trace.specs.declared.entry.Entry.{Entry}
-use Rattle.txn_trace.specs.declared.holder.Holder.TheVariants.{Begun}
-use Rattle.txn_trace.specs.History.{is_commit}
-use Rattle.txn_trace.specs.Map.{get}
+use Rattle.txn_words.specs.declared.entry.Entry.{Entry}
+use Rattle.txn_words.specs.declared.holder.Holder.TheVariants.{Begun}
+use Rattle.txn_words.specs.Kinds.{is_commit}
+use Rattle.txn_words.specs.Map.{get}
 use Rattle.txn_trace.specs.Now.{now}
 use Rattle.txn_trace.specs.Locks.{stripe_of, holder_of}
-use Rattle.txn_trace.specs.Shape.{own, how_many, seat_after}
+use Rattle.txn_words.specs.Shape.{own, how_many, seat_after}
 use Rattle.txn_trace.specs.Log.{log_of}
 use Rattle.txn_trace.specs.Legal.{IsLegal}
 use Rattle.striped_map.specs.declared.view.View.{View}

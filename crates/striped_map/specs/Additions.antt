@@ -1,7 +1,7 @@
 -- What each addition to the history is, and what it leaves.
 use Rattle.std.specs.Prelude.{ℕ, Option, List, [], ◌∷◌, None, Some, take, drop, length, slice_index, ◌-◌}
-use Rattle.txn_trace.specs.declared.entry.Entry.{Entry}
-use Rattle.txn_trace.specs.declared.entry.Entry.TheVariants.{Asked, Did, Saved, Leave, Returned, Busy, Aborted}
+use Rattle.txn_words.specs.declared.entry.Entry.{Entry}
+use Rattle.txn_words.specs.declared.entry.Entry.TheVariants.{Asked, Did, Saved, Leave, Returned, Busy, Aborted}
 use Rattle.txn_trace.specs.Log.{log_of}
 use Rattle.txn_trace.specs.Now.{now}
 use Rattle.striped_map.specs.declared.view.View.{View}

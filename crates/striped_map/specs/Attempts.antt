@@ -1,8 +1,8 @@
 -- What becomes of a work that is tried several times, each time in a transaction that is begun for
 -- it. `work` relates the caller as the work found it, its answer, and the caller as it left it.
 use Rattle.std.specs.Prelude.{◌≡◌, ℕ, zero, suc, [], ◌∷◌, Result, Ok, Err, false}
-use Rattle.txn_trace.specs.declared.entry.Entry.TheVariants.{Began}
-use Rattle.txn_trace.specs.declared.refusal.Refusal.TheVariants.{NotOpen}
+use Rattle.txn_words.specs.declared.entry.Entry.TheVariants.{Began}
+use Rattle.txn_words.specs.declared.refusal.Refusal.TheVariants.{NotOpen}
 use Rattle.striped_map.specs.declared.caller.Caller.{Caller}
 use Rattle.map_answers.specs.declared.stop.Stop.{Stop}
 use Rattle.map_answers.specs.declared.stop.Stop.TheVariants.{Busy, Refused}

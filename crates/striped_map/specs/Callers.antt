@@ -1,12 +1,12 @@
 -- What the calls of a caller add to the history.
 use Rattle.std.specs.Prelude.{◌≡◌, ℕ, ◌-◌, ◌%◌, ◌^◌, List, [], ◌∷◌, length, None, Some, slice_get, true, false, Option}
-use Rattle.txn_trace.specs.declared.entry.Entry.{Entry}
-use Rattle.txn_trace.specs.declared.entry.Entry.TheVariants.{Began, Leave, Committed, Busy as BusyEntry, Aborted}
-use Rattle.txn_trace.specs.declared.op.Op.{Op}
-use Rattle.txn_trace.specs.declared.op.Op.TheVariants.{Get}
-use Rattle.txn_trace.specs.declared.refusal.Refusal.TheVariants.{NoMemory, NotOpen}
-use Rattle.txn_trace.specs.History.{is_began, is_commit}
-use Rattle.txn_trace.specs.Shape.{own, how_many}
+use Rattle.txn_words.specs.declared.entry.Entry.{Entry}
+use Rattle.txn_words.specs.declared.entry.Entry.TheVariants.{Began, Leave, Committed, Busy as BusyEntry, Aborted}
+use Rattle.txn_words.specs.declared.op.Op.{Op}
+use Rattle.txn_words.specs.declared.op.Op.TheVariants.{Get}
+use Rattle.txn_words.specs.declared.refusal.Refusal.TheVariants.{NoMemory, NotOpen}
+use Rattle.txn_words.specs.Kinds.{is_began, is_commit}
+use Rattle.txn_words.specs.Shape.{own, how_many}
 use Rattle.striped_map.specs.declared.caller.Caller.{Caller}
 use Rattle.striped_map.specs.declared.map.StripedMap.{StripedMap}
 use Rattle.map_answers.specs.declared.stop.Stop.{Stop}

@@ -1,6 +1,6 @@
 -- What the parts of stripes have together.
 use Rattle.std.specs.Prelude.{ℕ, ◌+◌, ◌*◌, List, map, flat_map}
-use Rattle.txn_trace.specs.Map.{count_of}
+use Rattle.txn_words.specs.Map.{count_of}
 use Rattle.striped_map.specs.Sound.{Held}
 
 -- How many pairs a part has.

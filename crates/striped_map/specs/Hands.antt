@@ -1,12 +1,12 @@
 -- What the calls of a hand leave.
 use Rattle.std.specs.Prelude.{◌≡◌, ℕ, List, [], ◌∷◌, ◌++◌}
-use Rattle.txn_trace.specs.declared.entry.Entry.{Entry}
-use Rattle.txn_trace.specs.declared.entry.Entry.TheVariants.{Began, Busy as BusyEntry, Aborted}
-use Rattle.txn_trace.specs.declared.op.Op.{Op}
-use Rattle.txn_trace.specs.declared.op.Op.TheVariants.{Get}
-use Rattle.txn_trace.specs.declared.refusal.Refusal.TheVariants.{NoMemory}
+use Rattle.txn_words.specs.declared.entry.Entry.{Entry}
+use Rattle.txn_words.specs.declared.entry.Entry.TheVariants.{Began, Busy as BusyEntry, Aborted}
+use Rattle.txn_words.specs.declared.op.Op.{Op}
+use Rattle.txn_words.specs.declared.op.Op.TheVariants.{Get}
+use Rattle.txn_words.specs.declared.refusal.Refusal.TheVariants.{NoMemory}
 use Rattle.txn_trace.specs.Now.{now}
-use Rattle.txn_trace.specs.declared.seat.Phase.TheVariants.{Closed, Opened}
+use Rattle.txn_words.specs.declared.seat.Phase.TheVariants.{Closed, Opened}
 use Rattle.striped_map.specs.declared.hand.Hand.{Hand}
 use Rattle.striped_map.specs.declared.map.StripedMap.{StripedMap}
 use Rattle.striped_map.specs.Seats.{known, stripes_of}

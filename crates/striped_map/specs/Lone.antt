@@ -1,12 +1,13 @@
 -- What a commit says of its transaction.
 use Rattle.std.specs.Prelude.{◌≡◌, ℕ, ◌+◌, List, [], ◌∷◌, ◌++◌, IsSome}
 use mathlib.Core.List.{IsPrefix}
-use Rattle.txn_trace.specs.declared.entry.Entry.{Entry}
-use Rattle.txn_trace.specs.declared.entry.Entry.TheVariants.{Began, Committed}
+use Rattle.txn_words.specs.declared.entry.Entry.{Entry}
+use Rattle.txn_words.specs.declared.entry.Entry.TheVariants.{Began, Committed}
 use Rattle.txn_trace.specs.Alone.{alone}
-use Rattle.txn_trace.specs.History.{is_commit, of}
+use Rattle.txn_trace.specs.History.{of}
+use Rattle.txn_words.specs.Kinds.{is_commit}
 use Rattle.txn_trace.specs.Serial.{serial}
-use Rattle.txn_trace.specs.Shape.{how_many}
+use Rattle.txn_words.specs.Shape.{how_many}
 
 -- A transaction of the caller commits at this place in the history: the place is one more than the
 -- number of commits before it, and the transaction has the replies of running alone on the map that

@@ -1,6 +1,6 @@
 //! Work that is run in a transaction, and begun anew if another caller holds a stripe.
 ghost use Rattle.std.specs.Prelude.{◌≡◌, ℕ, ◌≤◌, true, false, Ok, IfOk, IfErr, OnOk, OnErr};
-ghost use Rattle.txn_trace.specs.declared.refusal.Refusal.TheVariants.{AlreadyOpen};
+ghost use Rattle.txn_words.specs.declared.refusal.Refusal.TheVariants.{AlreadyOpen};
 ghost use Rattle.striped_map.specs.Attempts.{on_callers, Fails, FailsBusy};
 ghost use Rattle.striped_map.specs.declared.caller.Caller.{Caller};
 ghost use Rattle.striped_map.specs.Callers.{IsSince, IsRun};

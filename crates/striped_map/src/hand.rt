@@ -4,13 +4,13 @@
 //! plain memory. Who calls keeps the phases.
 ghost use Rattle.std.specs.Prelude.{◌≡◌, ◌≢◌, ℕ, ◌+◌, ◌-◌, ◌/◌, ◌<◌, ◌≤◌, ◌%◌, ◌^◌, [], ◌∷◌, IfOk, IfErr, IfSome, OnOk, OnErr, None, Some, true, slice_get, slice_index, length, take, drop, vec_len, vec_capacity};
 ghost use mathlib.Core.List.{IsPrefix};
-ghost use Rattle.txn_trace.specs.declared.entry.Entry.TheVariants.{Began, Asked, Did, Saved, Leave, Returned, Committed};
-ghost use Rattle.txn_trace.specs.declared.seat.Phase.TheVariants.{Closed, Opened};
+ghost use Rattle.txn_words.specs.declared.entry.Entry.TheVariants.{Began, Asked, Did, Saved, Leave, Returned, Committed};
+ghost use Rattle.txn_words.specs.declared.seat.Phase.TheVariants.{Closed, Opened};
 ghost use Rattle.txn_trace.specs.Locks.{stripe_of};
-ghost use Rattle.txn_trace.specs.Map.{count_of, key_of};
-ghost use Rattle.txn_trace.specs.declared.refusal.Refusal.TheVariants.{NoMemory};
+ghost use Rattle.txn_words.specs.Map.{count_of, key_of};
+ghost use Rattle.txn_words.specs.declared.refusal.Refusal.TheVariants.{NoMemory};
 ghost use Rattle.txn_trace.specs.Now.{now};
-ghost use Rattle.txn_trace.specs.Owed.{may_change};
+ghost use Rattle.txn_words.specs.Owed.{may_change};
 ghost use Rattle.stripe_part.specs.Calls.{IsRefused};
 ghost use Rattle.striped_map.specs.Additions.{above, due, entries_of};
 ghost use Rattle.striped_map.specs.Handling.{IsEnd, IsMiss, idle};

@@ -3,7 +3,7 @@ use std::alloc::{AllocError, Global};
 use std::process::Abort;
 use std::test::Fail;
 use striped_map::{Caller, Host, Stop, open_map};
-use txn_trace::{Op, Refusal, Reply};
+use txn_words::{Op, Refusal, Reply};
 
 /// What a caller is asked for.
 #[derive(Clone, Copy, Debug)]

@@ -3,7 +3,7 @@ use crate::calls::{Ask, NEW, Row, Told, has_left, open, play};
 use std::alloc::Global;
 use std::process::Abort;
 use std::test::Fail;
-use txn_trace::Op;
+use txn_words::Op;
 
 /// Caller 2 leaves two pairs.
 const BEFORE: [Row; 4] = [

@@ -15,7 +15,7 @@ use std::test::Fail;
 use std::thread;
 use std::thread::Threads;
 use striped_map::Caller;
-use txn_trace::{Entry, Holder, Op};
+use txn_words::{Entry, Holder, Op};
 
 /// What the callers do in their threads.
 #[derive(Clone, Copy)]

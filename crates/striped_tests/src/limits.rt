@@ -5,7 +5,7 @@ use std::alloc::{AllocError, Global};
 use std::process::Abort;
 use std::test::Fail;
 use striped_map::{Caller, open_map};
-use txn_trace::{Op, Refusal};
+use txn_words::{Op, Refusal};
 
 /// How many callers a map of so many stripes and callers has, or none if it is refused as a limit.
 fn callers_in(alloc: Global, stripes: usize, callers: usize) -> Result<Option<usize>, AllocError> {

@@ -9,7 +9,7 @@ use std::test::Fail;
 use std::thread;
 use std::thread::Threads;
 use striped_map::{Caller, Host, Stop, open_map};
-use txn_trace::Refusal;
+use txn_words::Refusal;
 
 /// A new map of three callers: its host, the first caller, and the two others.
 pub(crate) type Made = (Host, Vec<Caller>, (Caller, Caller));

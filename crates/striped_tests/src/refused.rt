@@ -4,7 +4,7 @@ use std::alloc::{AllocError, Global};
 use std::process::Abort;
 use std::test::Fail;
 use striped_map::{Caller, Host, Stop, open_map};
-use txn_trace::{Op, Refusal};
+use txn_words::{Op, Refusal};
 
 /// Makes a call, and once more if it is refused memory.
 fn answer_again(caller: &mut Caller, what: Ask) -> Result<Told, AllocError> {

@@ -1,7 +1,7 @@
 //! Worked runs of callers of a striped map, whose values were worked out by hand.
 use crate::calls::{Ask, NEW, Told, Worked, play_worked};
 use std::test::Fail;
-use txn_trace::{Op, Refusal};
+use txn_words::{Op, Refusal};
 
 /// A key that had 10.
 const TEN: Told = Told::Replied(Some(10));

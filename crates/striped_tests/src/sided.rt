@@ -8,7 +8,7 @@ use std::alloc::Global;
 use std::process::Abort;
 use std::test::Fail;
 use striped_map::{Caller, Host, Stop};
-use txn_trace::{Op, Refusal};
+use txn_words::{Op, Refusal};
 use undo_log::{Side, SideJob};
 
 /// The tests' side value: four words.

@@ -7,7 +7,7 @@ use std::sync::Wait;
 use std::test::Fail;
 use std::thread;
 use std::thread::Threads;
-use txn_trace::{Op, Refusal};
+use txn_words::{Op, Refusal};
 
 /// Each operation on a key, which at last has the value 0, with the values 0 and 2^64 - 1. The side
 /// value becomes the key.

@@ -7,7 +7,7 @@ use std::test::Fail;
 use std::thread;
 use std::thread::Threads;
 use striped_map::{Caller, Host, Stop};
-use txn_trace::Op;
+use txn_words::Op;
 
 /// Asks for a transfer; none between an account and itself.
 fn moved(caller: &mut Caller, tries: u64, from: u64, to: u64, sum: u64) -> Result<bool, Stop> {

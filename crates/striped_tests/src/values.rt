@@ -4,7 +4,7 @@ use std::alloc::Global;
 use std::process::Abort;
 use std::test::Fail;
 use striped_map::{Caller, Stop, Transaction};
-use txn_trace::{Op, Refusal, Reply};
+use txn_words::{Op, Refusal, Reply};
 
 /// What a transaction is asked for.
 #[derive(Clone, Copy, Debug)]

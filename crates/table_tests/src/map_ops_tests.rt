@@ -9,7 +9,7 @@ mod split_keys;
 use map_ops::{Act, MapJob, Pending, Table};
 use std::alloc::{AllocError, Global};
 use std::collections::BTreeMap;
-use txn_trace::{Op, Refusal, Reply};
+use txn_words::{Op, Refusal, Reply};
 
 /// A table of at most eight buckets and two helpers.
 fn new_table(alloc: Global) -> Result<Table, AllocError> {

@@ -6,7 +6,7 @@ use std::collections::BTreeMap;
 use std::process::Abort;
 use std::test::Fail;
 use stripe_part::Part;
-use txn_trace::{Op, Refusal, Reply};
+use txn_words::{Op, Refusal, Reply};
 
 /// A part, with the changes that it can take back: each key with the value before, the newest last.
 #[derive(Drop)]

@@ -4,19 +4,19 @@ use Rattle.std.specs.Prelude.{slice_get, nat_le, IsTrue}
 use Rattle.std.specs.List.{list_any}
 use Rattle.std.specs.Option.{option_or}
 use Rattle.std.proofs.lemmas.Bool.{false≢true}
-use Rattle.txn_trace.specs.declared.action.Action.{Action}
-use Rattle.txn_trace.specs.declared.action.Action.TheVariants as actions
-use Rattle.txn_trace.specs.declared.answer.Answer.{Answer}
-use Rattle.txn_trace.specs.declared.answer.Answer.TheVariants as answers
-use Rattle.txn_trace.specs.declared.entry.Entry.{Entry}
-use Rattle.txn_trace.specs.declared.refusal.Refusal.{Refusal}
-use Rattle.txn_trace.specs.declared.refusal.Refusal.TheVariants.{BadKey, NoSuchLevel, NoMemory, StampsUsedUp, StaleWord, OutOfStep}
-use Rattle.txn_trace.specs.declared.seat.Phase.{Phase}
-use Rattle.txn_trace.specs.declared.seat.Phase.TheVariants.{Closed, Opened}
-use Rattle.txn_trace.specs.Map.{key_of}
-use Rattle.txn_trace.specs.Seats.{refusal_in}
-use Rattle.txn_trace.specs.Shape.{Seat, seat_after}
-use Rattle.txn_trace.specs.Sizes.{is_bad_key}
+use Rattle.txn_words.specs.declared.action.Action.{Action}
+use Rattle.txn_words.specs.declared.action.Action.TheVariants as actions
+use Rattle.txn_words.specs.declared.answer.Answer.{Answer}
+use Rattle.txn_words.specs.declared.answer.Answer.TheVariants as answers
+use Rattle.txn_words.specs.declared.entry.Entry.{Entry}
+use Rattle.txn_words.specs.declared.refusal.Refusal.{Refusal}
+use Rattle.txn_words.specs.declared.refusal.Refusal.TheVariants.{BadKey, NoSuchLevel, NoMemory, StampsUsedUp, StaleWord, OutOfStep}
+use Rattle.txn_words.specs.declared.seat.Phase.{Phase}
+use Rattle.txn_words.specs.declared.seat.Phase.TheVariants.{Closed, Opened}
+use Rattle.txn_words.specs.Map.{key_of}
+use Rattle.txn_words.specs.Seats.{refusal_in}
+use Rattle.txn_words.specs.Shape.{Seat, seat_after}
+use Rattle.txn_words.specs.Sizes.{is_bad_key}
 use Rattle.txn_drive.specs.declared.call.Call.{Call}
 use Rattle.txn_drive.specs.declared.call.Call.TheVariants as calls
 use Rattle.txn_drive.specs.declared.«end».End.{End}

@@ -7,14 +7,14 @@ use Rattle.std.proofs.Math.Nat.{mod-lt}
 use Rattle.std.proofs.lemmas.List.{get_or-map, length-map, length-reverse, reverse-reverse}
 use Rattle.std.proofs.lemmas.Option.{slice_get_cases}
 use Rattle.atomic_table.specs.Seated.{TableId}
-use Rattle.txn_trace.specs.declared.holder.Holder.TheVariants.{Begun}
-use Rattle.txn_trace.specs.declared.action.Action.{Action}
-use Rattle.txn_trace.specs.declared.entry.Entry.{Entry}
-use Rattle.txn_trace.specs.History.{caller_of}
+use Rattle.txn_words.specs.declared.holder.Holder.TheVariants.{Begun}
+use Rattle.txn_words.specs.declared.action.Action.{Action}
+use Rattle.txn_words.specs.declared.entry.Entry.{Entry}
+use Rattle.txn_words.specs.Kinds.{caller_of}
 use Rattle.txn_trace.specs.Legal.{IsLegal}
 use Rattle.txn_trace.specs.Replies.{RepliesHold}
-use Rattle.txn_trace.specs.Shape.{own, IsShaped}
-use Rattle.txn_trace.specs.Sizes.{Sizes}
+use Rattle.txn_words.specs.Shape.{own, IsShaped}
+use Rattle.txn_words.specs.Sizes.{Sizes}
 use Rattle.locked_map.specs.Closes.{IsOwn}
 use Rattle.locked_map.specs.Tokens.{Ticket, new_ticket}
 use Rattle.thread_runs.specs.declared.outcome.Outcome as codes

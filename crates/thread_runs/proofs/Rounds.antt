@@ -4,8 +4,8 @@ use Rattle.std.specs.Prelude.{slice_get, get_or}
 use Rattle.std.specs.List.{AllByRecursion}
 use Rattle.std.proofs.Math.Nat.{suc-mul}
 use Rattle.std.proofs.lemmas.Option.{slice_get_within, slice_get_cases, slice_get-get_or}
-use Rattle.txn_trace.specs.declared.action.Action.{Action}
-use Rattle.txn_trace.specs.declared.entry.Entry.{Entry}
+use Rattle.txn_words.specs.declared.action.Action.{Action}
+use Rattle.txn_words.specs.declared.entry.Entry.{Entry}
 use Rattle.script_worker.specs.Accounts.{Outcome, Told, every, tolds_of}
 use Rattle.thread_runs.specs.Runs.{AreToldIn, MayAllCome, HasRunAll, HasRunTo}
 use Rattle.thread_runs.specs.Possible.{MayCome}

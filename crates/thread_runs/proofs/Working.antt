@@ -3,10 +3,10 @@ use Rattle.std.proofs.Common.{◌≡◌, ℕ, ◌+◌, ◌*◌, ◌/◌, ◌%◌
 use Prim.Native.Nat.{zero, suc}
 use Rattle.std.specs.List.{slice_get, AllByRecursion}
 use Rattle.std.proofs.Math.Nat.{mod-lt}
-use Rattle.txn_trace.specs.declared.action.Action.{Action}
-use Rattle.txn_trace.specs.declared.entry.Entry.{Entry}
+use Rattle.txn_words.specs.declared.action.Action.{Action}
+use Rattle.txn_words.specs.declared.entry.Entry.{Entry}
 use Rattle.txn_trace.specs.Replies.{RepliesHold}
-use Rattle.txn_trace.specs.Shape.{seat_after, own, IsShaped}
+use Rattle.txn_words.specs.Shape.{seat_after, own, IsShaped}
 use Rattle.script_worker.specs.Accounts.{Outcome, Told, IsAccount, HasCome, every, tolds_of, AreAllTrue}
 use Rattle.thread_runs.specs.Runs.{AreToldIn}
 use Rattle.txn_trace.proofs.Running.{has_seat}

@@ -1,12 +1,12 @@
 -- The outcomes that the actions of a script allow.
 use Rattle.std.specs.Prelude.{Bool, true, false, IsTrue, List}
 use Rattle.std.specs.List.{list_any}
-use Rattle.txn_trace.specs.declared.action.Action.{Action}
-use Rattle.txn_trace.specs.declared.action.Action.TheVariants as actions
-use Rattle.txn_trace.specs.declared.refusal.Refusal.{Refusal}
-use Rattle.txn_trace.specs.declared.refusal.Refusal.TheVariants.{BadKey, NoSuchLevel, NoMemory, StampsUsedUp, StaleWord, OutOfStep}
-use Rattle.txn_trace.specs.Map.{key_of}
-use Rattle.txn_trace.specs.Sizes.{is_bad_key}
+use Rattle.txn_words.specs.declared.action.Action.{Action}
+use Rattle.txn_words.specs.declared.action.Action.TheVariants as actions
+use Rattle.txn_words.specs.declared.refusal.Refusal.{Refusal}
+use Rattle.txn_words.specs.declared.refusal.Refusal.TheVariants.{BadKey, NoSuchLevel, NoMemory, StampsUsedUp, StaleWord, OutOfStep}
+use Rattle.txn_words.specs.Map.{key_of}
+use Rattle.txn_words.specs.Sizes.{is_bad_key}
 use Rattle.script_worker.specs.Accounts.{Outcome, Aborted, Refused}
 
 -- Whether an action has a key that is refused; the argument says whether only half keys are taken.

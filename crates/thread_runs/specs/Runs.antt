@@ -1,19 +1,19 @@
 -- The entries that a worker's run of a script adds.
 use Rattle.std.specs.Prelude.{◌≡◌, ◌<◌, ◌⊎◌, ℕ, Bool, Option, Some, None, true, false, List, ◌++◌, length, map, slice_get, is_some}
 use Rattle.std.specs.List.{All, AllByRecursion}
-use Rattle.txn_trace.specs.declared.holder.Holder.TheVariants.{Begun}
-use Rattle.txn_trace.specs.declared.action.Action.{Action}
-use Rattle.txn_trace.specs.declared.answer.Answer.TheVariants as answers
-use Rattle.txn_trace.specs.declared.entry.Entry.{Entry}
-use Rattle.txn_trace.specs.declared.refusal.Refusal.{Refusal}
-use Rattle.txn_trace.specs.declared.refusal.Refusal.TheVariants.{NoMemory, NoThread, OutOfStep}
-use Rattle.txn_trace.specs.declared.seat.Phase.{Phase}
-use Rattle.txn_trace.specs.declared.seat.Phase.TheVariants.{Closed, Opened}
-use Rattle.txn_trace.specs.History.{caller_of}
+use Rattle.txn_words.specs.declared.holder.Holder.TheVariants.{Begun}
+use Rattle.txn_words.specs.declared.action.Action.{Action}
+use Rattle.txn_words.specs.declared.answer.Answer.TheVariants as answers
+use Rattle.txn_words.specs.declared.entry.Entry.{Entry}
+use Rattle.txn_words.specs.declared.refusal.Refusal.{Refusal}
+use Rattle.txn_words.specs.declared.refusal.Refusal.TheVariants.{NoMemory, NoThread, OutOfStep}
+use Rattle.txn_words.specs.declared.seat.Phase.{Phase}
+use Rattle.txn_words.specs.declared.seat.Phase.TheVariants.{Closed, Opened}
+use Rattle.txn_words.specs.Kinds.{caller_of}
 use Rattle.txn_trace.specs.Legal.{IsLegal}
 use Rattle.txn_trace.specs.Plays.{PlayScripts}
-use Rattle.txn_trace.specs.Sizes.{Sizes}
-use Rattle.txn_trace.specs.Shape.{Seat, seat_after}
+use Rattle.txn_words.specs.Sizes.{Sizes}
+use Rattle.txn_words.specs.Shape.{Seat, seat_after}
 use Rattle.txn_drive.specs.declared.call.Call.{Call}
 use Rattle.txn_drive.specs.declared.call.Call.TheVariants as calls
 use Rattle.txn_drive.specs.declared.«end».End.{End}

@@ -1,7 +1,7 @@
 //! The growth of the table while scripts run: at times a worker helps by itself, for a key that it
 //! has put. A help adds no entry, so that the history tells nothing of it.
 ghost use Rattle.std.specs.Prelude.{◌≡◌, IfSome, None};
-ghost use Rattle.txn_trace.specs.declared.answer.Answer.{Answer};
+ghost use Rattle.txn_words.specs.declared.answer.Answer.{Answer};
 ghost use Rattle.txn_drive.specs.declared.«end».End.{End};
 ghost use Rattle.locked_map.specs.Holds.{is_out};
 ghost use Rattle.locked_map.specs.Tokens.{IsSameCaller};

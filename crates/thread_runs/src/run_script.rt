@@ -2,9 +2,9 @@
 //! `Attempt` (`script_worker`). The loop keeps an account of the entries that the caller has added
 //! since the script began (`specs/Accounts.antt`).
 ghost use Rattle.std.specs.Prelude.{◌≡◌, ◌-◌, true, false, is_some, vec_len, vec_capacity};
-ghost use Rattle.txn_trace.specs.declared.refusal.Refusal.{Refusal};
-ghost use Rattle.txn_trace.specs.declared.seat.Phase.{Phase};
-ghost use Rattle.txn_trace.specs.Shape.{seat_after};
+ghost use Rattle.txn_words.specs.declared.refusal.Refusal.{Refusal};
+ghost use Rattle.txn_words.specs.declared.seat.Phase.{Phase};
+ghost use Rattle.txn_words.specs.Shape.{seat_after};
 ghost use Rattle.locked_map.specs.Suits.{may_refuse};
 ghost use Rattle.locked_map.specs.Tokens.{IsSameCaller};
 ghost use Rattle.thread_runs.specs.Possible.{MayCome};

@@ -5,7 +5,7 @@ use std::marker::Brand;
 /// name them by a type, since they go to threads and back: each run picks its own.
 pub(crate) trait Terms {
     ghost use Rattle.std.specs.Prelude.{ℕ, List};
-    ghost use Rattle.txn_trace.specs.declared.action.Action.{Action};
+    ghost use Rattle.txn_words.specs.declared.action.Action.{Action};
 
     ghost workers: { ℕ };
 

@@ -1,7 +1,7 @@
 //! Shared parts of the tests: a map under its own ledger, its calls and its end, each in one
 //! function.
 ghost use Rattle.std.specs.Prelude.{◌≡◌, ◌<◌, true, All};
-ghost use Rattle.txn_trace.specs.History.{caller_of};
+ghost use Rattle.txn_words.specs.Kinds.{caller_of};
 
 use boost_core::{Call, Core, End};
 use history_check::{Verdict, check};
@@ -12,7 +12,7 @@ use std::process::Abort;
 use std::sync::Wait;
 use std::sync::ledger::{Blank, Ledger};
 use std::test::Fail;
-use txn_trace::{Entry, Holder, Limits, Op, Reply, SmallEntry, Unpacked};
+use txn_words::{Entry, Holder, Limits, Op, Reply, SmallEntry, Unpacked};
 use undo_log::Side;
 
 /// The number of a ledger's parts.

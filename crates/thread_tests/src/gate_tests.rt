@@ -9,7 +9,7 @@ use std::test::Fail;
 use std::thread::Threads;
 use std::time::Clock;
 use thread_runs::Gate;
-use txn_trace::{Action, Op, Refusal, Script};
+use txn_words::{Action, Op, Refusal, Script};
 
 /// A call of a gate.
 #[derive(Clone, Copy, Debug, PartialEq, Eq)]

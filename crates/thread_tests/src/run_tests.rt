@@ -11,7 +11,7 @@ use std::thread;
 use std::thread::Threads;
 use std::time::{Clock, Duration};
 use thread_runs::{Gate, Open, Outcome, Ran, run_scripts};
-use txn_trace::{Action, Entry, Limits, Op, Refusal, Script, SmallEntry, Unpacked};
+use txn_words::{Action, Entry, Limits, Op, Refusal, Script, SmallEntry, Unpacked};
 
 /// Runs scripts on this number of workers, on a map of this number of stripes. A script that finds
 /// a stripe held is tried again at most this number of times.

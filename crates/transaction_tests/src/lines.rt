@@ -1,7 +1,7 @@
 //! Calls of a transaction as values, and tables of them at the limits, for both maps.
 use owned_map::Stop;
 use std::alloc::{AllocError, Global};
-use txn_trace::{Op, Refusal, Reply};
+use txn_words::{Op, Refusal, Reply};
 
 /// What a transaction is asked for.
 #[derive(Clone, Copy)]

@@ -7,7 +7,7 @@ use boost_core::Core;
 use owned_map::{OwnedMap, Stop, Transaction};
 use std::alloc::Global;
 use std::process::Abort;
-use txn_trace::{Limits, Refusal, Reply};
+use txn_words::{Limits, Refusal, Reply};
 
 /// How many keys are put: 0, 3, 6 and so on.
 const KEYS: u64 = 40;

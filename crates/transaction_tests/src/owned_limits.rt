@@ -7,7 +7,7 @@ use owned_map::{OwnedMap, Stop, Transaction};
 use std::alloc::Global;
 use std::process::Abort;
 use std::test::Fail;
-use txn_trace::{Limits, Op, Reply};
+use txn_words::{Limits, Op, Reply};
 
 /// Does an operation.
 fn operate(t: &mut Transaction<'_>, op: Op) -> Result<Reply, Stop>

@@ -12,7 +12,7 @@ use std::process::Abort;
 use std::sync::Wait;
 use std::sync::ledger::{Blank, Ledger};
 use std::test::Fail;
-use txn_trace::{Limits, Reply};
+use txn_words::{Limits, Reply};
 
 /// Puts a key with its number.
 fn put(t: &mut Transaction<'_>, key: u64) -> Result<Reply, Stop>

@@ -16,7 +16,7 @@ use std::sync::Wait;
 use std::sync::ledger::{Blank, Ledger};
 use std::test::Fail;
 use std::time::Duration;
-use txn_trace::{Entry, Limits, Refusal, Reply, SmallEntry};
+use txn_words::{Entry, Limits, Refusal, Reply, SmallEntry};
 
 /// How many keys are put: 0, 3, 6 and so on.
 const KEYS: u64 = 20;

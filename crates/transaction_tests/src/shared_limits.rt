@@ -9,7 +9,7 @@ use std::process::Abort;
 use std::sync::Wait;
 use std::sync::ledger::Ledger;
 use std::test::Fail;
-use txn_trace::{Limits, Op, Reply};
+use txn_words::{Limits, Op, Reply};
 
 /// Does an operation.
 fn operate<L: Ledger, R: Wait>(t: &mut Transaction<'_, L, R>, op: Op) -> Result<Reply, Stop> {

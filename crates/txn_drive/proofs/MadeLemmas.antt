@@ -3,14 +3,14 @@
 use Rattle.std.proofs.Common.{◌≡◌, ℕ, ◌+◌, ◌-◌, ◌^◌, ◌%◌, ◌==◌, nat_lt, ◌&&◌, Bool, true, false, if◌then◌else◌, List, [], ◌∷◌, ◌++◌, Option, Some, None, refl, sym, ap, ◌∙◌, subst, append_assoc}
 use Rattle.std.proofs.lemmas.Bool.{eqb-true}
 use Rattle.std.proofs.lemmas.List.{append-nil, replicate_more}
-use Rattle.txn_trace.specs.declared.step.Step.{Step}
-use Rattle.txn_trace.specs.declared.step.Step.TheVariants.{Act}
-use Rattle.txn_trace.specs.declared.answer.Answer.{Answer}
-use Rattle.txn_trace.specs.declared.answer.Answer.TheVariants as answers
-use Rattle.txn_trace.specs.declared.entry.Entry.{Entry}
-use Rattle.txn_trace.specs.declared.entry.Entry.TheVariants as entries
-use Rattle.txn_trace.specs.declared.refusal.Refusal.{Refusal}
-use Rattle.txn_trace.specs.declared.refusal.Refusal.TheVariants.{OutOfStep, NothingToSeek, NoMemory, StampsUsedUp}
+use Rattle.txn_words.specs.declared.step.Step.{Step}
+use Rattle.txn_words.specs.declared.step.Step.TheVariants.{Act}
+use Rattle.txn_words.specs.declared.answer.Answer.{Answer}
+use Rattle.txn_words.specs.declared.answer.Answer.TheVariants as answers
+use Rattle.txn_words.specs.declared.entry.Entry.{Entry}
+use Rattle.txn_words.specs.declared.entry.Entry.TheVariants as entries
+use Rattle.txn_words.specs.declared.refusal.Refusal.{Refusal}
+use Rattle.txn_words.specs.declared.refusal.Refusal.TheVariants.{OutOfStep, NothingToSeek, NoMemory, StampsUsedUp}
 use Rattle.txn_drive.specs.declared.call.Call.{Call}
 use Rattle.txn_drive.specs.declared.call.Call.TheVariants as calls
 use Rattle.txn_drive.specs.declared.drive.Drive.{Drive}
@@ -24,7 +24,7 @@ use Rattle.txn_drive.specs.declared.turn.Turn.TheVariants.{One, Two}
 use Rattle.txn_drive.specs.declared.way.Way.{Way}
 use Rattle.txn_drive.specs.Ways.{child_towards}
 use Rattle.txn_drive.specs.Drives.{first_step, step_in, step_of, end_first, end_returned, end_last, end_helped, paired, turn_in, turn_of, told_first, told_seek, counted, undone_more, told_act, towards, heading, refused_help, told_help, told_double, told_init_seek, told_link, told_store, told_in, told_of}
-use Rattle.txn_trace.specs.Entries.{entries_of}
+use Rattle.txn_words.specs.Entries.{entries_of}
 use Rattle.txn_drive.specs.Made.{undone_by, entered_by, made_by, made_in, made, IsRefused, IsMade, HasMade}
 
 -- After the answer to the first step, a call has the entry of that step.

@@ -1,8 +1,8 @@
 -- Laws of turns that are taken.
 use Rattle.std.proofs.Common.{ap, sym, subst}
-use Rattle.txn_trace.specs.declared.answer.Answer.{Answer}
-use Rattle.txn_trace.specs.declared.answer.Answer.TheVariants.{Placed}
-use Rattle.txn_trace.specs.declared.step.Step.{Step}
+use Rattle.txn_words.specs.declared.answer.Answer.{Answer}
+use Rattle.txn_words.specs.declared.answer.Answer.TheVariants.{Placed}
+use Rattle.txn_words.specs.declared.step.Step.{Step}
 use Rattle.txn_drive.specs.declared.turn.Turn.{Turn}
 use Rattle.txn_drive.specs.declared.turn.Turn.TheVariants.{One, Two, Ended}
 use Rattle.txn_drive.specs.Turns.{TakesTurn, TakesSecond, HasTaken}

@@ -1,8 +1,8 @@
 -- Turns in terms of any state that takes their steps.
 use Rattle.std.specs.Prelude.{◌≡◌}
-use Rattle.txn_trace.specs.declared.answer.Answer.{Answer}
-use Rattle.txn_trace.specs.declared.answer.Answer.TheVariants.{Placed}
-use Rattle.txn_trace.specs.declared.step.Step.{Step}
+use Rattle.txn_words.specs.declared.answer.Answer.{Answer}
+use Rattle.txn_words.specs.declared.answer.Answer.TheVariants.{Placed}
+use Rattle.txn_words.specs.declared.step.Step.{Step}
 use Rattle.txn_drive.specs.declared.turn.Turn.{Turn}
 use Rattle.txn_drive.specs.declared.turn.Turn.TheVariants.{One, Two, Ended}
 

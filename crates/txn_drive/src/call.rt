@@ -4,7 +4,7 @@ ghost use Rattle.std.specs.Prelude.{◌≡◌};
 ghost use Rattle.txn_drive.specs.Drives.{first_phase, first_step};
 
 use crate::phase::Phase;
-use txn_trace::{Limits, Op, Refusal, Step};
+use txn_words::{Limits, Op, Refusal, Step};
 
 /// A call on the map.
 #[derive(Clone, Copy, Debug, PartialEq, Eq)]

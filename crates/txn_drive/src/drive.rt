@@ -2,16 +2,16 @@
 //! from whatever takes the steps, so that a core, a lock and a test all drive calls by the same
 //! machine.
 ghost use Rattle.std.specs.Prelude.{◌≡◌, [], ◌++◌, Some, IfSome};
-ghost use Rattle.txn_trace.specs.declared.step.Step.{Step};
+ghost use Rattle.txn_words.specs.declared.step.Step.{Step};
 ghost use Rattle.txn_drive.specs.Drives.{new_drive, sized_of, turn_of, told_of, step_of, IsTurnOf, end_of, end_first, end_last, end_helped};
-ghost use Rattle.txn_trace.specs.Entries.{entries_of};
+ghost use Rattle.txn_words.specs.Entries.{entries_of};
 ghost use Rattle.txn_drive.specs.Made.{made, IsMade, HasMade};
 
 use crate::call::Call;
 use crate::end::End;
 use crate::phase::{Phase, Work};
 use crate::turn::{Turn, one_or_two};
-use txn_trace::{Answer, Limits, Refusal, Step};
+use txn_words::{Answer, Limits, Refusal, Step};
 
 /// A caller's call in progress: its next step, and what it has been told so far.
 ///

@@ -1,6 +1,6 @@
 //! The ends of calls: answered, busy, helped or refused. Callers, workers and the map of threads
 //! all use them.
-use txn_trace::{Answer, Refusal};
+use txn_words::{Answer, Refusal};
 
 /// The end of a call.
 #[derive(Clone, Copy, Debug, PartialEq, Eq)]

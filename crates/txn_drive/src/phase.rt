@@ -7,7 +7,7 @@ ghost use Rattle.txn_drive.specs.Drives.{one_more, towards, heading, told_first,
 use crate::call::Call;
 use crate::turn::PATIENCE;
 use crate::way::{Way, next_towards};
-use txn_trace::{Answer, Refusal};
+use txn_words::{Answer, Refusal};
 
 /// The object of a caller's seek.
 #[derive(Clone, Copy, Debug, PartialEq, Eq)]

@@ -5,7 +5,7 @@ ghost use Rattle.txn_drive.specs.Drives.{paired};
 ghost use Rattle.txn_drive.specs.Turns.{HasTaken, MayTake};
 
 use crate::end::End;
-use txn_trace::{Answer, Step};
+use txn_words::{Answer, Step};
 
 /// After this many `again` in a row, two steps make one turn, so that no other caller takes a step
 /// between them.

@@ -5,11 +5,11 @@ use Rattle.std.specs.List.{list_all}
 use Rattle.std.proofs.lemmas.List.{length-map}
 use Rattle.std.proofs.lemmas.Bool.{and_parts, cases_Bool, leb-true}
 use Rattle.serde_json.specs.Data.{Data}
-use Rattle.txn_trace.specs.declared.entry.Entry.{Entry}
-use Rattle.txn_trace.specs.declared.entry.Entry.TheVariants as entries
-use Rattle.txn_trace.specs.declared.op.Op.TheVariants as ops
-use Rattle.txn_trace.specs.Packed.{is_small}
-use Rattle.txn_trace.proofs.Packing.{small_of}
+use Rattle.txn_words.specs.declared.entry.Entry.{Entry}
+use Rattle.txn_words.specs.declared.entry.Entry.TheVariants as entries
+use Rattle.txn_words.specs.declared.op.Op.TheVariants as ops
+use Rattle.txn_words.specs.Packed.{is_small}
+use Rattle.txn_words.proofs.Packing.{small_of}
 use Rattle.piece_files.specs.declared.part.Part.{Part}
 use Rattle.piece_files.specs.declared.file_fault.FileFault.{FileFault}
 use Rattle.piece_files.specs.declared.file_fault.FileFault.TheVariants.{Piece, Limit}

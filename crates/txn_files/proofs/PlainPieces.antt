@@ -3,10 +3,10 @@ use Rattle.std.proofs.Common.{◌≡◌, ℕ, suc, List, true, false, Some, None
 use Rattle.std.specs.Prelude.{codes}
 use Rattle.std.specs.Str.{bytes_eq}
 use Rattle.serde_json.specs.Data.{Data}
-use Rattle.txn_trace.specs.declared.action.Action.{Action}
-use Rattle.txn_trace.specs.declared.entry.Entry.{Entry}
-use Rattle.txn_trace.specs.declared.op.Op.{Op}
-use Rattle.txn_trace.specs.declared.step.Step.{Step}
+use Rattle.txn_words.specs.declared.action.Action.{Action}
+use Rattle.txn_words.specs.declared.entry.Entry.{Entry}
+use Rattle.txn_words.specs.declared.op.Op.{Op}
+use Rattle.txn_words.specs.declared.step.Step.{Step}
 use Rattle.piece_files.specs.Elements.{number_at, optional_at, word_at, one_of, two_of, end_of, optional_of}
 use Rattle.piece_files.specs.Tokens.{are_plain}
 use Rattle.piece_files.proofs.PlainElements.{bound, chosen, never, tested, pick, number_first, optional_first, word_first, one_plain, two_plain, none_left, room, end_plain, optional_all_plain, unless}

@@ -4,8 +4,8 @@ use Rattle.std.specs.List.{list_all}
 use Rattle.std.specs.Result.{result_ok}
 use Rattle.std.specs.Str.{bytes_eq}
 use Rattle.serde_json.specs.Data.{Data}
-use Rattle.txn_trace.specs.declared.action.Action.{Action}
-use Rattle.txn_trace.specs.declared.action.Action.TheVariants.{Op, Save, Back, Help, Abort}
+use Rattle.txn_words.specs.declared.action.Action.{Action}
+use Rattle.txn_words.specs.declared.action.Action.TheVariants.{Op, Save, Back, Help, Abort}
 use Rattle.piece_files.specs.Elements.{◌>>=◌, word_at, one_of, end_of}
 use Rattle.txn_files.specs.Operations.{is_old_op, op_of}
 use Rattle.piece_files.specs.declared.part.Part.TheVariants as parts

@@ -1,13 +1,13 @@
 -- The history file that bytes are, or its first fault.
 use Rattle.std.specs.Prelude.{ℕ, List, [], ◌∷◌, Bool, ◌-◌, ◌&&◌, nat_le, Option, None, option_map, Result, Ok, Err, if◌then◌else◌, codes}
 use Rattle.std.specs.List.{list_all}
-use Rattle.txn_trace.specs.declared.entry.Entry.{Entry}
-use Rattle.txn_trace.specs.declared.entry.Entry.TheVariants.{Asked, Saved, Busy}
+use Rattle.txn_words.specs.declared.entry.Entry.{Entry}
+use Rattle.txn_words.specs.declared.entry.Entry.TheVariants.{Asked, Saved, Busy}
 use Rattle.serde_json.specs.Data.{Data}
-use Rattle.txn_trace.specs.declared.op.Op.TheVariants.{PutIf}
-use Rattle.txn_trace.specs.History.{caller_of}
-use Rattle.txn_trace.specs.Packed.{is_small}
-use Rattle.txn_trace.specs.Sizes.{max_callers, max_stripes}
+use Rattle.txn_words.specs.declared.op.Op.TheVariants.{PutIf}
+use Rattle.txn_words.specs.Kinds.{caller_of}
+use Rattle.txn_words.specs.Packed.{is_small}
+use Rattle.txn_words.specs.Sizes.{max_callers, max_stripes}
 use Rattle.piece_files.specs.declared.part.Part.TheVariants as parts
 use Rattle.piece_files.specs.declared.file_fault.FileFault.{FileFault}
 use Rattle.piece_files.specs.declared.file_fault.FileFault.TheVariants.{Member, Limit}

@@ -2,8 +2,8 @@
 use Rattle.std.specs.Prelude.{ℕ, List, [], ◌∷◌, length, ◌==◌, decimal, Bool, true, false, Option, Some, None, if◌then◌else◌, codes}
 use Rattle.std.specs.Str.{bytes_eq}
 use Rattle.serde_json.specs.Data.{Data}
-use Rattle.txn_trace.specs.declared.op.Op.{Op}
-use Rattle.txn_trace.specs.declared.op.Op.TheVariants.{Put, Take, Get, PutIf}
+use Rattle.txn_words.specs.declared.op.Op.{Op}
+use Rattle.txn_words.specs.declared.op.Op.TheVariants.{Put, Take, Get, PutIf}
 use Rattle.piece_files.specs.Elements.{◌>>=◌, number_at, optional_at, word_at}
 
 -- The "put_if" of this key whose expected value (null or a number) and new value the elements begin

@@ -1,7 +1,7 @@
 -- The script file that bytes are, or its first fault.
 use Rattle.std.specs.Prelude.{ℕ, List, [], ◌∷◌, length, Bool, ◌&&◌, nat_le, Result, Ok, Err, if◌then◌else◌, codes}
 use Rattle.std.specs.List.{list_all}
-use Rattle.txn_trace.specs.declared.action.Action.{Action}
+use Rattle.txn_words.specs.declared.action.Action.{Action}
 use Rattle.piece_files.specs.declared.part.Part.TheVariants as parts
 use Rattle.piece_files.specs.declared.file_fault.FileFault.{FileFault}
 use Rattle.piece_files.specs.declared.file_fault.FileFault.TheVariants.{Member, Limit}
@@ -9,7 +9,7 @@ use Rattle.piece_files.specs.Faults.{◌>>=◌}
 use Rattle.piece_files.specs.Files.{FileKind, contents}
 use Rattle.txn_files.specs.StepFile.{sizes_at}
 use Rattle.txn_files.specs.Actions.{is_old_script, script_of}
-use Rattle.txn_trace.specs.Work.{Work}
+use Rattle.txn_words.specs.Work.{Work}
 
 -- The most times that a script may be tried again.
 abbrev pub max_tries : ℕ

@@ -1,8 +1,8 @@
 -- The step file that bytes are, or its first fault.
 use Rattle.std.specs.Prelude.{ℕ, true, List, [], ◌∷◌, nat_le, Result, Ok, Err, if◌then◌else◌, codes}
-use Rattle.txn_trace.specs.Sizes.{Sizes, limits_of}
-use Rattle.txn_trace.specs.declared.refusal.Refusal.{Refusal}
-use Rattle.txn_trace.specs.declared.step.Step.{Step}
+use Rattle.txn_words.specs.Sizes.{Sizes, limits_of}
+use Rattle.txn_words.specs.declared.refusal.Refusal.{Refusal}
+use Rattle.txn_words.specs.declared.step.Step.{Step}
 use Rattle.piece_files.specs.declared.part.Part.TheVariants as parts
 use Rattle.piece_files.specs.declared.file_fault.FileFault.{FileFault}
 use Rattle.piece_files.specs.declared.file_fault.FileFault.TheVariants.{Member, Limit}

@@ -16,7 +16,7 @@ use piece_files::{
     plain_elements, read_file, word_in,
 };
 use std::alloc::{AllocError, Global};
-use txn_trace::{Entry, Limits, Op, SmallEntry};
+use txn_words::{Entry, Limits, Op, SmallEntry};
 
 /// The largest number that a caller may have.
 const MAX_CALLER: u64 = Limits::MAX_CALLERS - 1;

@@ -31,4 +31,4 @@ pub use piece_files::{FileFault, Part};
 pub use script_file::read_scripts;
 pub use step_file::{read_packed_steps, read_steps};
 pub use text::{history_text, small_history_text};
-pub use txn_trace::{Script, Scripts};
+pub use txn_words::{Script, Scripts};

@@ -9,7 +9,7 @@ ghost use Rattle.txn_files.specs.Operations.{is_old_op, op_at, op_of, put_if_at,
 
 use crate::line::Line;
 use piece_files::{Plain, leading_optional_in, number_in, word_in};
-use txn_trace::Op;
+use txn_words::Op;
 
 /// The `put_if` of this key whose expected value and new value the elements begin with, and the
 /// elements after it.

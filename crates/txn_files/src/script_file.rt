@@ -7,7 +7,7 @@ ghost use Rattle.piece_files.specs.declared.file_fault.FileFault.{FileFault};
 ghost use Rattle.piece_files.specs.declared.part.Part.TheVariants as parts;
 ghost use Rattle.piece_files.specs.Plain.{data_of};
 ghost use Rattle.piece_files.specs.Tokens.{FindsBoth};
-ghost use Rattle.txn_trace.specs.declared.action.Action.{Action};
+ghost use Rattle.txn_words.specs.declared.action.Action.{Action};
 ghost use Rattle.piece_files.specs.Faults.{Gives};
 ghost use Rattle.txn_files.specs.Actions.{action_of, is_old_action, is_old_script, script_of};
 ghost use Rattle.txn_files.specs.ScriptFile.{max_scripts, is_short, are_scripts, work_from, scripts_of};
@@ -21,7 +21,7 @@ use piece_files::{
     pieces_in, plain_elements, read_file, word_in,
 };
 use std::alloc::{AllocError, Global};
-use txn_trace::{Action, PackedAction, Script, Scripts};
+use txn_words::{Action, PackedAction, Script, Scripts};
 
 /// The most times that a script may be tried again.
 const MAX_TRIES: u64 = 1000;

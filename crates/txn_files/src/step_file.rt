@@ -14,7 +14,7 @@ use piece_files::{
     read_file, two_in, word_in,
 };
 use std::alloc::{AllocError, Global};
-use txn_trace::{Limits, PackedStep, Step};
+use txn_words::{Limits, PackedStep, Step};
 
 /// The most steps that a file may have.
 const MAX_STEPS: usize = 1_000_000;

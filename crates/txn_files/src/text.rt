@@ -7,13 +7,13 @@ ghost use Rattle.std.specs.Prelude.{◌≡◌, ◌≤◌, ◌∷◌, ◌++◌, c
 ghost use Rattle.std.specs.Prelude.{OnOk, IfOk, string_bytes};
 ghost use Rattle.std.specs.List.{flat_map, join_with_byte};
 ghost use Rattle.txn_files.specs.HistoryText.{comma, entry_text, optional_text, text_of_history};
-ghost use Rattle.txn_trace.specs.declared.entry.Entry.{Entry};
-ghost use Rattle.txn_trace.specs.declared.entry.Entry.TheVariants as entries;
+ghost use Rattle.txn_words.specs.declared.entry.Entry.{Entry};
+ghost use Rattle.txn_words.specs.declared.entry.Entry.TheVariants as entries;
 
 use crate::line::Line;
 use crate::operation::put_op;
 use std::alloc::{AllocError, Global};
-use txn_trace::{Entry, Op, SmallEntry};
+use txn_words::{Entry, Op, SmallEntry};
 
 /// An entry, in one of the forms in which a history keeps it.
 pub(crate) trait EntryForm {

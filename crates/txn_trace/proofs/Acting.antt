@@ -1,25 +1,24 @@
 -- Did: after a legal history a reply is right exactly if it is that of the map now, and the map
 -- then changes by the operation.
-use Rattle.std.proofs.Common.{◌≡◌, ℕ, ◌==◌, ◌≢◌, true, false, cond, List, [], ◌∷◌, ◌++◌, refl, ap, sym, subst, ◌∙◌, Some, None, Option, is_some}
-use Rattle.std.specs.Prelude.{nat_eq}
-use Rattle.std.specs.Option.{option_eq, option_and_then}
-use Rattle.std.proofs.lemmas.Bool.{false≢true, cases_eq, eq-eqb, ne_eqb}
+use Rattle.std.proofs.Common.{◌≡◌, ℕ, true, false, cond, List, [], ◌∷◌, ◌++◌, refl, ap, sym, subst, ◌∙◌, Some, None, Option, is_some}
+use Rattle.std.specs.Option.{option_and_then}
+use Rattle.std.proofs.lemmas.Bool.{false≢true}
 use Rattle.std.proofs.lemmas.List.{append-nil}
 use mathlib.Core.Logic.{inl, inr}
-use Rattle.txn_trace.specs.declared.op.Op.{Op}
-use Rattle.txn_trace.specs.declared.op.Op.TheVariants.{Put, Take, Get, PutIf}
-use Rattle.txn_trace.specs.declared.entry.Entry.{Entry}
-use Rattle.txn_trace.specs.declared.holder.Holder.{Holder}
-use Rattle.txn_trace.specs.declared.entry.Entry.TheVariants.{Did}
-use Rattle.txn_trace.specs.Map.{Map, get, insert, remove, after, reply_of, key_of, is_change}
+use Rattle.txn_words.specs.declared.op.Op.{Op}
+use Rattle.txn_words.specs.declared.entry.Entry.{Entry}
+use Rattle.txn_words.specs.declared.holder.Holder.{Holder}
+use Rattle.txn_words.specs.declared.entry.Entry.TheVariants.{Did}
+use Rattle.txn_words.specs.Map.{Map, get, after, reply_of, key_of, is_change}
 use Rattle.txn_trace.specs.History.{of}
 use Rattle.txn_trace.specs.Alone.{Run, with_op, act_did, act, alone, last_map, map_after}
 use Rattle.txn_trace.specs.Serial.{serial}
 use Rattle.txn_trace.specs.Now.{now}
-use Rattle.txn_trace.specs.declared.seat.Phase.TheVariants.{Waiting}
-use Rattle.txn_trace.specs.Shape.{Seat, seat_after, own, is_shaped}
+use Rattle.txn_words.specs.declared.seat.Phase.TheVariants.{Waiting}
+use Rattle.txn_words.specs.Shape.{Seat, seat_after, own, is_shaped}
 use Rattle.txn_trace.specs.Legal.{IsLegal}
-use Rattle.txn_trace.proofs.Maps.{same_map, none_is, get-insert, get-remove}
+use Rattle.txn_words.proofs.Effects.{after_unchanged, get-after_other, get-after_same}
+use Rattle.txn_words.proofs.Maps.{same_map}
 use Rattle.txn_trace.proofs.Pushes.{txn_in, alone-push}
 use Rattle.txn_trace.proofs.Callers.{ended}
 use Rattle.txn_trace.proofs.Local.{RunsAlike, alone_alike, WaitsFor}
@@ -30,42 +29,6 @@ use Rattle.txn_trace.proofs.Fits.{Fits, PhaseFits}
 use Rattle.txn_trace.proofs.Seated.{are_seated, the_some}
 use Rattle.txn_trace.proofs.Judging.{legal_push, shape_push, locks_push}
 use Rattle.txn_trace.proofs.Others.{replies-push_other, now_at-push}
-
--- An operation that is no change leaves the map unchanged.
-pub after_unchanged : (m : Map) (op : Op) → is_change m op ≡ false → after m op ≡ m
-after_unchanged m (Put k v) h = absurd (false≢true (sym h))
-after_unchanged m (Take k) h = same_map (remove m k) m (λ q. get-remove m k q ∙ at q)
-  where
-    at : (q : ℕ) → cond (q == k) None (get m q) ≡ get m q
-    at q = elim (cases_eq q k) [
-      | inl same ↦ ap (λ b. cond b None (get m q)) (eq-eqb q k same) ∙ sym (ap (get m) same ∙ none_is (get m k) h)
-      | inr other ↦ ap (λ b. cond b None (get m q)) (ne_eqb q k other)
-    ]
-after_unchanged m (Get k) h = refl
-after_unchanged m (PutIf k expected v) h = ap (λ b. cond b (insert m k v) m) h
-
--- An operation leaves every other key unchanged.
-pub get-after_other : (m : Map) (op : Op) (q : ℕ) → q ≢ key_of op → get (after m op) q ≡ get m q
-get-after_other m (Put k v) q other = get-insert m k v q ∙ ap (λ b. cond b (Some v) (get m q)) (ne_eqb q k other)
-get-after_other m (Take k) q other = get-remove m k q ∙ ap (λ b. cond b None (get m q)) (ne_eqb q k other)
-get-after_other m (Get k) q other = refl
-get-after_other m (PutIf k expected v) q other =
-    elim (option_eq nat_eq (get m k) expected) as (λ b. get (cond b (insert m k v) m) q ≡ get m q) [
-      | true ↦ get-insert m k v q ∙ ap (λ b. cond b (Some v) (get m q)) (ne_eqb q k other)
-      | false ↦ refl
-    ]
-
--- If two maps agree at a key and at the operation's key, they agree at the key after the operation.
-pub get-after_same : (m n : Map) (op : Op) (q : ℕ) → get m q ≡ get n q → get m (key_of op) ≡ get n (key_of op) → get (after m op) q ≡ get (after n op) q
-get-after_same m n (Put k v) q same at = get-insert m k v q ∙ ap (cond (q == k) (Some v)) same ∙ sym (get-insert n k v q)
-get-after_same m n (Take k) q same at = get-remove m k q ∙ ap (cond (q == k) None) same ∙ sym (get-remove n k q)
-get-after_same m n (Get k) q same at = same
-get-after_same m n (PutIf k expected v) q same at =
-    subst (λ c. get (cond (option_eq nat_eq (get m k) expected) (insert m k v) m) q ≡ get (cond c (insert n k v) n) q) (ap (λ o. option_eq nat_eq o expected) at)
-    (elim (option_eq nat_eq (get m k) expected) as (λ b. get (cond b (insert m k v) m) q ≡ get (cond b (insert n k v) n) q) [
-      | true ↦ get-insert m k v q ∙ ap (cond (q == k) (Some v)) same ∙ sym (get-insert n k v q)
-      | false ↦ same
-    ])
 
 added : (r : Run) (op : Op) → (with_op r op).last ≡ after r.last op
 added r op = (elim (is_change r.last op) as (λ b. is_change r.last op ≡ b → (cond b (record r { last = after r.last op; earlier = r.last ∷ r.earlier }) r).last ≡ after r.last op) [

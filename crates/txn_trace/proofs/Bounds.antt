@@ -5,19 +5,19 @@ use Rattle.std.specs.Prelude.{nat_eq}
 use Rattle.std.specs.List.{fold}
 use Rattle.std.proofs.lemmas.Bool.{false≢true, cases_eq, false_from_ne_true}
 use mathlib.Core.Logic.{◌⊎◌, inl, inr}
-use Rattle.txn_trace.specs.declared.op.Op.{Op}
-use Rattle.txn_trace.specs.declared.entry.Entry.{Entry}
-use Rattle.txn_trace.specs.declared.holder.Holder.{Holder}
-use Rattle.txn_trace.specs.declared.entry.Entry.TheVariants.{Began, Asked, Did, Undone, Returned, Aborted}
-use Rattle.txn_trace.specs.Map.{Map, get, after, reply_of, is_change}
+use Rattle.txn_words.specs.declared.op.Op.{Op}
+use Rattle.txn_words.specs.declared.entry.Entry.{Entry}
+use Rattle.txn_words.specs.declared.holder.Holder.{Holder}
+use Rattle.txn_words.specs.declared.entry.Entry.TheVariants.{Began, Asked, Did, Undone, Returned, Aborted}
+use Rattle.txn_words.specs.Map.{Map, get, after, reply_of, is_change}
 use Rattle.txn_trace.specs.History.{of}
 use Rattle.txn_trace.specs.Alone.{Run, start, with_op, act_did, act_undone, act, alone, map_after}
 use Rattle.txn_trace.specs.Serial.{serial}
 use Rattle.txn_trace.specs.Now.{now, now_at}
 use Rattle.txn_trace.specs.Locks.{stripe_of}
-use Rattle.txn_trace.specs.Shape.{is_shaped}
+use Rattle.txn_words.specs.Shape.{is_shaped}
 use Rattle.txn_trace.specs.Legal.{IsLegal}
-use Rattle.txn_trace.proofs.Maps.{same_map}
+use Rattle.txn_words.proofs.Maps.{same_map}
 use Rattle.txn_trace.proofs.Pushes.{txn_at}
 use Rattle.txn_trace.proofs.Callers.{Callers, ended}
 use Rattle.txn_trace.proofs.Shaped.{callers_of, ended_in, not_ended_before}

@@ -6,12 +6,13 @@ use Rattle.std.specs.Prelude.{nat_lt}
 use Rattle.std.specs.List.{fold, AllByRecursion}
 use Rattle.std.proofs.lemmas.Bool.{false≢true, eqb-true, eq-eqb, and_parts, cases_eq, ne_eqb}
 use mathlib.Core.Logic.{◌⊎◌, inl, inr}
-use Rattle.txn_trace.specs.declared.entry.Entry.{Entry}
-use Rattle.txn_trace.specs.declared.entry.Entry.TheVariants.{Began, Asked, Did, Saved, Leave, Undone, Returned, Committed, Busy, Aborted}
-use Rattle.txn_trace.specs.History.{Line, caller_of, is_began, is_commit, is_abort, txn_after, lines_of, of, ends_in, is_open}
-use Rattle.txn_trace.specs.declared.seat.Phase.{Phase}
-use Rattle.txn_trace.specs.declared.seat.Phase.TheVariants.{Closed, Opened, Waiting, LeavingTo, LeavingToEnd}
-use Rattle.txn_trace.specs.Shape.{Seat, row, seat_after, closed_seat, own, how_many, is_shaped, is_numbered}
+use Rattle.txn_words.specs.declared.entry.Entry.{Entry}
+use Rattle.txn_words.specs.declared.entry.Entry.TheVariants.{Began, Asked, Did, Saved, Leave, Undone, Returned, Committed, Busy, Aborted}
+use Rattle.txn_trace.specs.History.{Line, txn_after, lines_of, of, ends_in, is_open}
+use Rattle.txn_words.specs.Kinds.{caller_of, is_began, is_commit, is_abort}
+use Rattle.txn_words.specs.declared.seat.Phase.{Phase}
+use Rattle.txn_words.specs.declared.seat.Phase.TheVariants.{Closed, Opened, Waiting, LeavingTo, LeavingToEnd}
+use Rattle.txn_words.specs.Shape.{Seat, row, seat_after, closed_seat, own, how_many, is_shaped, is_numbered}
 use Rattle.txn_trace.specs.Legal.{runs, is_running}
 use Rattle.txn_trace.proofs.Pushes.{txn_in, txn_at, txn_in-push, seat_after-push, own-push_in, how_many-push}
 

@@ -2,20 +2,20 @@
 -- aborted transactions.
 use Rattle.std.proofs.Common.{[], ◌≡◌, ℕ, ◌^◌, ◌-◌, List, ◌∷◌, ◌++◌, Some, None, Option, refl, take, map}
 use Rattle.split_key.specs.Split.{split, reversed, reversed_low}
-use Rattle.txn_trace.specs.declared.op.Op.{Op}
-use Rattle.txn_trace.specs.declared.op.Op.TheVariants.{Put, Take, Get}
-use Rattle.txn_trace.specs.declared.entry.Entry.{Entry}
-use Rattle.txn_trace.specs.declared.holder.Holder.TheVariants.{Now}
-use Rattle.txn_trace.specs.declared.entry.Entry.TheVariants.{Began, Asked, Did, Saved, Leave, Undone, Returned, Committed, Busy, Aborted}
-use Rattle.txn_trace.specs.Map.{Map, empty, insert}
-use Rattle.txn_trace.specs.Ordered.{ordered}
+use Rattle.txn_words.specs.declared.op.Op.{Op}
+use Rattle.txn_words.specs.declared.op.Op.TheVariants.{Put, Take, Get}
+use Rattle.txn_words.specs.declared.entry.Entry.{Entry}
+use Rattle.txn_words.specs.declared.holder.Holder.TheVariants.{Now}
+use Rattle.txn_words.specs.declared.entry.Entry.TheVariants.{Began, Asked, Did, Saved, Leave, Undone, Returned, Committed, Busy, Aborted}
+use Rattle.txn_words.specs.Map.{Map, empty, insert}
+use Rattle.txn_words.specs.Ordered.{ordered}
 use Rattle.txn_trace.specs.Serial.{serial}
 use Rattle.txn_trace.specs.Now.{now}
 use Rattle.txn_trace.specs.Locks.{holder_of}
 use Rattle.txn_trace.specs.Log.{log_of}
 use Rattle.txn_trace.specs.Legal.{IsLegal, verdict, Legal, Illegal}
 use Rattle.txn_trace.specs.Erase.{erase}
-use Rattle.txn_trace.specs.Owed.{owed}
+use Rattle.txn_words.specs.Owed.{owed}
 use Rattle.txn_trace.proofs.Judging.{legal_iff}
 
 -- An abort takes a put back.

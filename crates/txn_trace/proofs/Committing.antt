@@ -5,13 +5,14 @@ use Rattle.std.specs.Option.{option_and_then}
 use Rattle.std.proofs.lemmas.Bool.{false≢true, eqb-true, eq-eqb, ne_eqb, cases_eq}
 use Rattle.std.proofs.lemmas.List.{append-nil}
 use mathlib.Core.List.{IsPrefix}
-use Rattle.txn_trace.specs.declared.entry.Entry.{Entry}
-use Rattle.txn_trace.specs.declared.entry.Entry.TheVariants.{Began, Committed}
-use Rattle.txn_trace.specs.History.{caller_of, is_began, is_commit, txn_after, of}
+use Rattle.txn_words.specs.declared.entry.Entry.{Entry}
+use Rattle.txn_words.specs.declared.entry.Entry.TheVariants.{Began, Committed}
+use Rattle.txn_trace.specs.History.{txn_after, of}
+use Rattle.txn_words.specs.Kinds.{caller_of, is_began, is_commit}
 use Rattle.txn_trace.specs.Alone.{Run, act, alone}
 use Rattle.txn_trace.specs.Serial.{serial}
 use Rattle.txn_trace.specs.Replies.{RepliesHold}
-use Rattle.txn_trace.specs.Shape.{own, how_many, is_shaped, IsShaped}
+use Rattle.txn_words.specs.Shape.{own, how_many, is_shaped, IsShaped}
 use Rattle.txn_trace.proofs.Pushes.{txn_in, txn_at, txn_in-push, of-push_in, of-push_out, alone-push}
 use Rattle.txn_trace.proofs.Callers.{Callers, ended, txn_stays, shaped_number, not_after_end}
 use Rattle.txn_trace.proofs.Shaped.{callers_of, callers_push, first_of_rest, ended_in, ended_whole, shape_front, same as one_caller}

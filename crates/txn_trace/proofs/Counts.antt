@@ -7,9 +7,10 @@ use Rattle.std.proofs.lemmas.Bool.{false≢true, cases_Bool, eqb-true, or_cases}
 use Rattle.std.proofs.lemmas.List.{append-nil}
 use Rattle.std.proofs.lemmas.List.Sums.{sum_by_push, fold-append}
 use mathlib.Core.Logic.{inl, inr}
-use Rattle.txn_trace.specs.declared.entry.Entry.{Entry}
-use Rattle.txn_trace.specs.History.{caller_of, is_began, is_commit, is_open, txns_of, commits, open_txns}
-use Rattle.txn_trace.specs.Shape.{Seat, row, seat_after, own, how_many, is_shaped, IsShaped}
+use Rattle.txn_words.specs.declared.entry.Entry.{Entry}
+use Rattle.txn_trace.specs.History.{is_open, txns_of, commits, open_txns}
+use Rattle.txn_words.specs.Kinds.{caller_of, is_began, is_commit}
+use Rattle.txn_words.specs.Shape.{Seat, row, seat_after, own, how_many, is_shaped, IsShaped}
 use Rattle.txn_trace.specs.Legal.{is_running, callers_in, running}
 use Rattle.txn_trace.proofs.Pushes.{txn_in, txn_at, how_many-push}
 use Rattle.txn_trace.proofs.Callers.{Callers, is_end, ended, is_open-ended, not_after_end, shaped_seat, shaped_number, began_or_not, began_number, at_is, not_began_is, some_same, other_runs, end_closes, began_was_closed, end_not_began}

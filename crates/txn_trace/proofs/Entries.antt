@@ -7,26 +7,27 @@ use Rattle.std.specs.List.{list_any}
 use Rattle.std.proofs.lemmas.Bool.{cases_Bool, lt-ltb, and_from, eq-eqb, cases_eq, ne_eqb}
 use Rattle.std.proofs.lemmas.List.{append-nil}
 use mathlib.Core.Logic.{inl, inr}
-use Rattle.txn_trace.specs.declared.op.Op.{Op}
-use Rattle.txn_trace.specs.declared.entry.Entry.{Entry}
-use Rattle.txn_trace.specs.declared.holder.Holder.{Holder}
-use Rattle.txn_trace.specs.declared.entry.Entry.TheVariants.{Began, Asked, Did, Saved, Leave, Undone, Returned, Committed, Busy, Aborted}
-use Rattle.txn_trace.specs.Map.{Map, get, key_of, reply_of, after}
-use Rattle.txn_trace.specs.History.{is_began, is_commit, of}
+use Rattle.txn_words.specs.declared.op.Op.{Op}
+use Rattle.txn_words.specs.declared.entry.Entry.{Entry}
+use Rattle.txn_words.specs.declared.holder.Holder.{Holder}
+use Rattle.txn_words.specs.declared.entry.Entry.TheVariants.{Began, Asked, Did, Saved, Leave, Undone, Returned, Committed, Busy, Aborted}
+use Rattle.txn_words.specs.Map.{Map, get, key_of, reply_of, after, set_at}
+use Rattle.txn_trace.specs.History.{of}
+use Rattle.txn_words.specs.Kinds.{is_began, is_commit}
 use Rattle.txn_trace.specs.Alone.{alone}
 use Rattle.txn_trace.specs.Serial.{serial}
-use Rattle.txn_trace.specs.Now.{now, set_at}
+use Rattle.txn_trace.specs.Now.{now}
 use Rattle.txn_trace.specs.Locks.{stripe_of, holder_of, is_locked}
-use Rattle.txn_trace.specs.declared.seat.Phase.TheVariants.{Closed, Opened, Waiting, LeavingTo, LeavingToEnd}
-use Rattle.txn_trace.specs.Shape.{Seat, closed_seat, changes, row, seat_after, own, how_many}
+use Rattle.txn_words.specs.declared.seat.Phase.TheVariants.{Closed, Opened, Waiting, LeavingTo, LeavingToEnd}
+use Rattle.txn_words.specs.Shape.{Seat, closed_seat, changes, row, seat_after, own, how_many}
 use Rattle.txn_trace.specs.Log.{Log, log_after, log_of, log_did}
 use Rattle.txn_trace.specs.Legal.{IsLegal, runs}
-use Rattle.txn_trace.proofs.Maps.{same_map}
+use Rattle.txn_words.proofs.Maps.{same_map, get-set_at}
 use Rattle.txn_trace.proofs.Pushes.{txn_in, txn_at}
 use Rattle.txn_trace.proofs.Shaped.{callers_of}
 use Rattle.txn_trace.proofs.Stripes.{keys_in, are_apart}
 use Rattle.txn_trace.proofs.Now.{running_of, now_at-holder, serial-commit, replies-push_commit, now_at-push_commit}
-use Rattle.txn_trace.proofs.Table.{get-set_at, get-now}
+use Rattle.txn_trace.proofs.Table.{get-now}
 use Rattle.txn_trace.proofs.Judging.{legal_push, shape_push, locks_push}
 use Rattle.txn_trace.proofs.Others.{replies-push_other, serial_is}
 use Rattle.txn_trace.proofs.Seated.{none_before, are_seated}

@@ -5,14 +5,15 @@ use Rattle.std.specs.List.{filter, fold}
 use Rattle.std.proofs.lemmas.Bool.{cases_Bool}
 use mathlib.Core.List.{IsPrefix}
 use mathlib.Core.Logic.{inl, inr}
-use Rattle.txn_trace.specs.declared.entry.Entry.{Entry}
-use Rattle.txn_trace.specs.Map.{empty}
-use Rattle.txn_trace.specs.History.{Line, caller_of, is_commit, is_abort, txn_after, of, txns_of, ends_in, is_committed, is_aborted, is_open}
+use Rattle.txn_words.specs.declared.entry.Entry.{Entry}
+use Rattle.txn_words.specs.Map.{empty}
+use Rattle.txn_trace.specs.History.{Line, txn_after, of, txns_of, ends_in, is_committed, is_aborted, is_open}
+use Rattle.txn_words.specs.Kinds.{caller_of, is_commit, is_abort}
 use Rattle.txn_trace.specs.Alone.{alone, map_after}
 use Rattle.txn_trace.specs.Serial.{serial}
 use Rattle.txn_trace.specs.Now.{now}
 use Rattle.txn_trace.specs.Replies.{RepliesHold, RepliesHoldAt}
-use Rattle.txn_trace.specs.Shape.{IsShaped}
+use Rattle.txn_words.specs.Shape.{IsShaped}
 use Rattle.txn_trace.specs.Erase.{erase}
 use Rattle.txn_trace.proofs.Lists.{filter_within, fold_filter}
 use Rattle.txn_trace.proofs.Erasing.{kept, kept_of, kept_lines, no_txn, of-kept_in, of-kept_out, txns_of-kept, committed_not_aborted, serial-kept, now-kept}

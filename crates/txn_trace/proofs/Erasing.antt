@@ -2,14 +2,15 @@
 use Rattle.std.proofs.Common.{◌≡◌, ℕ, Bool, true, false, cond, not, ◌||◌, ◌==◌, List, [], ◌∷◌, map, refl, ap, sym, ◌∙◌, Some, None, Option}
 use Rattle.std.specs.List.{filter, filter_map, fold, cons_option}
 use Rattle.std.proofs.lemmas.Bool.{false≢true, eq-eqb}
-use Rattle.txn_trace.specs.declared.entry.Entry.{Entry}
-use Rattle.txn_trace.specs.declared.entry.Entry.TheVariants.{Began, Aborted}
-use Rattle.txn_trace.specs.Map.{empty}
-use Rattle.txn_trace.specs.History.{Line, caller_of, is_began, is_commit, is_abort, txn_after, lines_from, lines_of, is_of, of, txns_of, ends_in, is_committed, is_aborted, is_open, commits, open_txns}
+use Rattle.txn_words.specs.declared.entry.Entry.{Entry}
+use Rattle.txn_words.specs.declared.entry.Entry.TheVariants.{Began, Aborted}
+use Rattle.txn_words.specs.Map.{empty}
+use Rattle.txn_trace.specs.History.{Line, txn_after, lines_from, lines_of, is_of, of, txns_of, ends_in, is_committed, is_aborted, is_open, commits, open_txns}
+use Rattle.txn_words.specs.Kinds.{caller_of, is_began, is_commit, is_abort}
 use Rattle.txn_trace.specs.Alone.{map_after}
 use Rattle.txn_trace.specs.Serial.{serial}
 use Rattle.txn_trace.specs.Now.{open_maps, now}
-use Rattle.txn_trace.proofs.Maps.{overlaid}
+use Rattle.txn_trace.proofs.Table.{overlaid}
 use Rattle.txn_trace.proofs.Lists.{filter_within, fold_filter, map_filter}
 use Rattle.txn_trace.proofs.Pushes.{of_is}
 

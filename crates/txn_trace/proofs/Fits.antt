@@ -3,16 +3,16 @@
 use Rattle.std.proofs.Common.{◌≡◌, ℕ, zero, suc, ◌+◌, ◌-◌, ◌<◌, ◌==◌, Bool, true, false, cond, ◌&&◌, List, [], ◌∷◌, ◌++◌, map, length, take, slice_get, slice_index, refl, ap, sym, subst, ◌∙◌, Some, None, Option, is_some, arith}
 use Rattle.std.specs.Prelude.{nat_lt}
 use Rattle.std.proofs.lemmas.Bool.{false≢true, eqb-true, ltb-true, and_parts}
-use Rattle.txn_trace.specs.declared.op.Op.{Op}
-use Rattle.txn_trace.specs.declared.op.Op.TheVariants.{Put, Take, Get, PutIf}
-use Rattle.txn_trace.specs.declared.entry.Entry.{Entry}
-use Rattle.txn_trace.specs.declared.entry.Entry.TheVariants.{Began, Asked, Did, Saved, Leave, Undone, Returned, Committed, Busy, Aborted}
-use Rattle.txn_trace.specs.Map.{Map, reply_of, after, is_change}
-use Rattle.txn_trace.specs.History.{is_began}
+use Rattle.txn_words.specs.declared.op.Op.{Op}
+use Rattle.txn_words.specs.declared.entry.Entry.{Entry}
+use Rattle.txn_words.specs.declared.entry.Entry.TheVariants.{Began, Asked, Did, Saved, Leave, Undone, Returned, Committed, Busy, Aborted}
+use Rattle.txn_words.specs.Map.{Map, reply_of, after, is_change}
+use Rattle.txn_words.specs.Kinds.{is_began}
 use Rattle.txn_trace.specs.Alone.{Run, start, number_of_maps, with_op, act_did, act_undone, act_returned, act}
-use Rattle.txn_trace.specs.declared.seat.Phase.{Phase}
-use Rattle.txn_trace.specs.declared.seat.Phase.TheVariants.{Opened, Waiting, LeavingTo, LeavingToEnd}
-use Rattle.txn_trace.specs.Shape.{Seat, row, changes, closed_seat}
+use Rattle.txn_words.specs.declared.seat.Phase.{Phase}
+use Rattle.txn_words.specs.declared.seat.Phase.TheVariants.{Opened, Waiting, LeavingTo, LeavingToEnd}
+use Rattle.txn_words.specs.Shape.{Seat, row, changes, closed_seat}
+use Rattle.txn_words.proofs.Effects.{changes-reply}
 use Rattle.txn_trace.proofs.Callers.{is_end}
 use Rattle.txn_trace.proofs.Now.{same_is}
 
@@ -36,13 +36,6 @@ FitsAfter (Some s) (Some r) = Fits s r
 abbrev pub IsReply : Run → Entry → Type 0
 IsReply r (Did c x) = (op : Op) → r.pending ≡ Some op → x ≡ reply_of r.last op
 IsReply r _ = Unit {0}
-
--- A change by its reply is a change on the map.
-pub changes-reply : (m : Map) (op : Op) → changes op (reply_of m op) ≡ is_change m op
-changes-reply m (Put k v) = refl
-changes-reply m (Take k) = refl
-changes-reply m (Get k) = refl
-changes-reply m (PutIf k expected v) = refl
 
 pub fits_start : (m : Map) → Fits (record closed_seat { phase = Opened }) (start m)
 fits_start m = record { standing = refl; notes = refl; phase = tt }

@@ -7,17 +7,18 @@ use Rattle.std.specs.List.{filter, list_any, AllByRecursion}
 use Rattle.std.proofs.lemmas.Bool.{cases_Bool, and_parts, false≢true, eq-eqb, or_left, or_right, or_cases}
 use Rattle.std.proofs.lemmas.List.{append-nil}
 use mathlib.Core.Logic.{inl, inr}
-use Rattle.txn_trace.specs.declared.op.Op.{Op}
-use Rattle.txn_trace.specs.declared.entry.Entry.{Entry}
-use Rattle.txn_trace.specs.declared.holder.Holder.{Holder}
-use Rattle.txn_trace.specs.Map.{Map, get, key_of}
+use Rattle.txn_words.specs.declared.op.Op.{Op}
+use Rattle.txn_words.specs.declared.entry.Entry.{Entry}
+use Rattle.txn_words.specs.declared.holder.Holder.{Holder}
+use Rattle.txn_words.specs.Map.{Map, get, key_of}
 use Rattle.txn_trace.specs.Now.{now, now_at}
-use Rattle.txn_trace.specs.History.{is_open, is_commit, Line, caller_of, lines_of, is_of, of}
+use Rattle.txn_trace.specs.History.{is_open, Line, lines_of, is_of, of}
+use Rattle.txn_words.specs.Kinds.{is_commit, caller_of}
 use Rattle.txn_trace.specs.Alone.{map_after, Run, alone}
 use Rattle.txn_trace.specs.Serial.{serial}
 use Rattle.txn_trace.specs.Locks.{stripe_of, asks_in, is_in_open, holders, holder_of, LocksHold}
-use Rattle.txn_trace.specs.declared.seat.Phase.TheVariants.{Waiting}
-use Rattle.txn_trace.specs.Shape.{Seat, seat_after, own, IsShaped, is_shaped}
+use Rattle.txn_words.specs.declared.seat.Phase.TheVariants.{Waiting}
+use Rattle.txn_words.specs.Shape.{Seat, seat_after, own, IsShaped, is_shaped}
 use Rattle.txn_trace.specs.Log.{log_after, log_of}
 use Rattle.txn_trace.specs.Legal.{IsLegal, runs, is_running}
 use Rattle.txn_trace.proofs.Pushes.{txn_in, txn_at, of_is}

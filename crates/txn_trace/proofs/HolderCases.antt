@@ -1,9 +1,9 @@
 -- Worked histories, by computing: the callers that a Busy may name by each of the two rules.
 use Rattle.std.proofs.Common.{◌≡◌, List, [], ◌∷◌, refl, None}
-use Rattle.txn_trace.specs.declared.op.Op.TheVariants.{Put, Get}
-use Rattle.txn_trace.specs.declared.entry.Entry.{Entry}
-use Rattle.txn_trace.specs.declared.entry.Entry.TheVariants.{Began, Asked, Did, Committed, Busy}
-use Rattle.txn_trace.specs.declared.holder.Holder.TheVariants.{Now, Begun}
+use Rattle.txn_words.specs.declared.op.Op.TheVariants.{Put, Get}
+use Rattle.txn_words.specs.declared.entry.Entry.{Entry}
+use Rattle.txn_words.specs.declared.entry.Entry.TheVariants.{Began, Asked, Did, Committed, Busy}
+use Rattle.txn_words.specs.declared.holder.Holder.TheVariants.{Now, Begun}
 use Rattle.txn_trace.specs.Legal.{verdict, Legal, Illegal}
 
 -- The caller that a Busy names has begun a transaction, which has ended.

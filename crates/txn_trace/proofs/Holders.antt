@@ -7,15 +7,16 @@ use Rattle.std.proofs.lemmas.Bool.{false≢true, cases_Bool, cases_eq, eq-eqb, e
 use Rattle.std.proofs.lemmas.List.{append-nil, map-append}
 use Rattle.std.proofs.lemmas.List.Elements.{filter-append}
 use mathlib.Core.Logic.{◌⊎◌, inl, inr}
-use Rattle.txn_trace.specs.declared.op.Op.{Op}
-use Rattle.txn_trace.specs.declared.entry.Entry.{Entry}
-use Rattle.txn_trace.specs.declared.holder.Holder.{Holder}
-use Rattle.txn_trace.specs.declared.holder.Holder.TheVariants.{Now, Begun}
-use Rattle.txn_trace.specs.declared.entry.Entry.TheVariants.{Asked, Busy}
-use Rattle.txn_trace.specs.Map.{key_of}
-use Rattle.txn_trace.specs.History.{Line, caller_of, is_open, lines_of}
+use Rattle.txn_words.specs.declared.op.Op.{Op}
+use Rattle.txn_words.specs.declared.entry.Entry.{Entry}
+use Rattle.txn_words.specs.declared.holder.Holder.{Holder}
+use Rattle.txn_words.specs.declared.holder.Holder.TheVariants.{Now, Begun}
+use Rattle.txn_words.specs.declared.entry.Entry.TheVariants.{Asked, Busy}
+use Rattle.txn_words.specs.Map.{key_of}
+use Rattle.txn_trace.specs.History.{Line, is_open, lines_of}
+use Rattle.txn_words.specs.Kinds.{caller_of}
 use Rattle.txn_trace.specs.Locks.{stripe_of, asks_in, is_in_open, holders, holder_of, has_begun, is_locked, LocksHold}
-use Rattle.txn_trace.specs.Shape.{is_shaped, IsShaped}
+use Rattle.txn_words.specs.Shape.{is_shaped, IsShaped}
 use Rattle.txn_trace.proofs.Lists.{map_one}
 use Rattle.txn_trace.proofs.Pushes.{txn_in, txn_at, lines_of-push}
 use Rattle.txn_trace.proofs.Callers.{Callers, IsOwned, is_end, ended, is_open-ended, in_or_out, end_not_began, at_is, not_began_is, some_same}

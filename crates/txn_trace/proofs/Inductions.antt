@@ -1,10 +1,10 @@
 -- Induction over histories of the right shape, entry by entry.
 use Rattle.std.proofs.Common.{◌≡◌, ℕ, true, List, [], ◌∷◌, ◌++◌, refl, sym, subst, append_assoc}
 use Rattle.std.proofs.lemmas.List.{append-nil}
-use Rattle.txn_trace.specs.declared.entry.Entry.{Entry}
-use Rattle.txn_trace.specs.declared.holder.Holder.{Holder}
+use Rattle.txn_words.specs.declared.entry.Entry.{Entry}
+use Rattle.txn_words.specs.declared.holder.Holder.{Holder}
 use Rattle.txn_trace.specs.Locks.{is_locked, LocksHold}
-use Rattle.txn_trace.specs.Shape.{is_shaped, IsShaped}
+use Rattle.txn_words.specs.Shape.{is_shaped, IsShaped}
 use Rattle.txn_trace.proofs.Callers.{Callers, callers_none}
 use Rattle.txn_trace.proofs.Shaped.{callers_push, shape_front}
 

@@ -6,14 +6,15 @@ use Rattle.std.proofs.lemmas.Bool.{false≢true, eqb-true, and_parts, and_from, 
 use Rattle.std.proofs.lemmas.List.{append-nil}
 use mathlib.Core.Logic.{◌⊎◌, inl, inr}
 use mathlib.Core.List.{IsPrefix}
-use Rattle.txn_trace.specs.declared.entry.Entry.{Entry}
-use Rattle.txn_trace.specs.declared.holder.Holder.{Holder}
-use Rattle.txn_trace.specs.History.{Line, caller_of, lines_of, is_of, is_began, of, txns_of, is_open, open_txns}
+use Rattle.txn_words.specs.declared.entry.Entry.{Entry}
+use Rattle.txn_words.specs.declared.holder.Holder.{Holder}
+use Rattle.txn_trace.specs.History.{Line, lines_of, is_of, of, txns_of, is_open, open_txns}
+use Rattle.txn_words.specs.Kinds.{caller_of, is_began}
 use Rattle.txn_trace.specs.Alone.{alone}
 use Rattle.txn_trace.specs.Serial.{serial}
 use Rattle.txn_trace.specs.Replies.{RepliesHoldAt}
 use Rattle.txn_trace.specs.Locks.{LocksHold, is_locked}
-use Rattle.txn_trace.specs.Shape.{is_shaped, IsShaped}
+use Rattle.txn_words.specs.Shape.{is_shaped, IsShaped}
 use Rattle.txn_trace.specs.Legal.{IsLegal, replies_hold, broken, first_bad}
 use Rattle.txn_trace.proofs.Pushes.{txn_in, of_is}
 use Rattle.txn_trace.proofs.Callers.{IsOwned, ended}

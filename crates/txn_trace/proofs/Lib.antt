@@ -1,4 +1,3 @@
-pub mod Maps
 pub mod Lists
 pub mod Pushes
 pub mod Callers
@@ -27,8 +26,6 @@ pub mod Bounds
 pub mod Erasing
 pub mod Erased
 pub mod Breaking
-pub mod Order
-pub mod OrderedPairs
 pub mod Sums
 pub mod Room
 pub mod Verdicts
@@ -38,6 +35,4 @@ pub mod Cases
 pub mod WideCases
 pub mod PlayedCases
 pub mod HolderCases
-pub mod Levels
 pub mod Committing
-pub mod Packing

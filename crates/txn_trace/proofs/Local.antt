@@ -5,13 +5,13 @@ use Rattle.std.specs.Prelude.{nat_eq}
 use Rattle.std.specs.Option.{option_eq, option_and_then}
 use Rattle.std.specs.List.{fold}
 use Rattle.std.proofs.lemmas.Bool.{false≢true, ne_eqb}
-use Rattle.txn_trace.specs.declared.op.Op.{Op}
-use Rattle.txn_trace.specs.declared.op.Op.TheVariants.{Put, Take, Get, PutIf}
-use Rattle.txn_trace.specs.declared.entry.Entry.{Entry}
-use Rattle.txn_trace.specs.declared.entry.Entry.TheVariants.{Asked, Did, Saved, Undone, Returned}
-use Rattle.txn_trace.specs.Map.{Map, get, insert, remove, key_of, reply_of, after, is_change, keys}
+use Rattle.txn_words.specs.declared.op.Op.{Op}
+use Rattle.txn_words.specs.declared.op.Op.TheVariants.{Put, Take, Get, PutIf}
+use Rattle.txn_words.specs.declared.entry.Entry.{Entry}
+use Rattle.txn_words.specs.declared.entry.Entry.TheVariants.{Asked, Did, Saved, Undone, Returned}
+use Rattle.txn_words.specs.Map.{Map, get, insert, remove, key_of, reply_of, after, is_change, keys}
 use Rattle.txn_trace.specs.Alone.{Run, start, number_of_maps, with_op, act_did, act_undone, act_returned, act, alone}
-use Rattle.txn_trace.proofs.Maps.{get-insert, get-remove}
+use Rattle.txn_words.proofs.Maps.{get-insert, get-remove}
 
 -- The maps a and b are m and n, with the same changes at keys that pass the test.
 pub record Alike (keys : ℕ → Bool) (m n a b : Map) : Type 0 where

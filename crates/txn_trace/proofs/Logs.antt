@@ -6,16 +6,17 @@ use Rattle.std.specs.List.{fold}
 use Rattle.std.proofs.lemmas.Bool.{false≢true, or_left, or_right, or_cases, eq-eqb}
 use Rattle.std.proofs.lemmas.List.Sums.{fold-append}
 use mathlib.Core.Logic.{inl, inr}
-use Rattle.txn_trace.specs.declared.op.Op.{Op}
-use Rattle.txn_trace.specs.declared.entry.Entry.{Entry}
-use Rattle.txn_trace.specs.declared.entry.Entry.TheVariants.{Began, Asked, Did, Saved, Leave, Undone, Returned, Committed, Busy, Aborted}
-use Rattle.txn_trace.specs.Map.{Map, key_of, reply_of, after, is_change}
-use Rattle.txn_trace.specs.History.{caller_of, is_began, of}
+use Rattle.txn_words.specs.declared.op.Op.{Op}
+use Rattle.txn_words.specs.declared.entry.Entry.{Entry}
+use Rattle.txn_words.specs.declared.entry.Entry.TheVariants.{Began, Asked, Did, Saved, Leave, Undone, Returned, Committed, Busy, Aborted}
+use Rattle.txn_words.specs.Map.{Map, key_of, reply_of, after, is_change}
+use Rattle.txn_trace.specs.History.{of}
+use Rattle.txn_words.specs.Kinds.{caller_of, is_began}
 use Rattle.txn_trace.specs.Alone.{Run, start, number_of_maps, with_op, act_did, act_undone, act, alone}
 use Rattle.txn_trace.specs.Locks.{asks_in, stripe_of}
-use Rattle.txn_trace.specs.declared.seat.Phase.{Phase}
-use Rattle.txn_trace.specs.declared.seat.Phase.TheVariants.{Closed, Opened, Waiting, LeavingTo, LeavingToEnd}
-use Rattle.txn_trace.specs.Shape.{Seat, row, seat_after, closed_seat, changes, own, is_shaped, IsShaped}
+use Rattle.txn_words.specs.declared.seat.Phase.{Phase}
+use Rattle.txn_words.specs.declared.seat.Phase.TheVariants.{Closed, Opened, Waiting, LeavingTo, LeavingToEnd}
+use Rattle.txn_words.specs.Shape.{Seat, row, seat_after, closed_seat, changes, own, is_shaped, IsShaped}
 use Rattle.txn_trace.specs.Log.{Log, no_log, log_did, log_step, log_after}
 use Rattle.txn_trace.proofs.Pushes.{txn_in, txn_at, of-push_in, of-push_out, own-push_in, own-push_out, alone-push}
 use Rattle.txn_trace.proofs.Callers.{Callers, is_end, ended, in_or_out, began_or_not, at_is, not_began_is, not_equal}
@@ -23,7 +24,7 @@ use Rattle.txn_trace.proofs.Shaped.{ended_in, not_ended_before, step, same}
 use Rattle.txn_trace.proofs.Local.{WaitsFor, AsksFor}
 use Rattle.txn_trace.proofs.Stripes.{keys_in}
 use Rattle.txn_trace.proofs.Now.{same_option}
-use Rattle.txn_trace.proofs.Fits.{changes-reply}
+use Rattle.txn_words.proofs.Effects.{changes-reply}
 use Rattle.txn_trace.proofs.Seated.{none_before, AreSeated, seated_push, alone_began}
 use Rattle.txn_trace.proofs.Undoing.{IsLogged, logged_add}
 use Rattle.txn_trace.proofs.Inductions.{by_entries}

@@ -6,14 +6,15 @@ use Rattle.std.proofs.lemmas.Bool.{false≢true, and_parts, and_from, or_left, o
 use Rattle.std.proofs.lemmas.List.Folds.{list_any-append}
 use mathlib.Core.Logic.{inl, inr}
 use mathlib.Core.List.{IsPrefix}
-use Rattle.txn_trace.specs.declared.entry.Entry.{Entry}
-use Rattle.txn_trace.specs.declared.entry.Entry.TheVariants.{Began, Asked, Busy}
-use Rattle.txn_trace.specs.declared.holder.Holder.{Holder}
-use Rattle.txn_trace.specs.declared.holder.Holder.TheVariants.{Now, Begun}
-use Rattle.txn_trace.specs.Map.{key_of}
-use Rattle.txn_trace.specs.History.{caller_of, is_began, txn_after}
+use Rattle.txn_words.specs.declared.entry.Entry.{Entry}
+use Rattle.txn_words.specs.declared.entry.Entry.TheVariants.{Began, Asked, Busy}
+use Rattle.txn_words.specs.declared.holder.Holder.{Holder}
+use Rattle.txn_words.specs.declared.holder.Holder.TheVariants.{Now, Begun}
+use Rattle.txn_words.specs.Map.{key_of}
+use Rattle.txn_trace.specs.History.{txn_after}
+use Rattle.txn_words.specs.Kinds.{caller_of, is_began}
 use Rattle.txn_trace.specs.Locks.{stripe_of, holder_of, has_begun, is_locked, LocksHold}
-use Rattle.txn_trace.specs.Shape.{is_shaped, IsShaped}
+use Rattle.txn_words.specs.Shape.{is_shaped, IsShaped}
 use Rattle.txn_trace.specs.Legal.{IsLegal}
 use Rattle.txn_trace.proofs.Pushes.{txn_in, txn_in-push}
 use Rattle.txn_trace.proofs.Callers.{Callers}

@@ -4,16 +4,17 @@ use Rattle.std.specs.Option.{option_eq, option_and_then}
 use Rattle.std.specs.Prelude.{nat_eq}
 use Rattle.std.proofs.lemmas.Bool.{false≢true, and_from}
 use Rattle.std.proofs.lemmas.List.{append-nil}
-use Rattle.txn_trace.specs.declared.entry.Entry.{Entry}
-use Rattle.txn_trace.specs.declared.holder.Holder.{Holder}
-use Rattle.txn_trace.specs.declared.entry.Entry.TheVariants.{Began, Asked, Did, Saved, Leave, Returned, Busy}
-use Rattle.txn_trace.specs.Map.{Map}
-use Rattle.txn_trace.specs.History.{caller_of, is_began, is_commit, of}
+use Rattle.txn_words.specs.declared.entry.Entry.{Entry}
+use Rattle.txn_words.specs.declared.holder.Holder.{Holder}
+use Rattle.txn_words.specs.declared.entry.Entry.TheVariants.{Began, Asked, Did, Saved, Leave, Returned, Busy}
+use Rattle.txn_words.specs.Map.{Map}
+use Rattle.txn_trace.specs.History.{of}
+use Rattle.txn_words.specs.Kinds.{caller_of, is_began, is_commit}
 use Rattle.txn_trace.specs.Alone.{Run, number_of_maps, act, alone, last_map, map_after}
 use Rattle.txn_trace.specs.Serial.{serial}
 use Rattle.txn_trace.specs.Now.{now}
 use Rattle.txn_trace.specs.Locks.{holder_of, asks_in, is_locked}
-use Rattle.txn_trace.specs.Shape.{Seat, row, seat_after, own, is_numbered, is_shaped, IsShaped}
+use Rattle.txn_words.specs.Shape.{Seat, row, seat_after, own, is_numbered, is_shaped, IsShaped}
 use Rattle.txn_trace.specs.Log.{Log, log_after, log_of, log_step}
 use Rattle.txn_trace.specs.Legal.{IsLegal, runs, is_running}
 use Rattle.txn_trace.proofs.Pushes.{of-push_in, of-push_out, txn_in, txn_at, alone-push, own-push_in, own-push_out, seat_after-push}

@@ -5,16 +5,17 @@ use Rattle.std.specs.Prelude.{nat_eq}
 use Rattle.std.specs.List.{filter, list_any, AllByRecursion}
 use Rattle.std.proofs.lemmas.Bool.{false≢true, eq-eqb, eqb-true, cases_Bool, cases_eq, or_left, or_right, or_cases, false_from_ne_true}
 use mathlib.Core.Logic.{◌⊎◌, inl, inr}
-use Rattle.txn_trace.specs.declared.entry.Entry.{Entry}
-use Rattle.txn_trace.specs.declared.holder.Holder.{Holder}
-use Rattle.txn_trace.specs.Map.{Map, get}
-use Rattle.txn_trace.specs.History.{Line, caller_of, is_began, is_commit, is_abort, lines_of, is_of, of, txns_of, ends_in, is_open, open_txns}
+use Rattle.txn_words.specs.declared.entry.Entry.{Entry}
+use Rattle.txn_words.specs.declared.holder.Holder.{Holder}
+use Rattle.txn_words.specs.Map.{Map, get}
+use Rattle.txn_trace.specs.History.{Line, lines_of, is_of, of, txns_of, ends_in, is_open, open_txns}
+use Rattle.txn_words.specs.Kinds.{caller_of, is_began, is_commit, is_abort}
 use Rattle.txn_trace.specs.Alone.{alone, map_after}
 use Rattle.txn_trace.specs.Serial.{serial}
 use Rattle.txn_trace.specs.Now.{first_differing, now_at}
 use Rattle.txn_trace.specs.Replies.{RepliesHoldAt}
 use Rattle.txn_trace.specs.Locks.{stripe_of, asks_in, LocksHold}
-use Rattle.txn_trace.specs.Shape.{is_shaped, IsShaped}
+use Rattle.txn_words.specs.Shape.{is_shaped, IsShaped}
 use Rattle.txn_trace.specs.Legal.{running}
 use Rattle.txn_trace.proofs.Pushes.{txn_in, txn_at, of_is, of-push_in, of-push_out}
 use Rattle.txn_trace.proofs.Callers.{Callers, IsOwned, is_end, ended, is_open-ended}

@@ -3,18 +3,19 @@ use Rattle.std.proofs.Common.{◌≡◌, ℕ, ◌==◌, ◌≢◌, true, false, 
 use Rattle.std.specs.List.{list_any}
 use Rattle.std.proofs.lemmas.Bool.{false_from_ne_true, cases_eq}
 use mathlib.Core.Logic.{◌⊎◌, inl, inr}
-use Rattle.txn_trace.specs.declared.entry.Entry.{Entry}
-use Rattle.txn_trace.specs.declared.holder.Holder.{Holder}
-use Rattle.txn_trace.specs.Map.{get}
-use Rattle.txn_trace.specs.History.{caller_of, is_began, is_commit, of, txns_of, ends_in}
+use Rattle.txn_words.specs.declared.entry.Entry.{Entry}
+use Rattle.txn_words.specs.declared.holder.Holder.{Holder}
+use Rattle.txn_words.specs.Map.{get}
+use Rattle.txn_trace.specs.History.{of, txns_of, ends_in}
+use Rattle.txn_words.specs.Kinds.{caller_of, is_began, is_commit}
 use Rattle.txn_trace.specs.Alone.{alone, map_after}
 use Rattle.txn_trace.specs.Serial.{serial}
 use Rattle.txn_trace.specs.Now.{now, now_at}
 use Rattle.txn_trace.specs.Replies.{RepliesHoldAt}
 use Rattle.txn_trace.specs.Locks.{stripe_of, LocksHold}
-use Rattle.txn_trace.specs.Shape.{is_shaped, IsShaped}
+use Rattle.txn_words.specs.Shape.{is_shaped, IsShaped}
 use Rattle.txn_trace.specs.Legal.{running}
-use Rattle.txn_trace.proofs.Maps.{same_map}
+use Rattle.txn_words.proofs.Maps.{same_map}
 use Rattle.txn_trace.proofs.Pushes.{txn_at, txn_in-push, of-push_in, of-push_out}
 use Rattle.txn_trace.proofs.Callers.{Callers, is_end, ended}
 use Rattle.txn_trace.proofs.Shaped.{callers_of, ended_in, not_ended_before}

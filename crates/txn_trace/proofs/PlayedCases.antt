@@ -1,11 +1,11 @@
 -- Worked histories of workers, by computing: the scripts that they play.
 use Rattle.std.proofs.Common.{[], ◌≡◌, ℕ, List, ◌∷◌, Some, None, refl, sym, subst, arith, lit≤, lit<}
-use Rattle.txn_trace.specs.declared.op.Op.TheVariants.{Put, Take, Get}
-use Rattle.txn_trace.specs.declared.action.Action.{Action}
-use Rattle.txn_trace.specs.declared.action.Action.TheVariants as actions
-use Rattle.txn_trace.specs.declared.entry.Entry.{Entry}
-use Rattle.txn_trace.specs.declared.holder.Holder.TheVariants.{Now}
-use Rattle.txn_trace.specs.declared.entry.Entry.TheVariants.{Began, Asked, Did, Saved, Leave, Undone, Returned, Committed, Aborted}
+use Rattle.txn_words.specs.declared.op.Op.TheVariants.{Put, Take, Get}
+use Rattle.txn_words.specs.declared.action.Action.{Action}
+use Rattle.txn_words.specs.declared.action.Action.TheVariants as actions
+use Rattle.txn_words.specs.declared.entry.Entry.{Entry}
+use Rattle.txn_words.specs.declared.holder.Holder.TheVariants.{Now}
+use Rattle.txn_words.specs.declared.entry.Entry.TheVariants.{Began, Asked, Did, Saved, Leave, Undone, Returned, Committed, Aborted}
 use Rattle.txn_trace.specs.Legal.{verdict, Legal}
 use Rattle.txn_trace.specs.Plays.{Plays, commits_of, PlayRising, PlayScripts}
 

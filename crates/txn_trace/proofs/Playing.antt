@@ -1,9 +1,10 @@
 -- The scripts that the transactions of a caller play, found in the caller's own entries.
 use Rattle.std.proofs.Common.{◌≡◌, ℕ, true, false, cond, List, [], ◌∷◌, ◌++◌, Some, sym, ap, subst, ◌∙◌, inl, inr}
 use Rattle.std.proofs.lemmas.List.Sums.{fold-append}
-use Rattle.txn_trace.specs.declared.entry.Entry.{Entry}
-use Rattle.txn_trace.specs.History.{caller_of, is_began, of}
-use Rattle.txn_trace.specs.Shape.{own, is_shaped, IsShaped}
+use Rattle.txn_words.specs.declared.entry.Entry.{Entry}
+use Rattle.txn_trace.specs.History.{of}
+use Rattle.txn_words.specs.Kinds.{caller_of, is_began}
+use Rattle.txn_words.specs.Shape.{own, is_shaped, IsShaped}
 use Rattle.txn_trace.specs.Plays.{part_after, parts_of}
 use Rattle.txn_trace.proofs.Pushes.{txn_in, of-push_in, of-push_out, own-push_in, own-push_out}
 use Rattle.txn_trace.proofs.Callers.{Callers, at_is, began_or_not, not_began_is, not_equal}

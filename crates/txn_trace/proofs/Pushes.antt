@@ -7,11 +7,12 @@ use Rattle.std.proofs.lemmas.Bool.{false≢true, eqb-true, eq-eqb}
 use Rattle.std.proofs.lemmas.List.{append-nil, map-append}
 use Rattle.std.proofs.lemmas.List.Elements.{filter-append}
 use Rattle.std.proofs.lemmas.List.Sums.{fold-append}
-use Rattle.txn_trace.specs.declared.entry.Entry.{Entry}
-use Rattle.txn_trace.specs.Map.{Map}
-use Rattle.txn_trace.specs.History.{Line, caller_of, txn_after, lines_from, lines_of, is_of, of, ends_in}
+use Rattle.txn_words.specs.declared.entry.Entry.{Entry}
+use Rattle.txn_words.specs.Map.{Map}
+use Rattle.txn_trace.specs.History.{Line, txn_after, lines_from, lines_of, is_of, of, ends_in}
+use Rattle.txn_words.specs.Kinds.{caller_of}
 use Rattle.txn_trace.specs.Alone.{act, alone}
-use Rattle.txn_trace.specs.Shape.{row, seat_after, own, how_many}
+use Rattle.txn_words.specs.Shape.{row, seat_after, own, how_many}
 use Rattle.txn_trace.proofs.Lists.{map_one}
 
 abbrev pub no_txn : ℕ → Option ℕ

@@ -3,10 +3,11 @@ use Rattle.std.proofs.Common.{◌≡◌, ℕ, ◌==◌, cond, ◌≢◌, true, f
 use Rattle.std.specs.Option.{option_and_then}
 use Rattle.std.proofs.lemmas.Bool.{false≢true, cases_Bool, cases_eq, eq-eqb}
 use mathlib.Core.Logic.{inl, inr}
-use Rattle.txn_trace.specs.declared.entry.Entry.{Entry}
-use Rattle.txn_trace.specs.declared.entry.Entry.TheVariants.{Began}
-use Rattle.txn_trace.specs.History.{caller_of, is_began, txn_after}
-use Rattle.txn_trace.specs.Shape.{Seat, row, closed_seat, seat_after, own, is_shaped, IsShaped}
+use Rattle.txn_words.specs.declared.entry.Entry.{Entry}
+use Rattle.txn_words.specs.declared.entry.Entry.TheVariants.{Began}
+use Rattle.txn_trace.specs.History.{txn_after}
+use Rattle.txn_words.specs.Kinds.{caller_of, is_began}
+use Rattle.txn_words.specs.Shape.{Seat, row, closed_seat, seat_after, own, is_shaped, IsShaped}
 use Rattle.txn_trace.specs.Legal.{is_running}
 use Rattle.txn_trace.proofs.Pushes.{txn_in, txn_at, txn_in-push}
 use Rattle.txn_trace.proofs.Callers.{Callers, ended, shaped_seat, closed_begins, began_or_not}

@@ -6,14 +6,15 @@ use Rattle.std.specs.Prelude.{nat_eq}
 use Rattle.std.proofs.lemmas.Bool.{false≢true, cases_Bool}
 use Rattle.std.proofs.lemmas.List.{append-nil}
 use mathlib.Core.Logic.{inl, inr}
-use Rattle.txn_trace.specs.declared.entry.Entry.{Entry}
-use Rattle.txn_trace.specs.declared.entry.Entry.TheVariants.{Began, Did}
-use Rattle.txn_trace.specs.Map.{Map, reply_of}
-use Rattle.txn_trace.specs.History.{caller_of, is_began, lines_of, of}
+use Rattle.txn_words.specs.declared.entry.Entry.{Entry}
+use Rattle.txn_words.specs.declared.entry.Entry.TheVariants.{Began, Did}
+use Rattle.txn_words.specs.Map.{Map, reply_of}
+use Rattle.txn_trace.specs.History.{lines_of, of}
+use Rattle.txn_words.specs.Kinds.{caller_of, is_began}
 use Rattle.txn_trace.specs.Alone.{Run, start, with_op, act_did, act, alone}
-use Rattle.txn_trace.specs.declared.seat.Phase.{Phase}
-use Rattle.txn_trace.specs.declared.seat.Phase.TheVariants.{Closed, Opened}
-use Rattle.txn_trace.specs.Shape.{Seat, row, seat_after, closed_seat, own, is_shaped, IsShaped}
+use Rattle.txn_words.specs.declared.seat.Phase.{Phase}
+use Rattle.txn_words.specs.declared.seat.Phase.TheVariants.{Closed, Opened}
+use Rattle.txn_words.specs.Shape.{Seat, row, seat_after, closed_seat, own, is_shaped, IsShaped}
 use Rattle.txn_trace.proofs.Pushes.{txn_in, txn_at, of-push_in, of-push_out, alone-push}
 use Rattle.txn_trace.proofs.Callers.{Callers, callers_none, is_end, ended, in_or_out, shaped_seat, shaped_number, began_or_not, began_number, at_is, not_began_is}
 use Rattle.txn_trace.proofs.Shaped.{callers_push, ended_in, not_ended_before, seat_of_mine, seat_of_other, step, same}

@@ -3,9 +3,8 @@ use Rattle.std.proofs.Common.{[], ◌≡◌, ℕ, ◌==◌, Bool, true, false, c
 use Rattle.std.specs.List.{fold, list_any}
 use Rattle.std.proofs.lemmas.Bool.{or_parts, or_cases, cases_Bool, eqb-true, false≢true, eq-eqb}
 use mathlib.Core.Logic.{inl, inr}
-use Rattle.txn_trace.specs.Map.{Map, get}
-use Rattle.txn_trace.specs.Now.{set_at}
-use Rattle.txn_trace.proofs.Table.{get-set_at}
+use Rattle.txn_words.specs.Map.{Map, get, set_at}
+use Rattle.txn_words.proofs.Maps.{get-set_at}
 use Rattle.txn_trace.proofs.Undoing.{IsLogged}
 use Rattle.txn_trace.proofs.Bounds.{first_map}
 

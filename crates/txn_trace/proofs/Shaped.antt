@@ -7,9 +7,10 @@ use Rattle.std.proofs.lemmas.Bool.{false≢true, or_left}
 use Rattle.std.proofs.lemmas.List.{append-nil}
 use mathlib.Core.List.{IsPrefix}
 use mathlib.Core.Logic.{◌⊎◌, inl, inr}
-use Rattle.txn_trace.specs.declared.entry.Entry.{Entry}
-use Rattle.txn_trace.specs.History.{Line, caller_of, lines_of, of, ends_in, is_committed, is_aborted}
-use Rattle.txn_trace.specs.Shape.{row, seat_after, closed_seat, own, is_shaped, IsShaped}
+use Rattle.txn_words.specs.declared.entry.Entry.{Entry}
+use Rattle.txn_trace.specs.History.{Line, lines_of, of, ends_in, is_committed, is_aborted}
+use Rattle.txn_words.specs.Kinds.{caller_of}
+use Rattle.txn_words.specs.Shape.{row, seat_after, closed_seat, own, is_shaped, IsShaped}
 use Rattle.txn_trace.specs.Legal.{is_running}
 use Rattle.txn_trace.proofs.Pushes.{txn_in, txn_at, lines_of-push, txn_in-push, of-push_in, of-push_out, ends_in-push, seat_after-push, own-push_in, own-push_out}
 use Rattle.txn_trace.proofs.Callers.{is_end, ended, ends_either, IsOwned, Callers, callers_none, at_is, after_is, began_number, not_began_is, in_or_out, more, shaped_seat, shaped_number, began_or_not, number_in, not_after_end, end_closes, other_runs, began_was_closed, not_equal, txn_stays, ByRecursion-append}

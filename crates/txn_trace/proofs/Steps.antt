@@ -7,13 +7,14 @@ use Rattle.std.proofs.lemmas.List.{append-nil}
 use Rattle.std.proofs.lemmas.List.Elements.{filter_map-append}
 use Rattle.std.proofs.lemmas.List.Sums.{fold-append}
 use mathlib.Core.Logic.{inl, inr}
-use Rattle.txn_trace.specs.declared.entry.Entry.{Entry}
-use Rattle.txn_trace.specs.declared.entry.Entry.TheVariants.{Committed}
-use Rattle.txn_trace.specs.Map.{Map, empty}
-use Rattle.txn_trace.specs.History.{Line, caller_of, is_began, is_commit, lines_of, of, txns_of, ends_in, is_committed, commits}
+use Rattle.txn_words.specs.declared.entry.Entry.{Entry}
+use Rattle.txn_words.specs.declared.entry.Entry.TheVariants.{Committed}
+use Rattle.txn_words.specs.Map.{Map, empty}
+use Rattle.txn_trace.specs.History.{Line, lines_of, of, txns_of, ends_in, is_committed, commits}
+use Rattle.txn_words.specs.Kinds.{caller_of, is_began, is_commit}
 use Rattle.txn_trace.specs.Alone.{Run, act, alone, last_map, map_after}
 use Rattle.txn_trace.specs.Serial.{serial}
-use Rattle.txn_trace.specs.Shape.{is_shaped, IsShaped}
+use Rattle.txn_words.specs.Shape.{is_shaped, IsShaped}
 use Rattle.txn_trace.proofs.Lists.{fold_filter}
 use Rattle.txn_trace.proofs.Pushes.{txn_in, txn_at, lines_of-push, txn_in-push, of-push_in, ends_in-push, alone-push}
 use Rattle.txn_trace.proofs.Callers.{Callers, callers_none, after_is, began_or_not, not_began_is, at_is, ByRecursion-append}

@@ -5,14 +5,15 @@ use Rattle.std.specs.List.{filter, list_any, list_all, AllByRecursion}
 use Rattle.std.proofs.lemmas.Bool.{false≢true, eq-eqb, eqb-true, or_left, or_right, and_parts, or_cases}
 use Rattle.std.proofs.lemmas.List.{append-nil}
 use mathlib.Core.Logic.{◌⊎◌, inl, inr}
-use Rattle.txn_trace.specs.declared.entry.Entry.{Entry}
-use Rattle.txn_trace.specs.declared.holder.Holder.{Holder}
-use Rattle.txn_trace.specs.declared.entry.Entry.TheVariants.{Asked}
-use Rattle.txn_trace.specs.Map.{Map, get, key_of, keys}
-use Rattle.txn_trace.specs.History.{Line, caller_of, lines_of, is_of, of}
+use Rattle.txn_words.specs.declared.entry.Entry.{Entry}
+use Rattle.txn_words.specs.declared.holder.Holder.{Holder}
+use Rattle.txn_words.specs.declared.entry.Entry.TheVariants.{Asked}
+use Rattle.txn_words.specs.Map.{Map, get, key_of, keys}
+use Rattle.txn_trace.specs.History.{Line, lines_of, is_of, of}
+use Rattle.txn_words.specs.Kinds.{caller_of}
 use Rattle.txn_trace.specs.Alone.{Run, alone, map_after, last_map}
 use Rattle.txn_trace.specs.Locks.{stripe_of, asks_in, is_in_open, is_locked, LocksHold}
-use Rattle.txn_trace.specs.Shape.{is_shaped, IsShaped}
+use Rattle.txn_words.specs.Shape.{is_shaped, IsShaped}
 use Rattle.txn_trace.proofs.Pushes.{txn_in, txn_at, of_is, of-push_in, of-push_out}
 use Rattle.txn_trace.proofs.Callers.{Callers, callers_none, IsOwned, ended, is_open-ended, in_or_out}
 use Rattle.txn_trace.proofs.Shaped.{callers_push, not_ended_before}

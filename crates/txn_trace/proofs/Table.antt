@@ -1,5 +1,5 @@
 -- The map now has at each key the value of `now_at`.
-use Rattle.std.proofs.Common.{◌≡◌, ℕ, ◌==◌, true, false, cond, ◌||◌, List, [], ◌∷◌, refl, ap, sym, ◌∙◌, Some, None, Option}
+use Rattle.std.proofs.Common.{◌≡◌, ℕ, ◌==◌, true, false, cond, ◌||◌, List, [], ◌∷◌, refl, ap, sym, ◌∙◌, None, Option}
 use Rattle.std.specs.Ordering.{nat_cmp, eq_by_cmp}
 use Rattle.std.specs.Cmp.{unsigned_tied}
 use Rattle.std.specs.FinMap.Entries.{is_some-find}
@@ -7,16 +7,16 @@ use Rattle.std.specs.List.{fold, list_any, flat_map}
 use Rattle.std.proofs.lemmas.Bool.{false≢true, cases_Bool, eqb-true, or_parts, or_cases}
 use Rattle.std.proofs.lemmas.List.Folds.{list_any-append}
 use mathlib.Core.Logic.{inl, inr}
-use Rattle.txn_trace.specs.declared.entry.Entry.{Entry}
-use Rattle.txn_trace.specs.Map.{Map, empty, get, keys}
+use Rattle.txn_words.specs.declared.entry.Entry.{Entry}
+use Rattle.txn_words.specs.Map.{Map, empty, get, keys, set_at}
 use Rattle.txn_trace.specs.Serial.{serial}
-use Rattle.txn_trace.specs.Now.{first_differing, set_at, open_maps, now, now_at}
-use Rattle.txn_trace.proofs.Maps.{none_is, get-insert, get-remove, overlaid}
+use Rattle.txn_trace.specs.Now.{first_differing, map_of, open_maps, now, now_at}
+use Rattle.txn_words.proofs.Maps.{none_is, get-set_at}
 use Rattle.txn_trace.proofs.Now.{same_is}
 
-pub get-set_at : (m : Map) (j : ℕ) (o : Option ℕ) (k : ℕ) → get (set_at m j o) k ≡ cond (k == j) o (get m k)
-get-set_at m j None k = get-remove m j k
-get-set_at m j (Some v) k = get-insert m j v k
+-- The map that has at each key the value of the first map that differs there from the base.
+abbrev pub overlaid : Map → List Map → Map
+overlaid base ms = map_of (flat_map keys (base ∷ ms)) (first_differing base ms)
 
 module _ (f : ℕ → Option ℕ) (k : ℕ) where
   table_out : (ks : List ℕ) (m : Map) → list_any (λ j. k == j) ks ≡ false → get (fold (λ m k. set_at m k (f k)) m ks) k ≡ get m k

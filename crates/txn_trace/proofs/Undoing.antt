@@ -6,16 +6,16 @@ use Rattle.std.specs.List.{list_any}
 use Rattle.std.proofs.lemmas.Bool.{false≢true}
 use Rattle.std.proofs.lemmas.List.{append-nil}
 use mathlib.Core.Logic.{◌⊎◌, inl, inr}
-use Rattle.txn_trace.specs.declared.op.Op.{Op}
-use Rattle.txn_trace.specs.declared.entry.Entry.{Entry}
-use Rattle.txn_trace.specs.declared.holder.Holder.{Holder}
-use Rattle.txn_trace.specs.declared.entry.Entry.TheVariants.{Undone}
-use Rattle.txn_trace.specs.Map.{Map, get, after, reply_of, key_of, is_change, keys}
+use Rattle.txn_words.specs.declared.op.Op.{Op}
+use Rattle.txn_words.specs.declared.entry.Entry.{Entry}
+use Rattle.txn_words.specs.declared.holder.Holder.{Holder}
+use Rattle.txn_words.specs.declared.entry.Entry.TheVariants.{Undone}
+use Rattle.txn_words.specs.Map.{Map, get, after, reply_of, key_of, is_change, keys}
 use Rattle.txn_trace.specs.History.{of}
 use Rattle.txn_trace.specs.Alone.{Run, act, act_undone, alone, last_map, map_after}
 use Rattle.txn_trace.specs.Serial.{serial}
 use Rattle.txn_trace.specs.Now.{now, now_at}
-use Rattle.txn_trace.specs.Shape.{is_shaped}
+use Rattle.txn_words.specs.Shape.{is_shaped}
 use Rattle.txn_trace.specs.Legal.{IsLegal}
 use Rattle.txn_trace.proofs.Pushes.{txn_in, alone-push}
 use Rattle.txn_trace.proofs.Callers.{ended}
@@ -24,7 +24,7 @@ use Rattle.txn_trace.proofs.Now.{running_of}
 use Rattle.txn_trace.proofs.Table.{get-now}
 use Rattle.txn_trace.proofs.Judging.{legal_push, shape_push, locks_push}
 use Rattle.txn_trace.proofs.Others.{replies-push_other, now_at-push}
-use Rattle.txn_trace.proofs.Acting.{get-after_other}
+use Rattle.txn_words.proofs.Effects.{get-after_other}
 
 -- Each job names a key of a held stripe and the value that it had before.
 abbrev pub IsLogged : (ℕ → Bool) → List (ℕ × Option ℕ) → Map → List Map → Type 0

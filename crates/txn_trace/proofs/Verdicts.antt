@@ -3,10 +3,10 @@ use Rattle.std.proofs.Common.{◌≡◌, ℕ, suc, ◌+◌, List, [], ◌∷◌,
 use Rattle.std.proofs.lemmas.List.{append-nil}
 use Rattle.std.specs.Prelude.{◌↔◌}
 use mathlib.Core.Logic.{◌⊎◌, inl, inr}
-use Rattle.txn_trace.specs.declared.entry.Entry.{Entry}
-use Rattle.txn_trace.specs.declared.holder.Holder.{Holder}
-use Rattle.txn_trace.specs.History.{is_commit}
-use Rattle.txn_trace.specs.Shape.{how_many}
+use Rattle.txn_words.specs.declared.entry.Entry.{Entry}
+use Rattle.txn_words.specs.declared.holder.Holder.{Holder}
+use Rattle.txn_words.specs.Kinds.{is_commit}
+use Rattle.txn_words.specs.Shape.{how_many}
 use Rattle.txn_trace.specs.Legal.{IsLegal, broken, first_bad, callers_in, running, Legal, Illegal, verdict}
 use Rattle.txn_trace.proofs.Judging.{legal_iff, legal_from, legal_none, none_bad}
 

@@ -1,11 +1,11 @@
 -- Worked histories of keys of 64 bits and of put_if, by computing.
 use Rattle.std.proofs.Common.{[], ◌≡◌, List, ◌∷◌, ◌++◌, Some, None, refl}
 use Rattle.split_key.specs.Split.{split, reversed, reversed_low}
-use Rattle.txn_trace.specs.declared.op.Op.TheVariants.{Put, PutIf}
-use Rattle.txn_trace.specs.declared.entry.Entry.{Entry}
-use Rattle.txn_trace.specs.declared.holder.Holder.TheVariants.{Now}
-use Rattle.txn_trace.specs.declared.entry.Entry.TheVariants.{Began, Leave, Undone, Committed, Aborted}
-use Rattle.txn_trace.specs.Ordered.{ordered}
+use Rattle.txn_words.specs.declared.op.Op.TheVariants.{Put, PutIf}
+use Rattle.txn_words.specs.declared.entry.Entry.{Entry}
+use Rattle.txn_words.specs.declared.holder.Holder.TheVariants.{Now}
+use Rattle.txn_words.specs.declared.entry.Entry.TheVariants.{Began, Leave, Undone, Committed, Aborted}
+use Rattle.txn_words.specs.Ordered.{ordered}
 use Rattle.txn_trace.specs.Now.{now}
 use Rattle.txn_trace.specs.Legal.{verdict, Legal, Illegal}
 use Rattle.txn_trace.specs.Erase.{erase}

@@ -2,10 +2,10 @@
 use Rattle.std.specs.Prelude.{ℕ, ◌+◌, Option, Some, None, List, [], ◌∷◌, ◌++◌, length, take, nat_eq, slice_get, if◌then◌else◌}
 use Rattle.std.specs.Option.{option_eq, option_and_then}
 use Rattle.std.specs.List.{fold}
-use Rattle.txn_trace.specs.declared.op.Op.{Op}
-use Rattle.txn_trace.specs.declared.entry.Entry.{Entry}
-use Rattle.txn_trace.specs.declared.entry.Entry.TheVariants.{Asked, Did, Saved, Undone, Returned}
-use Rattle.txn_trace.specs.Map.{Map, reply_of, after, is_change}
+use Rattle.txn_words.specs.declared.op.Op.{Op}
+use Rattle.txn_words.specs.declared.entry.Entry.{Entry}
+use Rattle.txn_words.specs.declared.entry.Entry.TheVariants.{Asked, Did, Saved, Undone, Returned}
+use Rattle.txn_words.specs.Map.{Map, reply_of, after, is_change}
 
 -- A run is a list of maps, the newest apart; the operation that waits for its reply; and for each
 -- level the number of maps that was noted there, 1 at level 0.

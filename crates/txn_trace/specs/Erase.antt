@@ -1,7 +1,7 @@
 -- Histories without their aborted transactions.
 use Rattle.std.specs.Prelude.{Bool, true, not, Some, None, List, map}
 use Rattle.std.specs.List.{filter}
-use Rattle.txn_trace.specs.declared.entry.Entry.{Entry}
+use Rattle.txn_words.specs.declared.entry.Entry.{Entry}
 use Rattle.txn_trace.specs.History.{Line, lines_of, is_aborted}
 
 -- Whether an entry belongs to no aborted transaction.

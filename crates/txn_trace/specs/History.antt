@@ -1,38 +1,11 @@
 -- A history is a list of entries. Each belongs to a transaction, and each transaction is committed,
 -- aborted or open.
-use Rattle.std.specs.Prelude.{ℕ, ◌==◌, Bool, true, false, not, ◌||◌, Option, Some, None, List, [], ◌∷◌, map, nat_eq, if◌then◌else◌}
+use Rattle.std.specs.Prelude.{ℕ, ◌==◌, Bool, false, not, ◌||◌, Option, Some, None, List, [], ◌∷◌, map, nat_eq, if◌then◌else◌}
 use Rattle.std.specs.Option.{option_eq}
 use Rattle.std.specs.List.{filter, filter_map, fold}
-use Rattle.txn_trace.specs.declared.entry.Entry.{Entry}
-use Rattle.txn_trace.specs.declared.entry.Entry.TheVariants.{Began, Asked, Did, Saved, Leave, Undone, Returned, Committed, Busy, Aborted}
-
--- The caller of an entry.
-abbrev pub caller_of : Entry → ℕ
-caller_of (Began c t) = c
-caller_of (Asked c op) = c
-caller_of (Did c r) = c
-caller_of (Saved c) = c
-caller_of (Leave c n) = c
-caller_of (Undone c) = c
-caller_of (Returned c n) = c
-caller_of (Committed c p) = c
-caller_of (Busy c op x) = c
-caller_of (Aborted c) = c
-
--- Whether an entry is a Began.
-abbrev pub is_began : Entry → Bool
-is_began (Began c t) = true
-is_began _ = false
-
--- Whether an entry is a Committed.
-abbrev pub is_commit : Entry → Bool
-is_commit (Committed c p) = true
-is_commit _ = false
-
--- Whether an entry is an Aborted.
-abbrev pub is_abort : Entry → Bool
-is_abort (Aborted c) = true
-is_abort _ = false
+use Rattle.txn_words.specs.declared.entry.Entry.{Entry}
+use Rattle.txn_words.specs.declared.entry.Entry.TheVariants.{Began}
+use Rattle.txn_words.specs.Kinds.{caller_of, is_abort, is_began, is_commit}
 
 -- An entry and the transaction that it belongs to, if there is one.
 pub record Line : Type 0 where

@@ -1,16 +1,17 @@
 -- Legal histories, and the judge of any history.
 use Rattle.std.specs.Prelude.{ℕ, ◌+◌, Bool, true, false, not, Option, Some, None, is_some, List, [], ◌∷◌, ◌++◌, length, max, if◌then◌else◌}
 use Rattle.std.specs.List.{filter, fold, list_all, range_with_len}
-use Rattle.txn_trace.specs.declared.entry.Entry.{Entry}
-use Rattle.txn_trace.specs.declared.holder.Holder.{Holder}
-use Rattle.txn_trace.specs.History.{caller_of, is_commit, of, open_txns}
+use Rattle.txn_words.specs.declared.entry.Entry.{Entry}
+use Rattle.txn_words.specs.declared.holder.Holder.{Holder}
+use Rattle.txn_trace.specs.History.{of, open_txns}
+use Rattle.txn_words.specs.Kinds.{caller_of, is_commit}
 use Rattle.txn_trace.specs.Alone.{alone}
 use Rattle.txn_trace.specs.Serial.{serial}
 use Rattle.txn_trace.specs.Replies.{RepliesHold}
 use Rattle.txn_trace.specs.Locks.{is_locked, LocksHold}
-use Rattle.txn_trace.specs.declared.seat.Phase.{Phase}
-use Rattle.txn_trace.specs.declared.seat.Phase.TheVariants.{Closed}
-use Rattle.txn_trace.specs.Shape.{Seat, seat_after, own, how_many, is_shaped, IsShaped}
+use Rattle.txn_words.specs.declared.seat.Phase.{Phase}
+use Rattle.txn_words.specs.declared.seat.Phase.TheVariants.{Closed}
+use Rattle.txn_words.specs.Shape.{Seat, seat_after, own, how_many, is_shaped, IsShaped}
 
 -- A history is legal if its replies hold, its locks hold by this rule for Busy entries, and it has
 -- the right shape.

@@ -2,12 +2,13 @@
 use Rattle.std.specs.Prelude.{ℕ, ◌%◌, ◌==◌, Bool, true, false, not, ◌&&◌, Option, Some, None, slice_get, IsTrue, List, [], ◌∷◌, ◌++◌, map}
 use Rattle.std.specs.List.{filter, list_any, list_all}
 use mathlib.Core.List.{IsPrefix}
-use Rattle.txn_trace.specs.declared.entry.Entry.{Entry}
-use Rattle.txn_trace.specs.declared.entry.Entry.TheVariants.{Asked, Busy}
-use Rattle.txn_trace.specs.declared.holder.Holder.{Holder}
-use Rattle.txn_trace.specs.declared.holder.Holder.TheVariants.{Now, Begun}
-use Rattle.txn_trace.specs.Map.{key_of}
-use Rattle.txn_trace.specs.History.{Line, caller_of, is_began, lines_of, is_open}
+use Rattle.txn_words.specs.declared.entry.Entry.{Entry}
+use Rattle.txn_words.specs.declared.entry.Entry.TheVariants.{Asked, Busy}
+use Rattle.txn_words.specs.declared.holder.Holder.{Holder}
+use Rattle.txn_words.specs.declared.holder.Holder.TheVariants.{Now, Begun}
+use Rattle.txn_words.specs.Map.{key_of}
+use Rattle.txn_trace.specs.History.{Line, lines_of, is_open}
+use Rattle.txn_words.specs.Kinds.{caller_of, is_began}
 
 -- The stripe of a key, for this number of stripes.
 abbrev pub stripe_of : ℕ → ℕ → ℕ

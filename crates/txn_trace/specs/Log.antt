@@ -1,11 +1,11 @@
 -- The log of a caller: its standing changes, which an abort takes back.
 use Rattle.std.specs.Prelude.{ℕ, Option, Some, None, List, [], ◌∷◌, drop, if◌then◌else◌}
 use Rattle.std.specs.List.{fold}
-use Rattle.txn_trace.specs.declared.op.Op.{Op}
-use Rattle.txn_trace.specs.declared.entry.Entry.{Entry}
-use Rattle.txn_trace.specs.declared.entry.Entry.TheVariants.{Began, Asked, Did, Undone, Committed, Aborted}
-use Rattle.txn_trace.specs.Map.{key_of}
-use Rattle.txn_trace.specs.Shape.{changes, own}
+use Rattle.txn_words.specs.declared.op.Op.{Op}
+use Rattle.txn_words.specs.declared.entry.Entry.{Entry}
+use Rattle.txn_words.specs.declared.entry.Entry.TheVariants.{Began, Asked, Did, Undone, Committed, Aborted}
+use Rattle.txn_words.specs.Map.{key_of}
+use Rattle.txn_words.specs.Shape.{changes, own}
 
 -- The operation that waits for its reply; and of each change that stands, newest first, the key and
 -- the value before it.

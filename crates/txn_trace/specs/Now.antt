@@ -1,9 +1,9 @@
 -- The map with the surviving changes of the open transactions.
-use Rattle.std.specs.Prelude.{ℕ, Option, Some, None, List, [], ◌∷◌, map, nat_eq, if◌then◌else◌}
+use Rattle.std.specs.Prelude.{ℕ, Option, List, [], ◌∷◌, map, nat_eq, if◌then◌else◌}
 use Rattle.std.specs.Option.{option_eq}
 use Rattle.std.specs.List.{fold, flat_map}
-use Rattle.txn_trace.specs.declared.entry.Entry.{Entry}
-use Rattle.txn_trace.specs.Map.{Map, empty, get, insert, remove, keys}
+use Rattle.txn_words.specs.declared.entry.Entry.{Entry}
+use Rattle.txn_words.specs.Map.{Map, empty, get, keys, set_at}
 use Rattle.txn_trace.specs.History.{of, open_txns}
 use Rattle.txn_trace.specs.Alone.{map_after}
 use Rattle.txn_trace.specs.Serial.{serial}
@@ -22,11 +22,6 @@ first_differing base (m ∷ ms) k =
 -- The value now at a key: that of the open transaction that changed it, else the committed one.
 abbrev pub now_at : List Entry → ℕ → Option ℕ
 now_at h k = first_differing (serial h) (open_maps h) k
-
--- The map with this value at a key, or without the key.
-abbrev pub set_at : Map → ℕ → Option ℕ → Map
-set_at m k None = remove m k
-set_at m k (Some v) = insert m k v
 
 -- The map of a function at these keys; it has no others.
 abbrev pub map_of : List ℕ → (ℕ → Option ℕ) → Map

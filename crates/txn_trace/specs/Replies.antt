@@ -1,7 +1,7 @@
 -- The rule of replies.
 use Rattle.std.specs.Prelude.{ℕ, IsSome, IsTrue, List}
 use mathlib.Core.List.{IsPrefix}
-use Rattle.txn_trace.specs.declared.entry.Entry.{Entry}
+use Rattle.txn_words.specs.declared.entry.Entry.{Entry}
 use Rattle.txn_trace.specs.History.{is_open, of}
 use Rattle.txn_trace.specs.Alone.{alone}
 use Rattle.txn_trace.specs.Serial.{serial}

@@ -1,8 +1,8 @@
 -- The map that the committed transactions leave.
 use Rattle.std.specs.Prelude.{List}
 use Rattle.std.specs.List.{fold}
-use Rattle.txn_trace.specs.declared.entry.Entry.{Entry}
-use Rattle.txn_trace.specs.Map.{Map, empty}
+use Rattle.txn_words.specs.declared.entry.Entry.{Entry}
+use Rattle.txn_words.specs.Map.{Map, empty}
 use Rattle.txn_trace.specs.History.{of, commits}
 use Rattle.txn_trace.specs.Alone.{map_after}
 

@@ -6,8 +6,8 @@ ghost use Rattle.txn_trace.specs.Legal.{IsLegal};
 ghost use Rattle.txn_trace.specs.Now.{now};
 ghost use Rattle.txn_trace.specs.Replies.{RepliesHold};
 ghost use Rattle.txn_trace.specs.Serial.{serial};
-ghost use Rattle.txn_trace.specs.declared.entry.Entry.{Entry};
-ghost use Rattle.txn_trace.specs.declared.holder.Holder.{Holder};
+ghost use Rattle.txn_words.specs.declared.entry.Entry.{Entry};
+ghost use Rattle.txn_words.specs.declared.holder.Holder.{Holder};
 
 /// A legal history without the entries of its aborted transactions has the same map now and the
 /// same committed map, and its replies hold.

@@ -6,22 +6,22 @@ use Rattle.std.specs.List.{fold}
 use Rattle.std.proofs.lemmas.Bool.{false≢true}
 use Rattle.std.proofs.lemmas.List.{append-nil, length-map, get_or-map}
 use Rattle.std.proofs.lemmas.Option.{slice_get-map, slice_get_within, get_or_from_slice_get}
-use Rattle.txn_trace.specs.declared.entry.Entry.{Entry}
-use Rattle.txn_trace.specs.declared.holder.Holder.TheVariants.{Begun}
-use Rattle.txn_trace.specs.declared.entry.Entry.TheVariants.{Asked, Did, Committed}
-use Rattle.txn_trace.specs.declared.op.Op.TheVariants.{Put, Get}
+use Rattle.txn_words.specs.declared.entry.Entry.{Entry}
+use Rattle.txn_words.specs.declared.holder.Holder.TheVariants.{Begun}
+use Rattle.txn_words.specs.declared.entry.Entry.TheVariants.{Asked, Did, Committed}
+use Rattle.txn_words.specs.declared.op.Op.TheVariants.{Put, Get}
 use Rattle.std.proofs.Common.{append_assoc}
 use Rattle.std.specs.Prelude.{Err}
-use Rattle.txn_trace.specs.declared.entry.Entry.TheVariants.{Began}
+use Rattle.txn_words.specs.declared.entry.Entry.TheVariants.{Began}
 use Rattle.map_answers.specs.declared.stop.Stop.{Stop}
 use Rattle.std.specs.Borrow.{MutBor}
 use Rattle.shared_transactions.specs.Keeps.{Keeps}
 use Rattle.shared_transactions.specs.Within.{IsRun}
-use Rattle.txn_trace.specs.Map.{Map, get, insert}
+use Rattle.txn_words.specs.Map.{Map, get, insert}
 use Rattle.txn_trace.specs.Alone.{Run, act, alone}
 use Rattle.txn_trace.specs.Serial.{serial}
 use Rattle.txn_trace.specs.Legal.{IsLegal}
-use Rattle.txn_trace.proofs.Maps.{get-insert-here}
+use Rattle.txn_words.proofs.Maps.{get-insert-here}
 use Rattle.txn_trace.proofs.Now.{same_option}
 use Rattle.txn_trace.proofs.Committing.{has_committed}
 use Rattle.locked_map.specs.Tokens.{Token}

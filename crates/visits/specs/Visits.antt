@@ -1,9 +1,9 @@
 -- What a visitor of a shared map has seen of its visit, and what all visitors are answered.
 use Rattle.std.specs.Prelude.{ℕ, ◌≡◌, List, [], ◌∷◌, ◌++◌, length, slice_get, Option, Some, Result}
 use Rattle.std.specs.Prelude.{Ok}
-use Rattle.txn_trace.specs.declared.op.Op.TheVariants.{Put, Get}
-use Rattle.txn_trace.specs.declared.entry.Entry.{Entry}
-use Rattle.txn_trace.specs.declared.entry.Entry.TheVariants.{Began, Asked, Did, Committed}
+use Rattle.txn_words.specs.declared.op.Op.TheVariants.{Put, Get}
+use Rattle.txn_words.specs.declared.entry.Entry.{Entry}
+use Rattle.txn_words.specs.declared.entry.Entry.TheVariants.{Began, Asked, Did, Committed}
 use Rattle.map_answers.specs.declared.stop.Stop.{Stop}
 use Rattle.txn_trace.specs.History.{of}
 use Rattle.locked_map.specs.Tokens.{Token, IsSameCaller}

@@ -1,5 +1,5 @@
 use Rattle.std.proofs.Common.{ap, ◌∙◌, arith}
-use Rattle.txn_trace.specs.Map.{insert}
+use Rattle.txn_words.specs.Map.{insert}
 use Rattle.txn_trace.specs.Now.{now}
 use Rattle.bank.specs.Transfers.{balance}
 use Rattle.owned_map.proofs.Calls.{keeps_on}

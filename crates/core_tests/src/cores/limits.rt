@@ -9,7 +9,7 @@ use boost_core::Core;
 use std::alloc::{AllocError, Global};
 use std::process::Abort;
 use std::test::Fail;
-use txn_trace::{Answer, Op, Refusal, Step};
+use txn_words::{Answer, Op, Refusal, Step};
 
 /// Numbers of callers, stripes and buckets: the least and the greatest of each.
 static SIZES: [(u64, u64, u64); 4] = [

@@ -6,7 +6,7 @@ use boost_core::Core;
 use std::alloc::Global;
 use std::process::Abort;
 use std::test::Fail;
-use txn_trace::{Answer, Op, Step};
+use txn_words::{Answer, Op, Step};
 
 /// The number of pairs on which the orders are tried, one after the other.
 const PAIRS: u64 = 24;

@@ -2,7 +2,7 @@
 //! caller.
 use std::alloc::{AllocError, Global};
 use std::collections::BTreeMap;
-use txn_trace::{Answer, Op, Refusal, Step};
+use txn_words::{Answer, Op, Refusal, Step};
 
 /// The stage of a caller.
 #[derive(Clone, Copy, PartialEq, Eq)]

@@ -7,7 +7,7 @@ use boost_core::Core;
 use std::alloc::{AllocError, Global};
 use std::process::Abort;
 use std::test::Fail;
-use txn_trace::{Answer, Op, Refusal, Reply, Step};
+use txn_words::{Answer, Op, Refusal, Reply, Step};
 
 /// The numbers of entries, buckets and keys, and of the entries owed, which take no memory to read.
 fn figures(core: &Core) -> (usize, (u32, u64), usize) {

@@ -5,7 +5,7 @@ use key_locks::StripeRight;
 use std::alloc::{AllocError, Global};
 use std::process::Abort;
 use std::test::Fail;
-use txn_trace::{Answer, Entry, Op, Refusal, Step};
+use txn_words::{Answer, Entry, Op, Refusal, Step};
 
 /// A core of 3 callers whose stripes, 8 of them, are words.
 fn core_with_words(rt: &impl Abort, alloc: Global) -> Core {

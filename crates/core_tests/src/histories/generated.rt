@@ -1,7 +1,7 @@
 //! Histories drawn from a seed, and histories with one fault.
 use super::plain::{self, Place};
 use std::alloc::{AllocError, Global};
-use txn_trace::{Entry, Holder, Op};
+use txn_words::{Entry, Holder, Op};
 
 /// The callers of a history, if it has this number of them.
 const CALLERS: [u64; 4] = [0, 1, 7, 63];

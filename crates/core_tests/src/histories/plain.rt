@@ -8,7 +8,7 @@
 use history_check::{Rule, Verdict};
 use std::alloc::{AllocError, Global};
 use std::collections::BTreeMap;
-use txn_trace::{Entry, Holder, Op, Reply};
+use txn_words::{Entry, Holder, Op, Reply};
 
 type Values = BTreeMap<u64, u64>;
 

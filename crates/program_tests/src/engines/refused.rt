@@ -6,7 +6,7 @@ use history_check::{Verdict, check};
 use std::alloc::{AllocError, Global};
 use std::process::Abort;
 use std::test::Fail;
-use txn_trace::{Answer, Entry, Holder, Limits, Op, Refusal, SmallEntry, Step, Unpacked};
+use txn_words::{Answer, Entry, Holder, Limits, Op, Refusal, SmallEntry, Step, Unpacked};
 
 /// The number of times that a call is tried before memory is taken to be refused for good: once
 /// more than `docs/tests/refused.py` refuses in a row, unless it refuses all from one on.

@@ -6,7 +6,7 @@ use std::alloc::Global;
 use std::process::Abort;
 use std::test::Fail;
 use txn_files::{FileFault, Part, history_text, read_history};
-use txn_trace::{Entry, Op};
+use txn_words::{Entry, Op};
 
 /// A file with gaps for its stripes and one entry.
 const BETWEEN_ENTRIES: &str = r#"{"version":1,"stripes":@,"entries":[["began",64,1],#,["began"]]}"#;

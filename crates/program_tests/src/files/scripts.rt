@@ -5,7 +5,7 @@ use std::alloc::Global;
 use std::process::Abort;
 use std::test::Fail;
 use txn_files::{FileFault, Part, Script, Scripts, read_scripts};
-use txn_trace::{Action, Op, PackedAction};
+use txn_words::{Action, Op, PackedAction};
 
 /// Four members of a script file.
 const SIZES: &str = r#""version":1,"workers":1,"stripes":8,"buckets":8"#;

@@ -5,7 +5,7 @@ use std::alloc::Global;
 use std::process::Abort;
 use std::test::Fail;
 use txn_files::{FileFault, Part, read_steps};
-use txn_trace::{Op, Step};
+use txn_words::{Op, Step};
 
 /// One transaction that puts one key.
 pub const FIRST_COMMIT: &str =

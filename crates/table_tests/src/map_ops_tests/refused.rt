@@ -5,7 +5,7 @@ use map_ops::{InitLink, InitSeek, Table};
 use std::alloc::{AllocError, Global};
 use std::process::Abort;
 use std::test::Fail;
-use txn_trace::{Op, Refusal};
+use txn_words::{Op, Refusal};
 
 /// Compares the pairs of the table, its content and its count.
 fn shows(rt: &impl Abort, alloc: Global, table: &Table, wanted: &[(u64, u64)]) -> Result<(), Fail> {

@@ -1,6 +1,6 @@
 //! Runs of steps on a table, in tables of rows: each step with its answer.
 ghost use Rattle.std.specs.Prelude.{◌≡◌, true};
-ghost use Rattle.txn_trace.specs.Map.{Map, get};
+ghost use Rattle.txn_words.specs.Map.{Map, get};
 ghost use Rattle.map_ops.specs.Jobs.{IsDue, key_of_job, spare_of_job};
 ghost use Rattle.map_ops.specs.Changes.{OwnsIf};
 ghost use Rattle.map_ops.specs.TableAt.{Follows, KeepsSpares};
@@ -12,7 +12,7 @@ use map_ops::{Act, Double, InitLink, InitSeek, MapJob, SweepOutcome, Table, Undo
 use std::alloc::Global;
 use std::process::Abort;
 use std::test::Fail;
-use txn_trace::{Op, Refusal, Reply};
+use txn_words::{Op, Refusal, Reply};
 
 /// Replaces the table by a new one.
 fn begin(alloc: Global, table: &mut Table) -> Result<Answer, Fail> {

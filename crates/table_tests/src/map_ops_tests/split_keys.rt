@@ -3,7 +3,7 @@ use super::{do_at_once, figures, new_table, there_and_back};
 use map_ops::Table;
 use std::process::Abort;
 use std::test::Fail;
-use txn_trace::{Op, Refusal};
+use txn_words::{Op, Refusal};
 
 const HALF: u64 = 1 << 63;
 

@@ -10,7 +10,7 @@ use std::process::Abort;
 use std::sync::Wait;
 use std::sync::ledger::Ledger;
 use std::test::Fail;
-use txn_trace::{Answer, Entry, Limits, Op, Refusal};
+use txn_words::{Answer, Entry, Limits, Op, Refusal};
 
 /// Takes the turns of a call until it has ended; `None` if it has not after nine.
 fn drive<L: Ledger>(booked: &mut Booked<L>, me: &mut Caller<L, NoSide>, call: Call) -> Option<End>

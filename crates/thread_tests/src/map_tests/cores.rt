@@ -9,7 +9,7 @@ use std::process::Abort;
 use std::sync::Wait;
 use std::sync::ledger::Ledger;
 use std::test::Fail;
-use txn_trace::{Answer, Limits, Op, Refusal, Step};
+use txn_words::{Answer, Limits, Op, Refusal, Step};
 
 /// Takes a step that asks for no operation; `None` for one that does.
 pub(super) fn step(core: &mut Core, step: Step) -> Option<Answer> {

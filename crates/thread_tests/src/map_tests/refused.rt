@@ -9,7 +9,7 @@ use std::process::Abort;
 use std::sync::Wait;
 use std::sync::ledger::Ledger;
 use std::test::Fail;
-use txn_trace::{Answer, Op, Refusal};
+use txn_words::{Answer, Op, Refusal};
 
 /// A call of the caller at a position, and its end if there is memory.
 type Wanted = (usize, Call, End);

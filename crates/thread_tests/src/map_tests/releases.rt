@@ -8,7 +8,7 @@ use std::sync::Wait;
 use std::sync::atomic::{AtomicU64, Ordering};
 use std::sync::ledger::Ledger;
 use std::test::Fail;
-use txn_trace::Op;
+use txn_words::Op;
 
 /// Counts releases.
 #[derive(Drop)]

@@ -11,7 +11,7 @@ use std::process::Abort;
 use std::sync::Wait;
 use std::sync::ledger::Ledger;
 use std::test::Fail;
-use txn_trace::{Answer, Entry, Op, Step};
+use txn_words::{Answer, Entry, Op, Step};
 
 /// The position of a caller, its call, and the answer that the call must have.
 pub(super) type Row = (usize, Call, Result<Told, Stop>);

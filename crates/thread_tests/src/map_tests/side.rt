@@ -10,7 +10,7 @@ use std::process::Abort;
 use std::sync::Wait;
 use std::sync::ledger::Ledger;
 use std::test::Fail;
-use txn_trace::Refusal;
+use txn_words::Refusal;
 use undo_log::{Side, SideJob};
 
 /// The number of entries that a caller has seen, and the words of its side value.

@@ -9,7 +9,7 @@ use std::sync::atomic::{AtomicU64, Ordering};
 use std::sync::ledger::Ledger;
 use std::sync::{Mutex, Wait};
 use std::test::Fail;
-use txn_trace::{Answer, Entry, Op};
+use txn_words::{Answer, Entry, Op};
 
 /// After the second release of the lock the other caller runs a whole transaction.
 #[derive(Drop)]

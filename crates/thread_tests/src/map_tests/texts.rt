@@ -2,7 +2,7 @@
 use locked_map::Stop;
 use std::alloc::{AllocError, Global};
 use std::test::Fail;
-use txn_trace::Refusal;
+use txn_words::Refusal;
 
 fn text_of(alloc: Global, stop: Stop) -> Result<String, AllocError> {
     format!(in alloc; "{stop}")

@@ -15,7 +15,7 @@ use std::sync::ledger::{Blank, Ledger};
 use std::test::Fail;
 use std::thread;
 use std::thread::Threads;
-use txn_trace::{Entry, Limits, Op};
+use txn_words::{Entry, Limits, Op};
 
 /// The work of a map's callers in their threads.
 #[derive(Clone, Copy)]

@@ -1,5 +1,5 @@
 use Rattle.std.proofs.Common.{◌≡◌, ◌++◌, ◌∷◌, [], drop, take, length}
-use Rattle.txn_trace.specs.Map.{get}
+use Rattle.txn_words.specs.Map.{get}
 use Rattle.txn_trace.specs.Serial.{serial}
 use Rattle.serial_check.specs.Fed.{IsFed}
 use Rattle.serial_check.specs.Serializable.{IsSerializable}

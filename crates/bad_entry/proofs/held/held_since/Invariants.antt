@@ -1,5 +1,5 @@
 use Rattle.std.proofs.Common.{◌≡◌, drop, take, length}
-use Rattle.txn_trace.specs.History.{caller_of}
+use Rattle.txn_words.specs.Kinds.{caller_of}
 use Rattle.bad_entry.specs.Desks.{HaveNoted, txn_in}
 use Rattle.bad_entry.specs.Holding.{asked_in, held_since}
 use Rattle.bad_entry.specs.Places.{first_from}

@@ -1,7 +1,7 @@
 use Rattle.std.proofs.Common.{ℕ, List, inl, refl, ap, subst, ◌∙◌}
 use Rattle.boost_core.specs.State.{State}
 use Rattle.txn_trace.specs.Now.{now}
-use Rattle.txn_trace.specs.Ordered.{ordered}
+use Rattle.txn_words.specs.Ordered.{ordered}
 use Rattle.boostmap_c.specs.Contents.{LaysOf}
 use Rattle.boostmap_c.proofs.read.boostmap_read.Goals as goal
 

@@ -1,5 +1,5 @@
 use Rattle.std.proofs.Common.{string_bytes, ap, ◌∙◌}
-use Rattle.txn_trace.specs.Sizes.{Sizes}
+use Rattle.txn_words.specs.Sizes.{Sizes}
 use Rattle.boostmap_engine.proofs.Mixtures.{mixture_is}
 use Rattle.boostmap_engine.proofs.mixture.mixture.Goals as goal
 

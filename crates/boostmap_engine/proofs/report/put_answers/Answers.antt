@@ -1,7 +1,7 @@
 use Rattle.std.proofs.Common.{◌++◌, ◌∷◌, [], ◌∙◌, arith, string_bytes, subst}
 use Rattle.std.proofs.lemmas.List.{flat_map_more}
-use Rattle.txn_trace.specs.declared.answer.Answer.{Answer}
-use Rattle.txn_trace.specs.Text.{text_of}
+use Rattle.txn_words.specs.declared.answer.Answer.{Answer}
+use Rattle.txn_words.specs.Text.{text_of}
 use Rattle.boost_core.specs.Machine.{Event}
 use Rattle.boost_core.proofs.Runs.{Moves-more}
 use Rattle.boostmap_engine.specs.Report.{line}

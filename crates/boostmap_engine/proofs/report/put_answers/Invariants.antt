@@ -1,6 +1,6 @@
 use Rattle.std.proofs.Common.{◌≡◌, ◌++◌, false, List, take}
 use Rattle.std.specs.Prelude.{string_bytes}
-use Rattle.txn_trace.specs.declared.answer.Answer.{Answer}
+use Rattle.txn_words.specs.declared.answer.Answer.{Answer}
 use Rattle.boost_core.specs.Machine.{Moves}
 use Rattle.boostmap_engine.specs.Report.{answers_text}
 use Rattle.boostmap_engine.proofs.report.put_answers.Given as goal

@@ -1,6 +1,6 @@
 use Rattle.std.proofs.Common.{◌≡◌, true, subst}
-use Rattle.txn_trace.specs.Entries.{entries_of}
-use Rattle.txn_trace.specs.Sizes.{Sizes, are_limits}
+use Rattle.txn_words.specs.Entries.{entries_of}
+use Rattle.txn_words.specs.Sizes.{Sizes, are_limits}
 use Rattle.locked_map.specs.Claims.{claim_in}
 use Rattle.locked_map.proofs.Claiming.{counted_more, goes_over}
 use Rattle.locked_map.proofs.Smalls.{small_added}

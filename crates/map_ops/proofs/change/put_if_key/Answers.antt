@@ -2,7 +2,7 @@ use Rattle.std.proofs.Common.{◌≡◌, ◌∙◌, ℕ, Option, true, sym, ap, 
 use Rattle.std.specs.Prelude.{nat_eq}
 use Rattle.std.specs.Option.{option_eq}
 use Rattle.list_steps.specs.Content.{pairs}
-use Rattle.txn_trace.specs.Map.{get}
+use Rattle.txn_words.specs.Map.{get}
 use Rattle.map_ops.specs.TableAt.{map_of}
 use Rattle.map_ops.specs.Sound.{Belong}
 use Rattle.map_ops.proofs.Laws.{no_buckets}

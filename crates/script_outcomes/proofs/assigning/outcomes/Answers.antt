@@ -1,7 +1,7 @@
 use Rattle.std.proofs.Common.{◌≡◌, ◌+◌, ◌≤◌, List, length, Some, refl, sym, ap, subst, ◌∙◌, arith}
 use Rattle.std.specs.Prelude.{slice_get, slice_set}
 use Rattle.std.proofs.lemmas.Option.{slice_get_read}
-use Rattle.txn_trace.specs.History.{caller_of}
+use Rattle.txn_words.specs.Kinds.{caller_of}
 use Rattle.script_outcomes.specs.Ways.{AreFresh, AreNone}
 use Rattle.script_outcomes.proofs.Following.{AllFollow}
 use Rattle.script_outcomes.proofs.Starting.{all_start, all_end}

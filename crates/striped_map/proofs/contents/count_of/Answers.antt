@@ -1,6 +1,6 @@
 use Rattle.std.proofs.Common.{◌≡◌, ℕ, suc, ◌+◌, Some, drop, slice_get, sum_by, rules, ap, ◌∙◌, arith}
 use Rattle.stripe_part.specs.PartAt.{PartAt}
-use Rattle.txn_trace.specs.Map.{count_of}
+use Rattle.txn_words.specs.Map.{count_of}
 use Rattle.striped_map.specs.Contents.{count_at}
 use Rattle.striped_map.specs.Seats.{part_in}
 use Rattle.striped_map.specs.Sound.{parts_of}

@@ -1,5 +1,5 @@
 use Rattle.std.proofs.Common.{◌≡◌, ℕ, List, [], ◌∷◌, ◌++◌, reverse, rules, sym, ap, subst, ◌∙◌}
-use Rattle.txn_trace.specs.declared.seat.Phase.TheVariants.{Closed}
+use Rattle.txn_words.specs.declared.seat.Phase.TheVariants.{Closed}
 use Rattle.txn_trace.specs.Now.{now}
 use Rattle.striped_map.specs.declared.view.View.{View}
 use Rattle.striped_map.specs.Handling.{idle}

@@ -1,6 +1,6 @@
 use Rattle.std.specs.Prelude.{◌≡◌, vec_len}
 use Rattle.txn_trace.specs.Now.{now}
-use Rattle.txn_trace.specs.declared.seat.Phase.TheVariants.{Closed}
+use Rattle.txn_words.specs.declared.seat.Phase.TheVariants.{Closed}
 use Rattle.striped_map.specs.Handling.{idle}
 use Rattle.striped_map.specs.Seats.{IsOf, known, stripes_of}
 use Rattle.striped_map.specs.Sound.{AreHeld, parts_of}

@@ -1,7 +1,8 @@
 use Rattle.std.specs.Prelude.{vec_len}
 use Rattle.std.proofs.Common.{◌≡◌, ℕ, suc, ◌-◌, ◌/◌, ◌<◌, List, [], ◌∷◌, ◌++◌, Some, slice_get, length, sym, refl, ap, subst, ◌∙◌, arith}
 use Rattle.txn_trace.specs.Locks.{stripe_of}
-use Rattle.txn_trace.specs.Now.{now, set_at}
+use Rattle.txn_trace.specs.Now.{now}
+use Rattle.txn_words.specs.Map.{set_at}
 use Rattle.stripe_part.specs.Calls.{TakesBack}
 use Rattle.striped_map.specs.declared.view.View.{View}
 use Rattle.striped_map.specs.Additions.{due}

@@ -1,7 +1,7 @@
 use Rattle.std.proofs.Common.{◌≡◌, ℕ, List, [], ◌∷◌, ◌++◌, length, refl, sym, ap, ◌∙◌, arith, append-nil, length-append}
 use mathlib.Core.List.{IsPrefix}
-use Rattle.txn_trace.specs.declared.entry.Entry.{Entry}
-use Rattle.txn_trace.specs.Shape.{own}
+use Rattle.txn_words.specs.declared.entry.Entry.{Entry}
+use Rattle.txn_words.specs.Shape.{own}
 use Rattle.striped_map.proofs.Hands.{own_same}
 use Rattle.striped_map.proofs.Lands.{own-append}
 use Rattle.striped_map.proofs.law.caught_up.Goals as goal

@@ -1,6 +1,6 @@
 use Rattle.std.proofs.Common.{◌∙◌, refl, sym, ap, subst}
-use Rattle.txn_trace.specs.declared.refusal.Refusal.TheVariants.{OutOfStep}
-use Rattle.txn_trace.specs.Sizes.{Sizes}
+use Rattle.txn_words.specs.declared.refusal.Refusal.TheVariants.{OutOfStep}
+use Rattle.txn_words.specs.Sizes.{Sizes}
 use Rattle.script_worker.specs.Accounts as accounts
 use Rattle.script_worker.specs.Accounts.{Outcome}
 use Rattle.script_worker.specs.Chunks.{Heard}

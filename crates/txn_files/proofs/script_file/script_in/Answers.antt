@@ -1,7 +1,7 @@
 use Rattle.std.proofs.Common.{◌≡◌, ◌≤◌, List, true, length, Some, sym, ap, ◌∙◌, arith}
 use Rattle.std.specs.Result.{result_ok}
 use Rattle.std.proofs.lemmas.List.{take_all}
-use Rattle.txn_trace.specs.declared.action.Action.{Action}
+use Rattle.txn_words.specs.declared.action.Action.{Action}
 use Rattle.piece_files.specs.declared.part.Part.TheVariants as parts
 use Rattle.piece_files.specs.Tokens.{outcome}
 use Rattle.txn_files.proofs.script_file.script_in.Goals as goal

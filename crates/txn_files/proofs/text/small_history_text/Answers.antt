@@ -1,6 +1,6 @@
 use Rattle.std.proofs.Common.{◌≡◌, List, map-id, subst}
 use Rattle.std.specs.Prelude.{IfOk, string_bytes}
-use Rattle.txn_trace.specs.declared.entry.Entry.{Entry}
+use Rattle.txn_words.specs.declared.entry.Entry.{Entry}
 use Rattle.txn_files.specs.HistoryText.{text_of_history}
 use Rattle.txn_files.proofs.text.small_history_text.Goals as goal
 

@@ -1,6 +1,6 @@
 use Rattle.std.proofs.Common.{◌≡◌, ◌<◌, ◌++◌, inr, List, Option, refl, sym, ap, subst, ◌∙◌, arith}
 use Rattle.std.specs.Prelude.{vec_len, vec_capacity, sum_by, option_to_list}
-use Rattle.txn_trace.specs.declared.entry.Entry.{Entry}
+use Rattle.txn_words.specs.declared.entry.Entry.{Entry}
 use Rattle.boost_core.specs.declared.counts.Counts.{Counts}
 use Rattle.boost_core.specs.Counts.{counts_after}
 use Rattle.boost_core.specs.State.{Owner}
@@ -17,9 +17,9 @@ use Rattle.boost_core.proofs.NodeSteps.{lists_by_of, refused_lists, does}
 use Rattle.boost_core.proofs.GapSteps.{cursors_of, does_cursors}
 use Rattle.boost_core.proofs.Called.{called, takes, placed_cursor, changes_there}
 use Rattle.boost_core.proofs.Outcomes.{CalledBy, claims_of, goes_of, goes_lacking, goes_refused, fresh_or_lock, reserved_least, reserved_few, no_memory, can_add, called_caller, called_tells, called_owes, called_room, called_move}
-use Rattle.txn_trace.specs.declared.answer.Answer.TheVariants as answers
-use Rattle.txn_trace.specs.declared.refusal.Refusal.TheVariants as refusals
-use Rattle.txn_trace.specs.Owed.{reserved}
+use Rattle.txn_words.specs.declared.answer.Answer.TheVariants as answers
+use Rattle.txn_words.specs.declared.refusal.Refusal.TheVariants as refusals
+use Rattle.txn_words.specs.Owed.{reserved}
 use Rattle.boost_core.specs.Core.{World}
 use Rattle.boost_core.proofs.machine.Core.call.Goals as goal
 

@@ -2,7 +2,7 @@ use Rattle.std.proofs.Common.{◌≡◌, ◌≤◌, List, Some, sym, ap, subst, 
 use Rattle.std.specs.Prelude.{slice_get}
 use Rattle.boost_core.specs.declared.session.Session.{Session}
 use Rattle.boost_core.proofs.Refused.{index_at, seat_here}
-use Rattle.txn_trace.specs.Shape.{Seat}
+use Rattle.txn_words.specs.Shape.{Seat}
 use Rattle.boost_core.specs.State.{State, seat_in}
 use Rattle.boost_core.specs.Answers.{is_at_end}
 use Rattle.boost_core.proofs.Calls.{seat_past}

@@ -1,5 +1,5 @@
 use Rattle.std.proofs.Common.{sym, ap, ◌∙◌}
-use Rattle.txn_trace.specs.Owed.{owed}
+use Rattle.txn_words.specs.Owed.{owed}
 use Rattle.boost_core.specs.State.{State}
 use Rattle.boost_core.proofs.Owing.{owed_is}
 use Rattle.boost_core.proofs.machine.Core.owed.Goals as goal

@@ -1,9 +1,9 @@
 use Rattle.std.proofs.Common.{suc, [], ◌∷◌, refl, sym, ap, subst, ◌∙◌}
 use Rattle.std.specs.Prelude.{nat_le}
-use Rattle.txn_trace.specs.Sizes.{Sizes}
-use Rattle.txn_trace.specs.declared.answer.Answer.{Answer}
-use Rattle.txn_trace.specs.declared.answer.Answer.TheVariants.{Placed, Undone}
-use Rattle.txn_trace.specs.declared.step.Step.TheVariants.{Seek, Act}
+use Rattle.txn_words.specs.Sizes.{Sizes}
+use Rattle.txn_words.specs.declared.answer.Answer.{Answer}
+use Rattle.txn_words.specs.declared.answer.Answer.TheVariants.{Placed, Undone}
+use Rattle.txn_words.specs.declared.step.Step.TheVariants.{Seek, Act}
 use Rattle.boost_core.specs.Refusals.{is_leaving}
 use Rattle.boost_core.specs.Answers.{end_of}
 use Rattle.boost_core.specs.Machine.{Event}

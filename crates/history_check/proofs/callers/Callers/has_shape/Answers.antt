@@ -1,5 +1,5 @@
 use Rattle.std.proofs.Common.{◌<◌, ◌&&◌, ap, sym, ◌∙◌, arith}
-use Rattle.txn_trace.specs.Shape.{seat_after, own, is_numbered}
+use Rattle.txn_words.specs.Shape.{seat_after, own, is_numbered}
 use Rattle.txn_trace.proofs.Next.{is_shaped_is}
 use Rattle.history_check.specs.Callers.{seat_of}
 use Rattle.history_check.proofs.Seating.{sits_at}

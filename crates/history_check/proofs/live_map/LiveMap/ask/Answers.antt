@@ -1,6 +1,6 @@
 use Rattle.std.proofs.Common.{refl}
 use Rattle.std.proofs.lemmas.Bool.{false≢true}
-use Rattle.txn_trace.specs.declared.entry.Entry.TheVariants.{Asked}
+use Rattle.txn_words.specs.declared.entry.Entry.TheVariants.{Asked}
 use Rattle.history_check.proofs.EachKind.{next-asked}
 use Rattle.history_check.proofs.Holding.{asked-granted, asked-refused, granted}
 use Rattle.history_check.proofs.Seating.{seat_there}

@@ -1,10 +1,10 @@
 use Rattle.std.proofs.Common.{◌≡◌, ◌++◌, ◌∷◌, [], drop, true, refl, sym, subst, ◌∙◌}
-use Rattle.txn_trace.specs.declared.entry.Entry.TheVariants.{Did, Undone, Committed, Aborted}
-use Rattle.txn_trace.specs.declared.seat.Phase.TheVariants.{Waiting}
+use Rattle.txn_words.specs.declared.entry.Entry.TheVariants.{Did, Undone, Committed, Aborted}
+use Rattle.txn_words.specs.declared.seat.Phase.TheVariants.{Waiting}
 use Rattle.txn_trace.specs.Legal.{replies_hold}
 use Rattle.txn_trace.specs.Log.{log_of}
 use Rattle.txn_trace.specs.Now.{now}
-use Rattle.txn_trace.specs.Shape.{is_shaped}
+use Rattle.txn_words.specs.Shape.{is_shaped}
 use Rattle.history_check.specs.LiveMaps.{FollowsAt}
 use Rattle.history_check.proofs.EachKind.{next-did, next-undone, next-committed, next-aborted}
 use Rattle.history_check.proofs.Holding.{released}

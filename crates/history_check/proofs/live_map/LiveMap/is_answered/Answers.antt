@@ -1,9 +1,9 @@
 use Rattle.std.proofs.Common.{◌≡◌, ◌++◌, ◌∷◌, [], true, ap, sym, subst, ◌∙◌}
 use Rattle.std.specs.Prelude.{nat_eq}
 use Rattle.std.specs.Option.{option_eq}
-use Rattle.txn_trace.specs.Shape.{is_shaped}
+use Rattle.txn_words.specs.Shape.{is_shaped}
 use Rattle.txn_trace.specs.Legal.{replies_hold}
-use Rattle.txn_trace.specs.Map.{get}
+use Rattle.txn_words.specs.Map.{get}
 use Rattle.txn_trace.specs.Now.{now}
 use Rattle.history_check.proofs.EachKind.{did_right}
 use Rattle.history_check.proofs.Judged.{answered_other}

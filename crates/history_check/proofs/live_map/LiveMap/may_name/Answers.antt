@@ -2,7 +2,7 @@ use Rattle.std.proofs.Common.{◌≡◌, Some, refl, ap, sym, ◌∙◌}
 use Rattle.std.specs.Prelude.{nat_eq}
 use Rattle.std.specs.Option.{option_eq}
 use Rattle.std.proofs.lemmas.Bool.{false≢true}
-use Rattle.txn_trace.specs.declared.holder.Holder.TheVariants.{Now, Begun}
+use Rattle.txn_words.specs.declared.holder.Holder.TheVariants.{Now, Begun}
 use Rattle.history_check.proofs.Holding.{busy-begun, busy-held, busy-own}
 use Rattle.history_check.proofs.Showing.{busy_followed}
 use Rattle.history_check.proofs.live_map.LiveMap.may_name.Goals as goal

@@ -1,6 +1,6 @@
 use Rattle.std.proofs.Common.{◌≡◌, ◌∙◌, cond, true, nat_eq, ap, sym, subst}
 use Rattle.std.specs.Option.{option_eq}
-use Rattle.txn_trace.specs.Map.{insert}
+use Rattle.txn_words.specs.Map.{insert}
 use Rattle.history_check.specs.Remainders.{Have}
 use Rattle.history_check.proofs.values.Values.operate.Goals as goal
 

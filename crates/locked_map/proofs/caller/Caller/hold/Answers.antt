@@ -1,7 +1,7 @@
 use Rattle.std.proofs.Common.{rules, refl, sym, ap, ◌∙◌}
 use Rattle.std.specs.List.{filter}
-use Rattle.txn_trace.specs.History.{is_commit}
-use Rattle.txn_trace.specs.Sizes.{Sizes}
+use Rattle.txn_words.specs.Kinds.{is_commit}
+use Rattle.txn_words.specs.Sizes.{Sizes}
 use Rattle.locked_map.proofs.Claiming.{may_next}
 use Rattle.locked_map.proofs.Holding.{ins_sized, goes_on_sized, no_room_run, broken_run, broken_ends, held_no_room, held_took, held_in_step, goes_held}
 use Rattle.locked_map.proofs.caller.Caller.hold.Goals as goal

@@ -1,6 +1,6 @@
 use Rattle.std.proofs.Common.{◌≡◌, ◌∙◌, ap, subst}
-use Rattle.txn_trace.specs.Seats.{refusal_in}
-use Rattle.txn_trace.specs.Shape.{seat_after}
+use Rattle.txn_words.specs.Seats.{refusal_in}
+use Rattle.txn_words.specs.Shape.{seat_after}
 use Rattle.locked_map.specs.Calls.{refused_by}
 use Rattle.locked_map.proofs.Refusing.{refuses}
 use Rattle.locked_map.proofs.caller.Caller.refusal.Goals as goal

@@ -1,5 +1,5 @@
 use Rattle.std.proofs.Common.{sym, subst, ◌∙◌}
-use Rattle.txn_trace.specs.declared.step.Step.TheVariants.{Ask}
+use Rattle.txn_words.specs.declared.step.Step.TheVariants.{Ask}
 use Rattle.boost_core.specs.Words.{Goes}
 use Rattle.locked_map.specs.Claims.{claim_in}
 use Rattle.locked_map.proofs.Claiming.{goes_over, plain_claim}

@@ -1,8 +1,8 @@
 use Rattle.std.proofs.Common.{◌≡◌, ◌↔◌, Bool, All, IsTrue, List, sym, subst}
 use Rattle.boost_core.specs.State.{State}
-use Rattle.txn_trace.specs.declared.holder.Holder.TheVariants.{Begun}
+use Rattle.txn_words.specs.declared.holder.Holder.TheVariants.{Begun}
 use Rattle.txn_trace.specs.Legal.{IsLegal}
-use Rattle.txn_trace.specs.Sizes.{Sizes}
+use Rattle.txn_words.specs.Sizes.{Sizes}
 use Rattle.locked_map.specs.Closes.{IsOwn}
 use Rattle.locked_map.specs.Tokens.{Token}
 use Rattle.locked_map.proofs.shared_map.SharedMap.into_core.Goals as goal

@@ -1,5 +1,5 @@
 use Rattle.owned_map.proofs.Steps.{begins}
-use Rattle.txn_trace.specs.declared.step.Step.TheVariants.{Begin}
+use Rattle.txn_words.specs.declared.step.Step.TheVariants.{Begin}
 use Rattle.owned_map.proofs.Only.{moved}
 use Rattle.std.proofs.Common.{inl, refl}
 use Rattle.owned_map.proofs.owned_map.OwnedMap.begin.Goals as goal

@@ -1,5 +1,5 @@
 use Rattle.std.proofs.Common.{ap}
-use Rattle.txn_trace.specs.Sizes.{Sizes}
+use Rattle.txn_words.specs.Sizes.{Sizes}
 use Rattle.owned_map.proofs.Trimming.{begun_first}
 use Rattle.owned_map.proofs.Filling.{caller_there, begun, begin_lacks}
 use Rattle.owned_map.proofs.owned_map.OwnedMap.begin_first.Goals as goal

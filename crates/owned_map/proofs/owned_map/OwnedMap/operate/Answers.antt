@@ -1,4 +1,4 @@
-use Rattle.txn_trace.specs.declared.answer.Answer.TheVariants as answers
+use Rattle.txn_words.specs.declared.answer.Answer.TheVariants as answers
 use Rattle.owned_map.proofs.Steps.{operated, done, busy}
 use Rattle.owned_map.proofs.Calls.{on, grew, grew_done}
 use Rattle.owned_map.proofs.owned_map.OwnedMap.operate.Goals as goal

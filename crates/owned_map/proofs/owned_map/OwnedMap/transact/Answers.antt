@@ -2,8 +2,8 @@ use Rattle.std.proofs.Common.{◌≡◌, ℕ, rules, subst, sym, inl, inr, refl}
 use Rattle.std.proofs.lemmas.Result.{err_from_is_err_and}
 use Rattle.owned_map.specs.declared.owned_map.OwnedMap.{OwnedMap}
 use Rattle.owned_map.specs.Within.{IsCommitted, IsRun, IsSameMap, IsTakenBack}
-use Rattle.txn_trace.specs.declared.answer.Answer.TheVariants.{Committed}
-use Rattle.txn_trace.specs.declared.step.Step.TheVariants.{Commit}
+use Rattle.txn_words.specs.declared.answer.Answer.TheVariants.{Committed}
+use Rattle.txn_words.specs.declared.step.Step.TheVariants.{Commit}
 use Rattle.boost_core.specs.Machine.{Event}
 use Rattle.owned_map.specs.Effects.{HasAborted, IsNotCommitted}
 use Rattle.owned_map.proofs.Calls.{run, undone, on_err}

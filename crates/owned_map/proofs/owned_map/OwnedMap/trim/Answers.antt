@@ -1,10 +1,10 @@
 use Rattle.std.proofs.Common.{rules, ◌≡◌, sym, ap, subst, ◌∙◌}
 use Rattle.txn_trace.specs.Now.{now}
-use Rattle.txn_trace.specs.Ordered.{ordered}
+use Rattle.txn_words.specs.Ordered.{ordered}
 use Rattle.boost_core.specs.State.{State}
 use Rattle.owned_map.specs.declared.owned_map.OwnedMap.{OwnedMap}
 use Rattle.owned_map.specs.Trimmed.{IsTrimmed, filling}
-use Rattle.txn_trace.specs.Sizes.{Sizes}
+use Rattle.txn_words.specs.Sizes.{Sizes}
 use Rattle.owned_map.specs.Taken.{HasTakenKeys}
 use Rattle.owned_map.proofs.Taken.{none_there}
 use Rattle.owned_map.proofs.Trimming.{at_rest, some_open}

@@ -1,5 +1,5 @@
 use Rattle.std.proofs.Common.{refl, sym, ap, ◌∙◌}
-use Rattle.txn_trace.specs.Map.{get}
+use Rattle.txn_words.specs.Map.{get}
 use Rattle.probe_map.specs.MapAt.{MapAt}
 use Rattle.probe_map.proofs.Tables.{get_nowhere, get_read}
 use Rattle.probe_map.proofs.map.ProbeMap.get.Goals as goal

@@ -1,7 +1,6 @@
 use Rattle.std.proofs.Common.{Some, is_some, not, refl, ap, subst, sym, ◌<◌, ◌∙◌}
 use mir.Val.{bool_byte}
-use Rattle.txn_trace.specs.Map.{get}
-use Rattle.txn_trace.specs.Now.{set_at}
+use Rattle.txn_words.specs.Map.{get, set_at}
 use Rattle.probe_map.specs.declared.slot.Slot.TheVariants.{Full}
 use Rattle.probe_map.specs.MapAt.{MapAt}
 use Rattle.probe_map.proofs.Tables.{content_set, get_read, not_back, stops_with_room, table_put}

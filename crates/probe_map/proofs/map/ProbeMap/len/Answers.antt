@@ -1,5 +1,5 @@
 use Rattle.std.proofs.Common.{ap, ◌∙◌}
-use Rattle.txn_trace.specs.Map.{count_of}
+use Rattle.txn_words.specs.Map.{count_of}
 use Rattle.probe_map.specs.MapAt.{MapAt}
 use Rattle.probe_map.proofs.Tables.{count_content}
 use Rattle.probe_map.proofs.map.ProbeMap.len.Goals as goal

@@ -1,6 +1,5 @@
 use Rattle.std.proofs.Common.{◌≡◌, None, arith, refl, sym, ap, ◌∙◌}
-use Rattle.txn_trace.specs.Map.{get}
-use Rattle.txn_trace.specs.Now.{set_at}
+use Rattle.txn_words.specs.Map.{get, set_at}
 use Rattle.probe_map.specs.declared.slot.Slot.TheVariants.{Removed}
 use Rattle.probe_map.specs.MapAt.{MapAt}
 use Rattle.probe_map.specs.Slots.{value_in}

@@ -1,6 +1,6 @@
 use Rattle.std.proofs.Common.{length, ◌-◌, ◌≡◌, ℕ, ◌%◌, ◌<◌, ◌≤◌, List, Some}
 use Rattle.std.specs.Prelude.{slice_get}
-use Rattle.txn_trace.specs.declared.action.Action.{Action}
+use Rattle.txn_words.specs.declared.action.Action.{Action}
 use Rattle.txn_trace.specs.Plays.{IsPlayed}
 use Rattle.script_outcomes.proofs.way.Way.first_played.Given as goal
 

@@ -1,7 +1,7 @@
 use Rattle.std.proofs.Common.{refl, sym, ◌∙◌}
 use Rattle.std.specs.Prelude.{Result, Ok, Err, OnErr}
 use Rattle.std.proofs.lemmas.Bool.{false≢true}
-use Rattle.txn_trace.specs.declared.entry.Entry.TheVariants.{Committed}
+use Rattle.txn_words.specs.declared.entry.Entry.TheVariants.{Committed}
 use Rattle.serial_check.proofs.Growth.{foot_at, kept, kept_same, ended_foot}
 use Rattle.serial_check.proofs.Turns.{commit_right, commit_wrong, commit_leaves}
 use Rattle.serial_check.proofs.commits.Commits.commit.Goals as goal

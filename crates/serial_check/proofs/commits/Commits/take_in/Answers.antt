@@ -1,10 +1,10 @@
 use Rattle.std.proofs.Common.{◌≡◌, ◌<◌, drop, true, refl, sym, subst, ◌∙◌}
 use Rattle.std.specs.Prelude.{Result, Ok, Err, OnErr, IfOk}
-use Rattle.txn_trace.specs.declared.entry.Entry.TheVariants.{Did, Undone, Aborted}
-use Rattle.txn_trace.specs.History.{caller_of}
+use Rattle.txn_words.specs.declared.entry.Entry.TheVariants.{Did, Undone, Aborted}
+use Rattle.txn_words.specs.Kinds.{caller_of}
 use Rattle.txn_trace.specs.Log.{log_of}
-use Rattle.txn_trace.specs.Shape.{is_shaped}
-use Rattle.txn_trace.specs.declared.seat.Phase.TheVariants.{Waiting}
+use Rattle.txn_words.specs.Shape.{is_shaped}
+use Rattle.txn_words.specs.declared.seat.Phase.TheVariants.{Waiting}
 use Rattle.history_check.specs.Callers.{IsIn}
 use Rattle.history_check.proofs.Seating.{first_then, undone_newest}
 use Rattle.serial_check.proofs.Growth.{foot_at, kept, kept_same, ended_foot}

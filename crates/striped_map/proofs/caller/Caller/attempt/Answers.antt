@@ -1,6 +1,6 @@
 use Rattle.std.proofs.Common.{◌≡◌, ℕ, [], ◌∷◌, Ok, Err, rules, refl, sym, subst, ◌∙◌}
 use Rattle.std.proofs.lemmas.Result.{err_from_is_err_and}
-use Rattle.txn_trace.specs.declared.entry.Entry.TheVariants.{Committed}
+use Rattle.txn_words.specs.declared.entry.Entry.TheVariants.{Committed}
 use Rattle.striped_map.specs.Callers.{number, IsStep, IsTakenBack}
 use Rattle.striped_map.proofs.Tries.{failed_by}
 use Rattle.striped_map.proofs.Within.{over_already}

@@ -1,9 +1,9 @@
 use Rattle.std.proofs.Common.{◌≡◌, ℕ, ◌/◌, Bool, true, false, cond, List, [], ◌∷◌, ◌++◌, Some, slice_get, set, sym, ap, subst, ◌∙◌}
-use Rattle.txn_trace.specs.declared.op.Op.{Op}
+use Rattle.txn_words.specs.declared.op.Op.{Op}
 use Rattle.txn_trace.specs.Locks.{stripe_of}
-use Rattle.txn_trace.specs.Map.{key_of}
+use Rattle.txn_words.specs.Map.{key_of}
 use Rattle.txn_trace.specs.Now.{now}
-use Rattle.txn_trace.specs.Shape.{changes}
+use Rattle.txn_words.specs.Shape.{changes}
 use Rattle.stripe_part.specs.Calls.{Does}
 use Rattle.striped_map.specs.declared.addition.Addition.TheVariants.{Note}
 use Rattle.striped_map.specs.declared.view.View.{View}

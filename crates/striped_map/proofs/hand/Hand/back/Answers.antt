@@ -1,7 +1,7 @@
 use Rattle.std.specs.Prelude.{vec_len}
 use Rattle.std.proofs.Common.{◌≡◌, ℕ, ◌+◌, ◌-◌, List, ◌∷◌, Some, take, drop, length, slice_index, sym, ap, subst, ◌∙◌, arith}
 use Rattle.std.proofs.lemmas.List.{take-append-drop, length-drop}
-use Rattle.txn_trace.specs.declared.entry.Entry.TheVariants.{Leave, Returned}
+use Rattle.txn_words.specs.declared.entry.Entry.TheVariants.{Leave, Returned}
 use Rattle.txn_trace.specs.Now.{now}
 use Rattle.striped_map.specs.declared.addition.Addition.{Addition}
 use Rattle.striped_map.specs.declared.addition.Addition.TheVariants.{Back}

@@ -1,5 +1,5 @@
 use Rattle.std.proofs.Common.{ℕ, map, refl, sym, ap, subst}
-use Rattle.txn_trace.specs.declared.seat.Phase.TheVariants.{Closed}
+use Rattle.txn_words.specs.declared.seat.Phase.TheVariants.{Closed}
 use Rattle.txn_trace.specs.Now.{now}
 use Rattle.stripe_part.specs.PartAt.{PartAt}
 use Rattle.striped_map.specs.declared.view.View.{View}

@@ -1,7 +1,7 @@
 use Rattle.std.proofs.Common.{◌≡◌, ◌∙◌, sym, subst, arith}
 use mathlib.Core.Logic.{dite}
 use native.Mathlib.Decide.{ℕ_discrete}
-use Rattle.txn_trace.specs.declared.op.Op.TheVariants.{Get}
+use Rattle.txn_words.specs.declared.op.Op.TheVariants.{Get}
 use Rattle.txn_trace.specs.Now.{now}
 use Rattle.striped_map.specs.Rule.{Holds}
 use Rattle.striped_map.specs.Seats.{known}

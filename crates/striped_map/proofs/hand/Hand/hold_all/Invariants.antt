@@ -1,5 +1,5 @@
 use Rattle.std.specs.Prelude.{◌≡◌, ℕ, ◌<◌, []}
-use Rattle.txn_trace.specs.declared.seat.Phase.TheVariants.{Opened}
+use Rattle.txn_words.specs.declared.seat.Phase.TheVariants.{Opened}
 use Rattle.striped_map.specs.Hands.{Moves}
 use Rattle.striped_map.specs.Rule.{Holds}
 use Rattle.striped_map.specs.Seats.{IsOf, known}

@@ -1,7 +1,7 @@
 use Rattle.std.proofs.Common.{[], sym, ◌≡◌, ◌<◌, IsPermutation, ap, subst, ◌∙◌}
 use Rattle.txn_trace.specs.Now.{now}
 use Rattle.stripe_part.proofs.Rows.{rows_sorted}
-use Rattle.txn_trace.specs.declared.seat.Phase.TheVariants.{Opened}
+use Rattle.txn_words.specs.declared.seat.Phase.TheVariants.{Opened}
 use Rattle.striped_map.specs.declared.view.View.{View}
 use Rattle.striped_map.specs.Contents.{pairs_in}
 use Rattle.striped_map.specs.Steps.{IsAt}

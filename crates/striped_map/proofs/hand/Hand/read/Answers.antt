@@ -1,10 +1,10 @@
 use Rattle.std.proofs.Common.{◌≡◌, ℕ, ◌≤◌, List, Some, slice_get, sym, ap, subst, ◌∙◌, append_assoc, mod-lt}
-use Rattle.txn_trace.specs.declared.entry.Entry.{Entry}
+use Rattle.txn_words.specs.declared.entry.Entry.{Entry}
 use Rattle.txn_trace.specs.Locks.{stripe_of}
-use Rattle.txn_trace.specs.Map.{Map}
+use Rattle.txn_words.specs.Map.{Map}
 use Rattle.txn_trace.specs.Now.{now}
-use Rattle.txn_trace.specs.Shape.{own}
-use Rattle.txn_trace.proofs.Maps.{same_map}
+use Rattle.txn_words.specs.Shape.{own}
+use Rattle.txn_words.proofs.Maps.{same_map}
 use Rattle.striped_map.specs.Hands.{IsCut}
 use Rattle.striped_map.specs.Seats.{known}
 use Rattle.striped_map.proofs.Ends.{moved_seen, moved_on}

@@ -1,5 +1,5 @@
 use Rattle.std.proofs.Common.{Result, Ok, Err, OnOk, OnErr, ℕ, Some, ◌∷◌, ◌≡◌, sym, subst, refl}
-use Rattle.txn_trace.specs.declared.entry.Entry.TheVariants.{Leave, Returned}
+use Rattle.txn_words.specs.declared.entry.Entry.TheVariants.{Leave, Returned}
 use Rattle.striped_map.specs.declared.caller.Caller.{Caller}
 use Rattle.map_answers.specs.declared.stop.Stop.{Stop}
 use Rattle.striped_map.specs.Callers.{number, changes_above, IsStep, IsWithin}

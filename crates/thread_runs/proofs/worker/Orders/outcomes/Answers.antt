@@ -1,7 +1,7 @@
 use Rattle.std.proofs.Common.{◌∙◌, ◌++◌, ◌∷◌, [], map, refl, ap, inr}
 use Rattle.std.proofs.lemmas.List.{map-append}
-use Rattle.txn_trace.specs.Shape.{closed_seat, seat_after}
-use Rattle.txn_trace.specs.Sizes.{Sizes}
+use Rattle.txn_words.specs.Shape.{closed_seat, seat_after}
+use Rattle.txn_words.specs.Sizes.{Sizes}
 use Rattle.thread_runs.specs.Runs.{told_of}
 use Rattle.thread_runs.proofs.Rounds.{so_far_start, so_far_more, so_far_all, run_here, may_here, run_all_at, some_at, none_at}
 use Rattle.thread_runs.proofs.worker.Orders.outcomes.Goals as goal

@@ -1,0 +1,13 @@
+pub mod Refusals
+pub mod Sentences
+pub mod Text
+pub mod Sizes
+pub mod Work
+pub mod Map
+pub mod Ordered
+pub mod Shape
+pub mod Seats
+pub mod Owed
+pub mod Packed
+pub mod Entries
+pub mod Kinds

@@ -1,0 +1,51 @@
+-- The number of entries that callers may still append without a new reservation.
+use Rattle.std.specs.Prelude.{ℕ, ◌+◌, Bool, true, false, Option, Some, None, List}
+use Rattle.std.specs.List.{sum_by, range_with_len}
+use Rattle.txn_words.specs.declared.op.Op.{Op}
+use Rattle.txn_words.specs.declared.op.Op.TheVariants.{Put, Take, Get, PutIf}
+use Rattle.txn_words.specs.declared.entry.Entry.{Entry}
+use Rattle.txn_words.specs.declared.step.Step.{Step}
+use Rattle.txn_words.specs.declared.step.Step.TheVariants.{Begin, Ask, Save, Back}
+use Rattle.txn_words.specs.declared.seat.Phase.{Phase}
+use Rattle.txn_words.specs.declared.seat.Phase.TheVariants.{Closed, Opened, Waiting, LeavingTo, LeavingToEnd}
+use Rattle.txn_words.specs.Shape.{Seat, seat_after, own}
+
+-- Whether an operation is a change on some map.
+abbrev pub may_change : Op → Bool
+may_change (Put k v) = true
+may_change (Take k) = true
+may_change (Get k) = false
+may_change (PutIf k expected v) = true
+
+-- For an operation that waits: its reply, and its undoing if it may change the map.
+abbrev pub owed_for : Op → ℕ
+owed_for (Put k v) = 2
+owed_for (Take k) = 2
+owed_for (Get k) = 1
+owed_for (PutIf k expected v) = 2
+
+-- For a number of standing changes and a phase.
+abbrev pub owed_in : ℕ → Phase → ℕ
+owed_in s Closed = 0
+owed_in s Opened = 2 + s
+owed_in s (Waiting op) = 2 + s + owed_for op
+owed_in s (LeavingTo n) = 3 + s
+owed_in s LeavingToEnd = 1 + s
+
+-- For a seat.
+abbrev pub owed_by : Option Seat → ℕ
+owed_by None = 0
+owed_by (Some s) = owed_in s.standing s.phase
+
+-- The sum over all callers, numbered from 0.
+abbrev pub owed : ℕ → List Entry → ℕ
+owed callers h = sum_by (λ c. owed_by (seat_after (own c h))) (range_with_len 0 callers)
+
+-- The room that a step reserves in the history before it does anything: for its entry and for what
+-- its caller owes more after it. The entries of all other steps are owed already.
+abbrev pub reserved : Step → ℕ
+reserved (Begin c) = 3
+reserved (Ask c op) = 1 + owed_for op
+reserved (Save c) = 1
+reserved (Back c n) = 2
+reserved _ = 0

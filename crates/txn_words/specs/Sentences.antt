@@ -1,0 +1,30 @@
+-- The sentence of each refusal, for a person to read.
+use Rattle.std.specs.Prelude.{ℕ, List, codes}
+use Rattle.txn_words.specs.declared.refusal.Refusal.{Refusal}
+use Rattle.txn_words.specs.declared.refusal.Refusal.TheVariants.{BadKey, NoSuchCaller, NotOpen, AlreadyOpen, OperationUnfinished, Leaving, Unplaced, NothingToSeek, NoSuchLevel, NoSuchBucket, ParentMissing, NoSuchHelper, HelperOutOfOrder, NoMemory, OutOfStep, StampsUsedUp, CallersMissing, NoThread, StaleWord, NotJson, WrongShape, Limit}
+
+-- The sentence of a refusal.
+abbrev pub sentence_of : Refusal → List ℕ
+sentence_of BadKey = codes "the key is 2^63 or more, and the map takes half keys only"
+sentence_of NoSuchCaller = codes "there is no caller of this number"
+sentence_of NotOpen = codes "the caller has no open transaction"
+sentence_of AlreadyOpen = codes "the caller has an open transaction already"
+sentence_of OperationUnfinished = codes "an operation of the caller has no reply yet"
+sentence_of Leaving = codes "the caller is taking its changes back"
+sentence_of Unplaced = codes "there is no cursor to act on"
+sentence_of NothingToSeek =
+    codes "there is neither an operation to seek for nor a change to take back"
+sentence_of NoSuchLevel = codes "the transaction has no savepoint of this number"
+sentence_of NoSuchBucket = codes "the bucket is not below the size of the table"
+sentence_of ParentMissing = codes "the parent of the bucket is not initialised"
+sentence_of NoSuchHelper = codes "there is no helper of this number"
+sentence_of HelperOutOfOrder = codes "the helper has no cursor to link at, or no dummy to store"
+sentence_of NoMemory = codes "memory was refused"
+sentence_of OutOfStep = codes "the map answered what the state of the caller excludes"
+sentence_of StampsUsedUp = codes "no stamp is left for another node"
+sentence_of CallersMissing = codes "the map has not one caller of each number"
+sentence_of NoThread = codes "a thread could not be started"
+sentence_of StaleWord = codes "the word of a stripe names a transaction that is over"
+sentence_of NotJson = codes "the file is not JSON"
+sentence_of WrongShape = codes "the file has a piece of another shape than it should have"
+sentence_of Limit = codes "the file, or a number in it, is out of range"

@@ -1,0 +1,46 @@
+-- Limits as numbers.
+use Rattle.std.specs.Prelude.{ℕ, ◌^◌, Bool, false, ◌&&◌, nat_le, Result, Ok, Err, if◌then◌else◌}
+use Rattle.std.specs.Int.{is_power_of_two}
+use Rattle.txn_words.specs.declared.refusal.Refusal.{Refusal}
+use Rattle.txn_words.specs.declared.refusal.Refusal.TheVariants.{Limit}
+
+-- The numbers of callers, stripes and buckets, of which the last is a maximum; and whether only
+-- half keys, those below 2^63, are taken.
+pub record Sizes : Type 0 where
+  pub callers : ℕ
+  pub stripes : ℕ
+  pub buckets : ℕ
+  pub half : Bool
+
+-- Whether a key is refused: only half keys are taken, and it is 2^63 or more.
+abbrev pub is_bad_key : Bool → ℕ → Bool
+is_bad_key half key = half && nat_le (2 ^ 63) key
+
+abbrev is_within : ℕ → ℕ → ℕ → Bool
+is_within low high n = nat_le low n && nat_le n high
+
+-- The greatest number of callers.
+abbrev pub max_callers : ℕ
+max_callers = 64
+
+-- The greatest number of stripes.
+abbrev pub max_stripes : ℕ
+max_stripes = 4096
+
+-- The greatest number of buckets.
+abbrev pub max_buckets : ℕ
+max_buckets = 65536
+
+-- At least one caller and one stripe, a power of two of at least 2 buckets, and no more of each
+-- than the greatest number.
+abbrev pub are_limits : ℕ → ℕ → ℕ → Bool
+are_limits callers stripes buckets =
+    is_within 1 max_callers callers && is_within 1 max_stripes stripes
+    && is_within 2 max_buckets buckets && is_power_of_two buckets
+
+-- The limits of these numbers, if they are in range. They take every key.
+abbrev pub limits_of : ℕ → ℕ → ℕ → Result Sizes Refusal
+limits_of callers stripes buckets =
+    if are_limits callers stripes buckets
+    then Ok (record { callers = callers; stripes = stripes; buckets = buckets; half = false })
+    else Err Limit

@@ -1,0 +1,131 @@
+//! The answers to steps, and the text of an answer as a report prints it. A step and its answer
+//! together determine the history's entry of the step.
+ghost use Rattle.std.specs.Prelude.{◌≡◌, ◌++◌, IfOk, string_bytes};
+ghost use Rattle.txn_words.specs.Text.{rest_text, text_of};
+
+use crate::op::Reply;
+use crate::refusal::Refusal;
+use std::alloc::{AllocError, Global};
+use std::fmt;
+
+/// The answer to a step.
+#[derive(Clone, Copy, Debug, PartialEq, Eq)]
+pub enum Answer {
+    /// The transaction of this number began.
+    Began(u64),
+    /// The operation is asked for.
+    Asked,
+    /// The stripe is held by this caller; the transaction aborts.
+    Busy(u64),
+    /// There is a cursor now.
+    Placed,
+    /// The cursor no longer fits and is dropped.
+    Again,
+    /// The operation was done, with this reply.
+    Done(Reply),
+    /// The newest change is taken back.
+    Undone,
+    /// The caller is back at this level.
+    Returned(u64),
+    /// The transaction is over, with nothing left of it.
+    Aborted,
+    /// The savepoint of this number is set.
+    Saved(u64),
+    /// The caller takes changes back from here.
+    Leaving,
+    /// The transaction is committed, with this commit number.
+    Committed(u64),
+    /// The first marked node is unlinked.
+    Swept,
+    /// No marked node is linked.
+    Clean,
+    /// The bucket was initialised before.
+    Ready,
+    /// The bucket's dummy was linked before.
+    Present,
+    /// The bucket's dummy is linked.
+    Linked,
+    /// The bucket is initialised.
+    Stored,
+    /// The size is this one, not the one named.
+    Moved(u64),
+    /// The size is the largest one allowed.
+    AtLimit,
+    /// There are too few keys to double.
+    Light,
+    /// The size is doubled to this one.
+    Doubled(u64),
+    /// The step was refused and changed nothing.
+    Refused(Refusal),
+}
+
+/// The part of an answer's text after its words.
+enum Rest {
+    Nothing,
+    Number(u64),
+    Refusal(Refusal),
+}
+
+impl Answer {
+    /// The words with which an answer's text begins, and the rest of the text.
+    fn parts(&self) -> (&'static str, Rest)
+        ensures { text_of self.now ≡ result.0.now ++ rest_text result.1 }
+    {
+        match *self {
+            Answer::Began(txn) => ("began", Rest::Number(txn)),
+            Answer::Asked => ("asked", Rest::Nothing),
+            Answer::Busy(holder) => ("busy", Rest::Number(holder)),
+            Answer::Placed => ("placed", Rest::Nothing),
+            Answer::Again => ("again", Rest::Nothing),
+            Answer::Done(None) => ("done none", Rest::Nothing),
+            Answer::Done(Some(value)) => ("done", Rest::Number(value)),
+            Answer::Undone => ("undone", Rest::Nothing),
+            Answer::Returned(level) => ("returned", Rest::Number(level)),
+            Answer::Aborted => ("aborted", Rest::Nothing),
+            Answer::Saved(level) => ("saved", Rest::Number(level)),
+            Answer::Leaving => ("leaving", Rest::Nothing),
+            Answer::Committed(number) => ("committed", Rest::Number(number)),
+            Answer::Swept => ("swept", Rest::Nothing),
+            Answer::Clean => ("clean", Rest::Nothing),
+            Answer::Ready => ("ready", Rest::Nothing),
+            Answer::Present => ("present", Rest::Nothing),
+            Answer::Linked => ("linked", Rest::Nothing),
+            Answer::Stored => ("stored", Rest::Nothing),
+            Answer::Moved(size) => ("moved", Rest::Number(size)),
+            Answer::AtLimit => ("at limit", Rest::Nothing),
+            Answer::Light => ("light", Rest::Nothing),
+            Answer::Doubled(size) => ("doubled", Rest::Number(size)),
+            Answer::Refused(refusal) => ("refused", Rest::Refusal(refusal)),
+        }
+    }
+}
+
+impl fmt::Display for Answer {
+    ghost use Rattle.std.specs.Prelude.{Some};
+
+    ghost output = { λ a. Some (text_of a) };
+
+    fn fmt<W: fmt::Write>(&self, f: &mut fmt::Formatter<W>) -> fmt::Result {
+        let (words, rest) = self.parts();
+        match rest {
+            Rest::Nothing => write!(f, "{words}"),
+            Rest::Number(number) => write!(f, "{words} {number}"),
+            Rest::Refusal(refusal) => write!(f, "{words} {refusal}"),
+        }
+    }
+}
+
+/// The text of an answer, without a line feed.
+///
+/// # Errors
+///
+/// `AllocError` if memory is refused.
+///
+/// # Cost
+///
+/// Time and memory in proportion to the text's length.
+pub fn answer_text(alloc: Global, answer: &Answer) -> Result<String, AllocError>
+    ensures { IfOk result (λ text. string_bytes text ≡ text_of answer.now) }
+{
+    answer.to_string(alloc)
+}

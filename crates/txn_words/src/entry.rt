@@ -1,0 +1,53 @@
+//! The entries of a history, one for each line of a history file. The meaning of a list of them is
+//! in `specs/`.
+ghost use Rattle.std.specs.Prelude.{◌≡◌};
+ghost use Rattle.txn_words.specs.Kinds.{caller_of};
+
+use crate::op::{Op, Reply};
+
+/// One line of a history. The first number of each is its caller; the entry belongs to the
+/// transaction that its caller began last.
+#[derive(Clone, Copy, Debug, PartialEq, Eq)]
+pub enum Entry {
+    /// A transaction began; the second number is the transaction's, counted from 1 over all
+    /// callers.
+    Began(u64, u64),
+    /// An operation was asked for: the stripe of its key belongs to the caller from now on.
+    Asked(u64, Op),
+    /// The operation that was asked for has its reply.
+    Did(u64, Reply),
+    /// A savepoint was set.
+    Saved(u64),
+    /// The caller goes back to a level, or, if there is none, aborts its transaction.
+    Leave(u64, Option<u64>),
+    /// The newest change that stood was taken back.
+    Undone(u64),
+    /// The caller is back at a level, and its transaction is open again.
+    Returned(u64, u64),
+    /// The transaction committed; the second number is its commit number, from 1.
+    Committed(u64, u64),
+    /// An operation found its stripe held by the caller named last, and its transaction aborts.
+    Busy(u64, Op, u64),
+    /// All changes are taken back, and the transaction is over.
+    Aborted(u64),
+}
+
+impl Entry {
+    /// The caller whose entry this is.
+    pub fn caller(&self) -> u64
+        ensures { result ≡ caller_of self.now }
+    {
+        match *self {
+            Entry::Began(caller, _)
+            | Entry::Asked(caller, _)
+            | Entry::Did(caller, _)
+            | Entry::Saved(caller)
+            | Entry::Leave(caller, _)
+            | Entry::Undone(caller)
+            | Entry::Returned(caller, _)
+            | Entry::Committed(caller, _)
+            | Entry::Busy(caller, _, _)
+            | Entry::Aborted(caller) => caller,
+        }
+    }
+}

@@ -1,0 +1,41 @@
+//! The words of transactions on a map: operations, steps and their answers, refusals, limits, the
+//! entries of a history, and a caller's seat, with the finite map that an operation is about.
+//!
+//! What a history means is `txn_trace`, which stands on this crate. So a crate that only names
+//! operations, entries or refusals needs none of the laws of histories.
+//!
+//! The functions compute definitions that the crates above share: limits and texts, the entry of a
+//! step with its answer, packed actions, entries and steps, the room that an operation or a step
+//! needs in a history, and a caller's seat. Calls take constant time and no memory unless they say
+//! otherwise.
+#![tactic(auto)]
+
+mod action;
+mod answer;
+mod entry;
+mod holder;
+mod limits;
+mod op;
+mod packed_action;
+mod packed_entry;
+mod packed_step;
+mod refusal;
+mod script;
+mod seat;
+mod small_entry;
+mod step;
+
+pub use action::Action;
+pub use answer::{Answer, answer_text};
+pub use entry::Entry;
+pub use holder::Holder;
+pub use limits::Limits;
+pub use op::{Op, Reply};
+pub use packed_action::PackedAction;
+pub use packed_entry::PackedEntry;
+pub use packed_step::PackedStep;
+pub use refusal::Refusal;
+pub use script::{Script, Scripts};
+pub use seat::{Phase, Seat};
+pub use small_entry::{SmallEntry, Unpacked};
+pub use step::{Step, entry_of};

@@ -1,0 +1,149 @@
+//! The refusals of calls, each with a number and a sentence. The numbers are those of the files and
+//! of the statuses of the C library.
+ghost use Rattle.std.specs.Prelude.{◌≡◌};
+ghost use Rattle.txn_words.specs.Refusals.{number_of, words_of};
+ghost use Rattle.txn_words.specs.Sentences.{sentence_of};
+
+use std::alloc::AllocError;
+use std::error::Error;
+use std::fmt;
+
+/// The reason why a call was refused. Each has a number, by which answers and programs name it;
+/// `Display` writes the number, as files and traces need it. `text` is for a person to read.
+#[derive(Clone, Copy, Debug, PartialEq, Eq)]
+pub enum Refusal {
+    /// 1: the key is 2^63 or more, and the limits take only half keys.
+    BadKey,
+    /// 2: the caller's number is not below the number of callers.
+    NoSuchCaller,
+    /// 3: the caller has no transaction.
+    NotOpen,
+    /// 4: the caller has a transaction already.
+    AlreadyOpen,
+    /// 5: an operation that was asked for has no reply yet.
+    OperationUnfinished,
+    /// 6: the caller is taking changes back.
+    Leaving,
+    /// 7: there is no cursor to act on.
+    Unplaced,
+    /// 8: there is nothing to seek: no operation, and no change above the level.
+    NothingToSeek,
+    /// 9: the level is above the number of savepoints.
+    NoSuchLevel,
+    /// 10: the bucket is not below the table's size.
+    NoSuchBucket,
+    /// 11: the bucket's parent is not initialised.
+    ParentMissing,
+    /// 12: the helper's number is not below the number of callers.
+    NoSuchHelper,
+    /// 13: the helper has no cursor to link at, or no dummy to store.
+    HelperOutOfOrder,
+    /// 14: memory was refused.
+    NoMemory,
+    /// 15: the core's answer is impossible in the state of the caller's token.
+    OutOfStep,
+    /// 16: no stamp below 2^64 - 1 is left.
+    StampsUsedUp,
+    /// 17: the map was closed without one caller of each number.
+    CallersMissing,
+    /// 18: a worker could not be started.
+    NoThread,
+    /// 19: the word of a stripe tells something that no longer holds.
+    StaleWord,
+    /// 20: a file is not JSON.
+    NotJson,
+    /// 21: a file, or a part of it, does not have the shape that it should have.
+    WrongShape,
+    /// 22: a file, or one of its numbers, is out of range.
+    Limit,
+}
+
+impl fmt::Display for Refusal {
+    ghost use Rattle.std.specs.Prelude.{Some};
+
+    ghost output = { λ refusal. Some (words_of refusal) };
+
+    fn fmt<W: fmt::Write>(&self, f: &mut fmt::Formatter<W>) -> fmt::Result {
+        write!(f, "{}", self.number())
+    }
+}
+
+impl Error for Refusal {}
+
+impl Refusal {
+    /// The refusal's number, from 1 to 22.
+    pub fn number(self) -> u64
+        ensures { result ≡ number_of self }
+    {
+        match self {
+            Refusal::BadKey => 1,
+            Refusal::NoSuchCaller => 2,
+            Refusal::NotOpen => 3,
+            Refusal::AlreadyOpen => 4,
+            Refusal::OperationUnfinished => 5,
+            Refusal::Leaving => 6,
+            Refusal::Unplaced => 7,
+            Refusal::NothingToSeek => 8,
+            Refusal::NoSuchLevel => 9,
+            Refusal::NoSuchBucket => 10,
+            Refusal::ParentMissing => 11,
+            Refusal::NoSuchHelper => 12,
+            Refusal::HelperOutOfOrder => 13,
+            Refusal::NoMemory => 14,
+            Refusal::OutOfStep => 15,
+            Refusal::StampsUsedUp => 16,
+            Refusal::CallersMissing => 17,
+            Refusal::NoThread => 18,
+            Refusal::StaleWord => 19,
+            Refusal::NotJson => 20,
+            Refusal::WrongShape => 21,
+            Refusal::Limit => 22,
+        }
+    }
+
+    /// The refusal as a sentence in English, without a capital letter at the front and without a
+    /// full stop, as the `Display` of most errors.
+    pub fn text(self) -> &'static str
+        ensures { result.now ≡ sentence_of self }
+    {
+        match self {
+            Refusal::BadKey => "the key is 2^63 or more, and the map takes half keys only",
+            Refusal::NoSuchCaller => "there is no caller of this number",
+            Refusal::NotOpen => "the caller has no open transaction",
+            Refusal::AlreadyOpen => "the caller has an open transaction already",
+            Refusal::OperationUnfinished => "an operation of the caller has no reply yet",
+            Refusal::Leaving => "the caller is taking its changes back",
+            Refusal::Unplaced => "there is no cursor to act on",
+            Refusal::NothingToSeek => {
+                "there is neither an operation to seek for nor a change to take back"
+            }
+            Refusal::NoSuchLevel => "the transaction has no savepoint of this number",
+            Refusal::NoSuchBucket => "the bucket is not below the size of the table",
+            Refusal::ParentMissing => "the parent of the bucket is not initialised",
+            Refusal::NoSuchHelper => "there is no helper of this number",
+            Refusal::HelperOutOfOrder => {
+                "the helper has no cursor to link at, or no dummy to store"
+            }
+            Refusal::NoMemory => "memory was refused",
+            Refusal::OutOfStep => "the map answered what the state of the caller excludes",
+            Refusal::StampsUsedUp => "no stamp is left for another node",
+            Refusal::CallersMissing => "the map has not one caller of each number",
+            Refusal::NoThread => "a thread could not be started",
+            Refusal::StaleWord => "the word of a stripe names a transaction that is over",
+            Refusal::NotJson => "the file is not JSON",
+            Refusal::WrongShape => "the file has a piece of another shape than it should have",
+            Refusal::Limit => "the file, or a number in it, is out of range",
+        }
+    }
+}
+
+/// `NoMemory`, so that `?` converts an allocation error.
+impl From<AllocError> for Refusal {
+    ghost use Rattle.txn_words.specs.declared.refusal.Refusal.TheVariants.{NoMemory};
+
+    ghost from_gives = { λ _ refusal. refusal ≡ NoMemory };
+
+    fn from(_: AllocError) -> Refusal {
+        Refusal::NoMemory
+    }
+}

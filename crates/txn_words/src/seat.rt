@@ -1,0 +1,324 @@
+//! The seat of a caller: the state of the rule of shape after the caller's own entries, which
+//! decides most refusals of its next step.
+//!
+//! The tests of the seat are compiled into each step (`inline(always)`), where the kind of step is
+//! known, so that most of them take no instruction.
+ghost use Rattle.std.specs.Prelude.{◌≡◌, ℕ, ◌+◌, ◌-◌, ◌<◌, ◌≤◌, ◌^◌, true, false, is_some, length, slice_get, slice_index, Some, OnOk, OnErr};
+ghost use Rattle.txn_words.specs.declared.seat.Phase.TheVariants.{Opened};
+ghost use Rattle.txn_words.specs.Shape.{row, capacity, closed_seat};
+ghost use Rattle.txn_words.specs.Seats.{first_of, has_job, has_target, is_saved, refusal_in, unready_tests};
+ghost use Rattle.txn_words.specs.Owed.{owed_in};
+
+use crate::entry::Entry;
+use crate::limits::Limits;
+use crate::op::{Op, Reply};
+use crate::refusal::Refusal;
+use crate::step::Step;
+use std::alloc::{AllocError, Global};
+use std::marker::Model;
+
+/// The state of a caller in the rule of shape, which says for each phase which entries may follow.
+#[derive(Clone, Copy, Debug, PartialEq, Eq)]
+pub enum Phase {
+    /// It has no transaction.
+    Closed,
+    /// Its transaction is open, with nothing unfinished.
+    Opened,
+    /// An operation was asked for and has no reply yet.
+    Waiting(Op),
+    /// It takes changes back, to this level.
+    LeavingTo(u64),
+    /// It takes all changes back, and then its transaction is over.
+    LeavingToEnd,
+}
+
+/// A caller's seat: its phase, how many of its changes stand, and how many stood at each savepoint.
+///
+/// A contract sees it as two things: `seat`, the seat of the definitions, in which level 0 is noted
+/// too, with no change; and `room`, the number of further `Saved` entries that it has memory for.
+#[derive(Drop)]
+pub struct Seat {
+    phase: Phase,
+    standing: u64,
+    savepoints: Vec<u64>,
+}
+
+impl Model for Seat {
+    ghost use Rattle.std.specs.Prelude.{◌-◌, ◌∷◌, vec_len, vec_capacity};
+    ghost use Rattle.txn_words.specs.Shape.{RoomySeat};
+
+    ghost Value = { RoomySeat };
+
+    ghost view = { λ s. record {
+      seat = record { phase = s.phase; standing = s.standing; kept = 0 ∷ s.savepoints.items };
+      room = vec_capacity s.savepoints - vec_len s.savepoints;
+    } };
+}
+
+impl Seat {
+    /// The seat of a caller without a transaction.
+    pub fn new(alloc: Global) -> Seat
+        ensures { result.seat ≡ closed_seat }
+    {
+        Seat {
+            phase: Phase::Closed,
+            standing: 0,
+            savepoints: Vec::new(alloc),
+        }
+    }
+
+    /// Its phase.
+    pub fn phase(&self) -> Phase
+        ensures { result ≡ self.now.seat.phase }
+    {
+        self.phase
+    }
+
+    /// How many of its changes stand.
+    pub fn standing(&self) -> u64
+        ensures { result ≡ self.now.seat.standing }
+    {
+        self.standing
+    }
+
+    /// How many savepoints there are.
+    pub fn levels(&self) -> u64
+        ensures { length self.now.seat.kept ≡ result + 1 }
+    {
+        self.savepoints.len() as u64
+    }
+
+    /// How many changes stood at a level, which is 0 at level 0. `None` if there is no such level.
+    pub fn kept(&self, level: u64) -> Option<u64>
+        ensures { result ≡ slice_get self.now.seat.kept level }
+    {
+        match level.checked_sub(1) {
+            Some(savepoint) => self.savepoints.get(savepoint as usize).copied(),
+            None => Some(0),
+        }
+    }
+
+    /// Whether it takes changes back and one is left to take back.
+    pub fn has_job(&self) -> bool
+        ensures { result ≡ has_job self.now.seat }
+    {
+        match self.phase {
+            Phase::LeavingTo(level) => self.kept_at(level) < self.standing,
+            Phase::LeavingToEnd => 0 < self.standing,
+            _ => false,
+        }
+    }
+
+    /// Whether there is something to seek: an operation that waits, or a change to take back.
+    pub fn has_target(&self) -> bool
+        ensures { result ≡ has_target self.now.seat }
+    {
+        matches!(self.phase, Phase::Waiting(_)) || self.has_job()
+    }
+
+    /// The refusal of a step of its caller, if the seat decides it. The limits say which keys are
+    /// taken.
+    #[inline(always)]
+    pub fn refusal(&self, limits: Limits, step: Step) -> Option<Refusal>
+        ensures { result ≡ refusal_in limits.half self.now.seat step }
+    {
+        match step {
+            Step::Begin(_) => match self.phase {
+                Phase::Closed => None,
+                Phase::Opened | Phase::Waiting(_) => Some(Refusal::AlreadyOpen),
+                Phase::LeavingTo(_) | Phase::LeavingToEnd => Some(Refusal::Leaving),
+            },
+            Step::Ask(_, op) => {
+                let is_bad = limits.is_bad_key(op.key());
+                self.unready().or(is_bad.then_some(Refusal::BadKey))
+            }
+            Step::Seek(_) => match self.phase {
+                Phase::Closed => Some(Refusal::NotOpen),
+                _ => (!self.has_target()).then_some(Refusal::NothingToSeek),
+            },
+            Step::Act(_) => match self.phase {
+                Phase::Closed => Some(Refusal::NotOpen),
+                Phase::Opened => Some(Refusal::NothingToSeek),
+                Phase::Waiting(_) | Phase::LeavingTo(_) | Phase::LeavingToEnd => None,
+            },
+            Step::Save(_) | Step::Commit(_) => self.unready(),
+            Step::Back(_, level) => {
+                let is_above = self.levels() < level;
+                self.unready().or(is_above.then_some(Refusal::NoSuchLevel))
+            }
+            Step::Abort(_) => match self.phase {
+                Phase::Closed => Some(Refusal::NotOpen),
+                Phase::Opened | Phase::Waiting(_) => None,
+                Phase::LeavingTo(_) | Phase::LeavingToEnd => Some(Refusal::Leaving),
+            },
+            Step::Sweep
+            | Step::InitSeek(..)
+            | Step::InitLink(_)
+            | Step::InitStore(_)
+            | Step::Double(_) => None,
+        }
+    }
+
+    /// The refusal of a step that only an open caller with nothing unfinished may take.
+    fn unready(&self) -> Option<Refusal>
+        ensures { result ≡ first_of (unready_tests self.now.seat.phase) }
+    {
+        match self.phase {
+            Phase::Closed => Some(Refusal::NotOpen),
+            Phase::Opened => None,
+            Phase::Waiting(_) => Some(Refusal::OperationUnfinished),
+            Phase::LeavingTo(_) | Phase::LeavingToEnd => Some(Refusal::Leaving),
+        }
+    }
+
+    /// How many changes stood at a level, or 0 if there is no such level.
+    fn kept_at(&self, level: u64) -> u64
+        ensures { result ≡ slice_index self.now.seat.kept level }
+    {
+        self.kept(level).unwrap_or(0)
+    }
+
+    /// The number of entries that its caller may add without a new reservation: its reply, the
+    /// undoing of each change that stands, and the end.
+    #[inline(always)]
+    pub fn owed(&self) -> u64
+        requires { owed_in self.now.seat.standing self.now.seat.phase < 2 ^ 64 }
+        ensures { result ≡ owed_in self.now.seat.standing self.now.seat.phase }
+    {
+        match self.phase {
+            Phase::Closed => 0,
+            Phase::Opened => 2 + self.standing,
+            Phase::Waiting(op) => 2 + self.standing + op.owed(),
+            Phase::LeavingTo(_) => 3 + self.standing,
+            Phase::LeavingToEnd => 1 + self.standing,
+        }
+    }
+
+    /// Makes room for one more savepoint, if there is none; neither the seat nor the room that
+    /// there was changes.
+    ///
+    /// # Errors
+    ///
+    /// `AllocError` if there is no room and memory is refused.
+    ///
+    /// # Cost
+    ///
+    /// Amortized constant time; takes memory only if there is no room.
+    pub fn reserve_level(&mut self) -> Result<(), AllocError>
+        ensures seat { self.new.seat ≡ self.old.seat }
+        ensures room { self.old.room ≤ self.new.room }
+        ensures ok { OnOk result (0 < self.new.room) }
+        ensures err { OnErr result (self.old.room ≡ 0) }
+    {
+        self.savepoints.reserve(1)
+    }
+
+    /// Whether an entry may come next: the rule of shape has a row for it here.
+    #[inline(always)]
+    pub fn allows(&self, entry: &Entry) -> bool
+        ensures { result ≡ is_some (row self.now.seat self.now.seat.phase entry.now) }
+    {
+        match self.phase {
+            Phase::Closed => matches!(entry, Entry::Began(..)),
+            Phase::Opened => self.allows_opened(entry),
+            Phase::Waiting(_) => matches!(entry, Entry::Did(..) | Entry::Leave(_, None)),
+            Phase::LeavingTo(level) => match *entry {
+                Entry::Undone(_) => self.has_job(),
+                Entry::Returned(_, to) => level == to && self.kept_at(level) == self.standing,
+                _ => false,
+            },
+            Phase::LeavingToEnd => match *entry {
+                Entry::Undone(_) => self.has_job(),
+                Entry::Aborted(_) => self.standing == 0,
+                _ => false,
+            },
+        }
+    }
+
+    /// Whether an entry may come next in an open transaction with nothing unfinished.
+    fn allows_opened(&self, entry: &Entry) -> bool
+        ensures { result ≡ is_some (row self.now.seat Opened entry.now) }
+    {
+        match *entry {
+            Entry::Asked(..)
+            | Entry::Busy(..)
+            | Entry::Saved(_)
+            | Entry::Leave(_, None)
+            | Entry::Committed(..) => true,
+            Entry::Leave(_, Some(level)) => level <= self.levels(),
+            _ => false,
+        }
+    }
+
+    /// Moves on by an entry if it may come next, and says whether it may; if not, nothing changes.
+    /// A `Saved` takes one of the room, and a savepoint that is dropped gives one back.
+    ///
+    /// # Cost
+    ///
+    /// Amortized constant time, since it may drop savepoints; takes no memory.
+    #[inline(always)]
+    pub fn enter(&mut self, entry: Entry) -> bool
+        requires standing { self.old.seat.standing < 2 ^ 64 - 1 }
+        requires room { is_saved entry ≡ true → 0 < self.old.room }
+        ensures is_allowed { result ≡ is_some (row self.old.seat self.old.seat.phase entry) }
+        ensures seat { result ≡ true →
+            row self.old.seat self.old.seat.phase entry ≡ Some self.new.seat }
+        ensures room { capacity self.new ≡ capacity self.old }
+        ensures same { result ≡ false → self.new ≡ self.old }
+    {
+        if !self.allows(&entry) {
+            return false;
+        }
+        match entry {
+            Entry::Began(..) => self.open(),
+            Entry::Asked(_, op) => self.phase = Phase::Waiting(op),
+            Entry::Did(_, reply) => self.reply(reply),
+            Entry::Saved(_) => self.savepoints.push_reserved(self.standing),
+            Entry::Leave(_, Some(level)) => self.phase = Phase::LeavingTo(level),
+            Entry::Leave(_, None) | Entry::Busy(..) => self.phase = Phase::LeavingToEnd,
+            Entry::Undone(_) => self.standing -= 1,
+            Entry::Returned(_, level) => {
+                self.phase = Phase::Opened;
+                self.savepoints.truncate(level as usize);
+            }
+            Entry::Committed(..) | Entry::Aborted(_) => self.close(),
+        }
+        true
+    }
+
+    /// The operation that waits has its reply.
+    #[inline(always)]
+    fn reply(&mut self, reply: Reply)
+        requires { self.old.seat.standing < 2 ^ 64 - 1 }
+        ensures seat { (c : ℕ) →
+            is_some (row self.old.seat self.old.seat.phase (Entry.Did c reply)) ≡ true
+            → row self.old.seat self.old.seat.phase (Entry.Did c reply) ≡ Some self.new.seat }
+        ensures room { capacity self.new ≡ capacity self.old }
+    {
+        if let Phase::Waiting(op) = self.phase {
+            if op.changes(reply) {
+                self.standing += 1;
+            }
+            self.phase = Phase::Opened;
+        }
+    }
+
+    /// The transaction is over.
+    fn close(&mut self)
+        ensures seat { self.new.seat ≡ closed_seat }
+        ensures room { capacity self.new ≡ capacity self.old }
+    {
+        self.phase = Phase::Closed;
+        self.standing = 0;
+        self.savepoints.clear();
+    }
+
+    /// A transaction begins.
+    fn open(&mut self)
+        ensures seat { self.new.seat ≡ record closed_seat { phase = Opened } }
+        ensures room { capacity self.new ≡ capacity self.old }
+    {
+        self.close();
+        self.phase = Phase::Opened;
+    }
+}

@@ -1,0 +1,135 @@
+//! An entry of a history in 32 bytes, half of an `Entry`, if its callers are below 65,536. Its model
+//! is the entry, so a contract reads a list of small entries as a history.
+ghost use Rattle.std.specs.Prelude.{◌≡◌};
+ghost use Rattle.txn_words.specs.Kinds.{caller_of};
+ghost use Rattle.txn_words.specs.Packed.{holder_part, packed_entry, small_entry};
+
+use crate::entry::Entry;
+use crate::packed_entry::{Kind, OpKind, PackedEntry};
+use std::marker::Model;
+use std::mem::size_of;
+
+/// The callers and the holders of small entries are below this number.
+const CALLERS: u64 = 65_536;
+
+/// An entry in 32 bytes, for who keeps many of few callers, as a core does: a `PackedEntry` takes
+/// 48, with callers of any number. A contract sees it as the entry.
+#[derive(Debug, Drop)]
+pub struct SmallEntry {
+    kind: Kind,
+    op: OpKind,
+    caller: u16,
+    holder: u16,
+    number: u64,
+    value: u64,
+    expected: u64,
+}
+
+const _: () = prove!(size_of::<SmallEntry>() == 32);
+
+impl Model for SmallEntry {
+    ghost use Rattle.txn_words.specs.declared.entry.Entry.{Entry};
+    ghost use Rattle.txn_words.specs.Packed.{packed_entry};
+
+    ghost Value = { Entry };
+
+    ghost view = { λ p. packed_entry p.kind p.op p.caller p.number p.value p.expected p.holder };
+}
+
+impl SmallEntry {
+    /// The entry, packed; none if its caller, or the holder that it names, is 65,536 or more.
+    #[inline(always)]
+    pub fn new(entry: Entry) -> Option<SmallEntry>
+        ensures { result ≡ small_entry entry }
+    {
+        let packed = PackedEntry::new(entry);
+        let holder = holder_part(packed.kind, packed.holder);
+        let is_small = packed.caller < CALLERS && holder < CALLERS;
+        if !is_small {
+            return None;
+        }
+        Some(SmallEntry {
+            kind: packed.kind,
+            op: packed.op,
+            caller: packed.caller as u16,
+            holder: holder as u16,
+            number: packed.number,
+            value: packed.value,
+            expected: packed.expected,
+        })
+    }
+
+    /// The entry.
+    #[inline(always)]
+    pub fn entry(&self) -> Entry
+        ensures { result ≡ self.now }
+    {
+        let packed = PackedEntry {
+            kind: self.kind,
+            op: self.op,
+            caller: u64::from(self.caller),
+            number: self.number,
+            value: self.value,
+            expected: self.expected,
+            holder: u64::from(self.holder),
+        };
+        packed.entry()
+    }
+
+    /// The caller whose entry this is.
+    pub fn caller(&self) -> u64
+        ensures { result ≡ caller_of self.now }
+    {
+        u64::from(self.caller)
+    }
+}
+
+/// The holder of packed fields of this kind, or 0 if the kind names none.
+fn holder_part(kind: Kind, holder: u64) -> u64
+    ensures { result ≡ holder_part kind holder }
+{
+    match kind {
+        Kind::Busy => holder,
+        _ => 0,
+    }
+}
+
+/// The entries of a list of small ones, in their order.
+#[derive(Drop)]
+pub struct Unpacked<'a> {
+    rest: &'a [SmallEntry],
+}
+
+impl<'a> Model for Unpacked<'a> {
+    ghost use Rattle.std.specs.Prelude.{List};
+    ghost use Rattle.txn_words.specs.declared.entry.Entry.{Entry};
+
+    ghost Value = { List Entry };
+
+    ghost view = { λ s. s.rest.now };
+}
+
+impl<'a> Unpacked<'a> {
+    /// The entries of this list.
+    pub fn new(list: &'a [SmallEntry]) -> Unpacked<'a>
+        ensures { result ≡ list.now }
+    {
+        Unpacked { rest: list }
+    }
+}
+
+impl<'a> Iterator for Unpacked<'a> {
+    ghost use Rattle.std.specs.Iterator.{YieldsFirst, item_count};
+
+    type Item = Entry;
+
+    ghost next_gives = { YieldsFirst (λ s. s) };
+
+    ghost remaining = { item_count (λ s. s) };
+
+    fn next(&mut self) -> Option<Entry> {
+        let (first, others) = self.rest.split_first()?;
+        self.rest = others;
+        Some(first.entry())
+    }
+}

@@ -1,0 +1,134 @@
+//! The steps of callers, of helpers and of the table, and the entries that they add to a history. A
+//! step and its answer determine the entry.
+ghost use Rattle.std.specs.Prelude.{◌≡◌, option_to_list};
+ghost use Rattle.txn_words.specs.Entries.{entries_of};
+ghost use Rattle.txn_words.specs.Owed.{reserved};
+
+use crate::answer::Answer;
+use crate::entry::Entry;
+use crate::op::Op;
+
+/// One step: of a caller or a helper, which is named by its number, or of the table.
+///
+/// Each kind lists the `Refusal`s with which a core answers it, in the order of their tests: the
+/// first that fits is the answer.
+#[derive(Clone, Copy, Debug, PartialEq, Eq)]
+pub enum Step {
+    /// Begins a transaction.
+    ///
+    /// Refused, in this order: `NoSuchCaller`, `Leaving`, `AlreadyOpen`, `NoMemory`.
+    Begin(u64),
+    /// Asks for an operation: locks its stripe, and reserves all that it and its undoing need.
+    ///
+    /// Refused, in this order: `NoSuchCaller`, `NotOpen`, `Leaving`, `OperationUnfinished`,
+    /// `BadKey`; then `NoMemory` or, if the operation takes a node, `StampsUsedUp`.
+    Ask(u64, Op),
+    /// Seeks the position of the operation that was asked for, or of the newest change to take
+    /// back.
+    ///
+    /// Refused, in this order: `NoSuchCaller`, `NotOpen`, `NothingToSeek`.
+    Seek(u64),
+    /// Acts at the position that was sought, or ends the undoing.
+    ///
+    /// Refused, in this order: `NoSuchCaller`, `NotOpen`, `NothingToSeek`, `Unplaced`.
+    Act(u64),
+    /// Sets a savepoint.
+    ///
+    /// Refused, in this order: `NoSuchCaller`, `NotOpen`, `Leaving`, `OperationUnfinished`,
+    /// `NoMemory`.
+    Save(u64),
+    /// Goes back to a level, 0 or the number of a savepoint: the later changes are taken back from
+    /// here on.
+    ///
+    /// Refused, in this order: `NoSuchCaller`, `NotOpen`, `Leaving`, `OperationUnfinished`,
+    /// `NoSuchLevel`, `NoMemory`.
+    Back(u64, u64),
+    /// Commits the transaction.
+    ///
+    /// Refused, in this order: `NoSuchCaller`, `NotOpen`, `Leaving`, `OperationUnfinished`.
+    Commit(u64),
+    /// Aborts the transaction: from here its changes are taken back.
+    ///
+    /// Refused, in this order: `NoSuchCaller`, `NotOpen`, `Leaving`.
+    Abort(u64),
+    /// Unlinks the first marked node.
+    ///
+    /// Never refused.
+    Sweep,
+    /// A helper seeks the position of a bucket's dummy: the helper, the bucket.
+    ///
+    /// Refused, in this order: `NoSuchHelper`, `NoSuchBucket`, `ParentMissing`.
+    InitSeek(u64, u64),
+    /// A helper links the dummy at the position that it sought.
+    ///
+    /// Refused, in this order: `NoSuchHelper`, `HelperOutOfOrder`; then, if the dummy is not
+    /// linked yet, `StampsUsedUp`, `NoMemory`.
+    InitLink(u64),
+    /// A helper stores its dummy, which initialises the bucket.
+    ///
+    /// Refused, in this order: `NoSuchHelper`, `HelperOutOfOrder`; then, if no bucket of the
+    /// bucket's segment of 64 is stored, `NoMemory`: the helper keeps its dummy.
+    InitStore(u64),
+    /// Doubles the size, if it is still the one named.
+    ///
+    /// Never refused.
+    Double(u64),
+}
+
+impl Step {
+    /// The number of entries for which a core reserves room in its history before it takes the
+    /// step.
+    pub fn entry_room(self) -> u64
+        ensures { result ≡ reserved self }
+    {
+        match self {
+            Step::Begin(_) => 3,
+            Step::Ask(_, op) => 1 + op.owed(),
+            Step::Save(_) => 1,
+            Step::Back(..) => 2,
+            _ => 0,
+        }
+    }
+}
+
+/// The entry that a step with its answer adds to the history, if it adds one.
+#[inline(always)]
+pub fn entry_of(step: Step, answer: Answer) -> Option<Entry>
+    ensures { option_to_list result ≡ entries_of step answer }
+{
+    match step {
+        Step::Begin(caller) => match answer {
+            Answer::Began(txn) => Some(Entry::Began(caller, txn)),
+            _ => None,
+        },
+        Step::Ask(caller, op) => match answer {
+            Answer::Asked => Some(Entry::Asked(caller, op)),
+            Answer::Busy(holder) => Some(Entry::Busy(caller, op, holder)),
+            _ => None,
+        },
+        Step::Act(caller) => match answer {
+            Answer::Done(reply) => Some(Entry::Did(caller, reply)),
+            Answer::Undone => Some(Entry::Undone(caller)),
+            Answer::Returned(level) => Some(Entry::Returned(caller, level)),
+            Answer::Aborted => Some(Entry::Aborted(caller)),
+            _ => None,
+        },
+        Step::Save(caller) => match answer {
+            Answer::Saved(_) => Some(Entry::Saved(caller)),
+            _ => None,
+        },
+        Step::Back(caller, level) => match answer {
+            Answer::Leaving => Some(Entry::Leave(caller, Some(level))),
+            _ => None,
+        },
+        Step::Commit(caller) => match answer {
+            Answer::Committed(number) => Some(Entry::Committed(caller, number)),
+            _ => None,
+        },
+        Step::Abort(caller) => match answer {
+            Answer::Leaving => Some(Entry::Leave(caller, None)),
+            _ => None,
+        },
+        _ => None,
+    }
+}
