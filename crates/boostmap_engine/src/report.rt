@@ -16,16 +16,29 @@ use txn_trace::{Limits, PackedStep};
 /// About how many bytes the line of an answer has. Room for all lines is made at once.
 const ANSWER: usize = 8;
 
+/// After this many steps the memory of those that were taken is given back.
+const BLOCK: usize = 16_384;
+
 /// Takes the steps one after the other on a core whose stripes are not words, and appends the
-/// answer to each to the text, one on each line.
-fn put_answers(text: &mut String, core: &mut Core, steps: &[PackedStep]) -> Result<(), AllocError>
+/// answer to each to the text, one on each line. The steps are turned round first, so that those
+/// that were taken are the end of the vector, whose memory can be given back: the history grows
+/// into the memory of the steps.
+fn put_answers(
+    text: &mut String,
+    core: &mut Core,
+    mut steps: Vec<PackedStep>,
+) -> Result<(), AllocError>
     requires { core.old.words ≡ false }
-    ensures { OnOk result ((answers : List Answer) × Moves core.old steps.now answers core.new
+    ensures { OnOk result ((answers : List Answer) × Moves core.old steps.items answers core.new
         × (string_bytes text.new ≡ string_bytes text.old ++ answers_text answers)) }
 {
-    for step in steps {
+    steps.reverse();
+    while let Some(step) = steps.pop() {
         let answer = core.step(step.step());
         writeln!(text, "{answer}")?;
+        if steps.len() % BLOCK == 0 {
+            steps.shrink_to_fit();
+        }
     }
     Ok(())
 }
@@ -56,8 +69,7 @@ fn put_last(text: &mut String, alloc: Global, core: &Core) -> Result<(), AllocEr
     put_pairs(text, &pairs)
 }
 
-/// The report of a run of these steps on a new core. The steps are dropped before the end of the
-/// report is written.
+/// The report of a run of these steps on a new core.
 fn text_of_run(alloc: Global, limits: Limits, steps: Vec<PackedStep>) -> Result<String, AllocError>
     ensures { IfOk result (λ text. IsReport limits steps.items (string_bytes text)) }
 {
@@ -65,8 +77,7 @@ fn text_of_run(alloc: Global, limits: Limits, steps: Vec<PackedStep>) -> Result<
         return Err(AllocError);
     };
     let mut text = String::with_capacity(alloc, steps.len().saturating_mul(ANSWER))?;
-    put_answers(&mut text, &mut core, &steps)?;
-    drop(steps);
+    put_answers(&mut text, &mut core, steps)?;
     put_last(&mut text, alloc, &core)?;
     Ok(text)
 }
