@@ -19,10 +19,20 @@ const ANSWER: usize = 8;
 /// After this many steps the memory of those that were taken is given back.
 const BLOCK: usize = 16_384;
 
+/// Gives back the memory of steps that were taken, if a block of them was.
+fn give_back(steps: &mut Vec<PackedStep>)
+    ensures { steps.new.items ≡ steps.old.items }
+{
+    if steps.len() % BLOCK == 0 {
+        steps.shrink_to_fit();
+    }
+}
+
 /// Takes the steps one after the other on a core whose stripes are not words, and appends the
-/// answer to each to the text, one on each line. The steps are turned round first, so that those
-/// that were taken are the end of the vector, whose memory can be given back: the history grows
-/// into the memory of the steps.
+/// answer to each to the text, one on each line.
+///
+/// The steps are reversed first, and taken from the end of the vector. So the memory of those that
+/// were taken can be given back while the history grows.
 fn put_answers(
     text: &mut String,
     core: &mut Core,
@@ -36,9 +46,7 @@ fn put_answers(
     while let Some(step) = steps.pop() {
         let answer = core.step(step.step());
         writeln!(text, "{answer}")?;
-        if steps.len() % BLOCK == 0 {
-            steps.shrink_to_fit();
-        }
+        give_back(&mut steps);
     }
     Ok(())
 }
