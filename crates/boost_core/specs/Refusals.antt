@@ -1,7 +1,7 @@
 -- The refusals of each step, in their order.
 pub use Rattle.map_ops.specs.Jobs.{takes_node}
-pub use Rattle.txn_trace.specs.Seats.{is_closed, is_waiting, is_leaving, has_job, has_target}
-pub use Rattle.txn_trace.specs.Seats.{unready_tests, tests_in, first_of, refusal_in}
+pub use Rattle.txn_words.specs.Seats.{is_closed, is_waiting, is_leaving, has_job, has_target}
+pub use Rattle.txn_words.specs.Seats.{unready_tests, tests_in, first_of, refusal_in}
 use Rattle.std.specs.Prelude.{ℕ, ◌^◌, ◌-◌, Bool, true, false, not, ◌==◌, ◌&&◌, ◌||◌, nat_le, IsTrue, is_some, List, [], ◌∷◌, ◌++◌, Option, Some, None}
 use Rattle.txn_words.specs.declared.op.Op.{Op}
 use Rattle.txn_words.specs.declared.step.Step.{Step}
