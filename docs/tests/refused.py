@@ -31,6 +31,7 @@ table_tests map_ops_tests::refused::refused_memory_for_a_link
 table_tests probe_map_tests::refused_memory
 table_tests stripe_part_tests::refused_memory
 striped_tests refused::refused_memory
+striped_tests refused::refused_memory_with_room
 thread_tests lock_tests::a_stripe_is_held_until_its_holder_releases
 """
 # Tests that pass whichever single allocation is refused, or eight in a row, or all from one on.

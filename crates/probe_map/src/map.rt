@@ -44,27 +44,22 @@ impl Model for ProbeMap {
     ghost invariant = { λ m. IsTable m.slots.items m.room m.len m.shift };
 }
 
-/// How many slots a new array has, so that at most half of them have a key at first.
+/// How many slots an array has that has room for these keys: they leave an eighth of them empty.
 fn count_for(keys: usize) -> Option<usize>
     ensures { IfSome result (λ count. keys ≤ most_used count) }
 {
-    keys.checked_mul(2)?.max(4).checked_next_power_of_two()
+    keys.checked_mul(8)?
+        .div_ceil(7)
+        .max(4)
+        .checked_next_power_of_two()
 }
 
-/// An empty map with room for this number of keys.
-fn with_room(alloc: Global, keys: usize) -> Result<ProbeMap, AllocError>
-    ensures empty { IfOk result (λ map. map.content ≡ empty) }
-    ensures room { IfOk result (λ map. keys ≤ map.spare) }
+/// For how many keys a map that grows is made anew, so that at most half of its slots have a key at
+/// first.
+fn grown(len: usize, more: usize) -> Option<usize>
+    ensures { IfSome result (λ keys. len + more ≤ keys) }
 {
-    let Some(count) = count_for(keys) else {
-        return Err(AllocError);
-    };
-    Ok(ProbeMap {
-        slots: vec![in alloc; Slot::Empty; count]?,
-        room: count - count / 8,
-        len: 0,
-        shift: count.leading_zeros().wrapping_add(1),
-    })
+    Some(len.checked_add(more)?.checked_mul(7)? / 4)
 }
 
 /// Puts the keys that have values into an empty map.
@@ -117,6 +112,34 @@ impl ProbeMap {
             len: 0,
             shift: 0,
         }
+    }
+
+    /// An empty map with room for this number of keys.
+    ///
+    /// # Errors
+    ///
+    /// `AllocError` if memory is refused, or if the keys need more slots than a `usize` counts.
+    ///
+    /// # Cost
+    ///
+    /// Time and memory in proportion to the keys; none for 0 keys. The array has fewer than 3 slots
+    /// for each key, or 4 slots.
+    pub fn with_capacity(alloc: Global, keys: usize) -> Result<ProbeMap, AllocError>
+        ensures empty { IfOk result (λ map. map.content ≡ empty) }
+        ensures room { IfOk result (λ map. keys ≤ map.spare) }
+    {
+        if keys == 0 {
+            return Ok(ProbeMap::new(alloc));
+        }
+        let Some(count) = count_for(keys) else {
+            return Err(AllocError);
+        };
+        Ok(ProbeMap {
+            slots: vec![in alloc; Slot::Empty; count]?,
+            room: count - count / 8,
+            len: 0,
+            shift: count.leading_zeros().wrapping_add(1),
+        })
     }
 
     /// The value of a key.
@@ -217,10 +240,10 @@ impl ProbeMap {
         ensures room { OnOk result (more ≤ self.new.spare) }
         ensures err { OnErr result (self.new ≡ self.old) }
     {
-        let Some(keys) = self.len.checked_add(more) else {
+        let Some(keys) = grown(self.len, more) else {
             return Err(AllocError);
         };
-        let mut later = with_room(*self.slots.allocator(), keys)?;
+        let mut later = ProbeMap::with_capacity(*self.slots.allocator(), keys)?;
         put_all(&mut later, &self.slots);
         *self = later;
         Ok(())

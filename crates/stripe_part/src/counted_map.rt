@@ -44,6 +44,17 @@ impl CountedMap {
         }
     }
 
+    /// An empty map with no change to take back, with room for this number of keys and one more,
+    /// as `apply` wants before each change.
+    pub(crate) fn with_capacity(alloc: Global, keys: usize) -> Result<CountedMap, AllocError>
+        ensures { IfOk result (λ map. map ≡ nothing) }
+    {
+        Ok(CountedMap {
+            map: ProbeMap::with_capacity(alloc, keys.saturating_add(1))?,
+            owed: 0,
+        })
+    }
+
     /// Does an operation, as `Part::apply` says.
     #[inline(always)]
     pub(crate) fn apply(&mut self, op: Op) -> Result<Reply, Refusal>

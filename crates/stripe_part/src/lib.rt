@@ -18,13 +18,14 @@
 //! - `len`, `changes` and `pairs` read the part.
 //!
 //! The map and its count of changes are in a box that is made at the first change: an empty part
-//! takes no memory, and a part is one word. The invariant: the map has room for as many keys as
-//! changes are owed. So a key that was taken out can be put back without memory: each operation
-//! that may be a change reserves that room, and a place for a new key, before it changes anything.
+//! takes no memory, unless it is made with room (`with_capacity`), and a part is one word. The
+//! invariant: the map has room for as many keys as changes are owed. So a key that was taken out
+//! can be put back without memory: each operation that may be a change reserves that room, and a
+//! place for a new key, before it changes anything.
 //!
 //! A part grows by itself. `apply` takes amortized constant time, but for keys whose hashes
 //! collide; `take_back`, `settle` and `len` take constant time; `pairs` takes time in proportion to
-//! the keys. Only `apply` and `pairs` take memory.
+//! the keys. Only `with_capacity`, `apply` and `pairs` take memory.
 #![tactic(auto)]
 
 mod change;

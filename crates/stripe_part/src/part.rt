@@ -1,5 +1,5 @@
-//! The public type: a box with the map and the number of its changes, made at the first change.
-//! Until then a part is empty, and the calls answer as on the empty map.
+//! The public type: a box with the map and the number of its changes, made at the first change, or
+//! at the start, for room. Without it a part is empty, and the calls answer as on the empty map.
 ghost use Rattle.std.specs.Prelude.{◌≡◌, ℕ, ◌<◌, true, Option, IfOk, IfErr, OnErr};
 ghost use Rattle.txn_words.specs.Map.{count_of};
 ghost use Rattle.txn_words.specs.Shape.{changes};
@@ -18,7 +18,8 @@ use txn_words::{Op, Refusal, Reply};
 ///
 /// # Cost
 ///
-/// An empty part takes no memory. It takes some at the first change: a box, and the map's array.
+/// An empty part takes no memory, unless it has room from the start (`with_capacity`). It takes
+/// some at the first change: a box, and the map's array.
 #[derive(Drop)]
 pub struct Part {
     inner: Option<Box<CountedMap>>,
@@ -60,6 +61,31 @@ impl Part {
         ensures { result ≡ nothing }
     {
         Part { inner: None }
+    }
+
+    /// An empty part, with no change to take back, that has room for this number of keys: `apply`
+    /// takes no memory while the keys and the changes that are owed are together fewer. So the
+    /// first `keys` keys take none, if each is settled before the next.
+    ///
+    /// # Errors
+    ///
+    /// `AllocError` if memory is refused, or if no memory can have room for the keys.
+    ///
+    /// # Cost
+    ///
+    /// Time and memory in proportion to the keys: a box, and the map's array. With 0 keys it is
+    /// `new`.
+    pub fn with_capacity(alloc: Global, keys: usize) -> Result<Part, AllocError>
+        ensures { IfOk result (λ part. part ≡ nothing) }
+    {
+        if keys == 0 {
+            return Ok(Part::new());
+        }
+        let made = CountedMap::with_capacity(alloc, keys)?;
+        let Ok(inner) = Box::new(alloc, made) else {
+            return Err(AllocError);
+        };
+        Ok(Part { inner: Some(inner) })
     }
 
     /// Does an operation: the reply and the content that it leaves are those of a plain map. If it

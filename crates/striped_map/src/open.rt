@@ -1,8 +1,6 @@
 //! Opening a striped map.
-ghost use Rattle.std.specs.Prelude.{◌≡◌, ℕ, ◌+◌, ◌≤◌, ◌<◌, true, IfOk, IfErr, OnOk, length, vec_len, vec_capacity};
-ghost use Rattle.std.specs.List.{HoldsAt};
-ghost use Rattle.striped_map.specs.Callers.{IsNew};
-ghost use Rattle.striped_map.specs.Hosts.{IsNotOpened, may_open, numbers};
+ghost use Rattle.std.specs.Prelude.{◌≡◌, IfOk, IfErr};
+ghost use Rattle.striped_map.specs.Hosts.{IsNotOpened, IsOpened, may_open};
 
 use crate::caller::Caller;
 use crate::host::Host;
@@ -37,17 +35,37 @@ pub fn open_map(
     stripes: usize,
     callers: usize,
 ) -> Result<(Host, Vec<Caller>), Refusal>
-    ensures within { OnOk result (may_open stripes callers ≡ true) }
-    ensures numbers { IfOk result (λ made. numbers made.0 ≡ callers + 1) }
-    ensures count { IfOk result (λ made. length made.1.items ≡ callers) }
-    ensures each { IfOk result (λ made. (place : ℕ) → place < callers
-        → HoldsAt (IsNew made.0.map.value stripes (place + 1)) made.1.items place) }
+    ensures ok { IfOk result (λ made. IsOpened stripes callers made.0 made.1.items) }
+    ensures err { IfErr result (IsNotOpened stripes callers) }
+{
+    open_map_with_capacity(alloc, stripes, callers, 0)
+}
+
+/// Opens a map as `open_map` does, whose stripes have room for their shares of `keys` keys, rounded
+/// up. So the stripes take no memory for the first `keys` keys, if these are spread evenly over
+/// them, as keys that rise by one are, and each transaction puts at most one key of a stripe.
+///
+/// # Errors
+///
+/// `Limit` if there are no stripes, or more than 4,096 stripes or callers; `NoMemory` if
+/// memory is refused, or if no memory can have room for the keys.
+///
+/// # Cost
+///
+/// Time and memory in proportion to the stripes, the callers and the keys, taken at once.
+pub fn open_map_with_capacity(
+    alloc: Global,
+    stripes: usize,
+    callers: usize,
+    keys: usize,
+) -> Result<(Host, Vec<Caller>), Refusal>
+    ensures ok { IfOk result (λ made. IsOpened stripes callers made.0 made.1.items) }
     ensures err { IfErr result (IsNotOpened stripes callers) }
 {
     if !may_open(stripes, callers) {
         return Err(Refusal::Limit);
     }
-    let Ok((map, mut first)) = StripedMap::new(alloc, stripes) else {
+    let Ok((map, mut first)) = StripedMap::new(alloc, stripes, keys) else {
         return Err(Refusal::NoMemory);
     };
     let Ok(map) = Arc::new(alloc, map) else {

@@ -4,7 +4,7 @@ use crate::calls::{Ask, NEW, Row, Told, Worked, has_left, open, play, play_worke
 use std::alloc::{AllocError, Global};
 use std::process::Abort;
 use std::test::Fail;
-use striped_map::{Caller, open_map};
+use striped_map::{Caller, Host, open_map, open_map_with_capacity};
 use txn_words::{Op, Refusal};
 
 /// How many callers a map of so many stripes and callers has, or none if it is refused as a limit.
@@ -38,6 +38,93 @@ fn stripes_and_callers(rt: HostRuntime) -> Result<(), Fail> {
     for (stripes, callers, is_there) in MAPS {
         let made = callers_in(rt.alloc(), stripes, callers)?;
         assert!(rt; made == is_there.then_some(callers), "{stripes} {callers}");
+    }
+    Ok(())
+}
+
+/// Why there is no map of so many stripes and callers with room for so many keys.
+fn why_not(alloc: Global, stripes: usize, callers: usize, keys: usize) -> Option<Refusal> {
+    open_map_with_capacity(alloc, stripes, callers, keys).err()
+}
+
+/// Stripes, callers and keys, and why there is no such map.
+const ROOMS: [(usize, usize, usize, Option<Refusal>); 11] = [
+    (1, 1, 0, None),
+    (1, 0, 1, None),
+    (3, 1, 2, None),
+    (4096, 4096, 100_000, None),
+    (0, 1, 1, Some(Refusal::Limit)),
+    (1, 4097, 1, Some(Refusal::Limit)),
+    (4097, 1, 1, Some(Refusal::Limit)),
+    (1, 4097, 18_446_744_073_709_551_615, Some(Refusal::Limit)),
+    (1, 1, 18_446_744_073_709_551_615, Some(Refusal::NoMemory)),
+    (1, 1, 9_223_372_036_854_775_807, Some(Refusal::NoMemory)),
+    (4096, 1, 18_446_744_073_709_551_615, Some(Refusal::NoMemory)),
+];
+
+#[test]
+fn room_for_keys(rt: HostRuntime) -> Result<(), Fail> {
+    for (stripes, callers, keys, wanted) in ROOMS {
+        let found = why_not(rt.alloc(), stripes, callers, keys);
+        assert!(rt; found == wanted, "{stripes} {callers} {keys}");
+    }
+    Ok(())
+}
+
+/// A map that has room for a thousand keys, and its caller.
+fn open_roomy(alloc: Global, stripes: usize) -> Result<(Host, Vec<Caller>), Fail> {
+    match open_map_with_capacity(alloc, stripes, 1, 1_000) {
+        Ok(made) => Ok(made),
+        Err(_) => Err("not opened".into()),
+    }
+}
+
+/// A map with no keys.
+const NO_KEYS: [Row; 6] = [
+    (0, Ask::Begin, Told::Done),
+    (0, Ask::Len, Told::Number(0)),
+    (0, Ask::Do(Op::Get(0)), NEW),
+    (0, Ask::Do(Op::Take(999)), NEW),
+    (0, Ask::Do(Op::PutIf(1, Some(0), 1)), NEW),
+    (0, Ask::Abort, Told::Done),
+];
+
+/// Puts a thousand rising keys, each in a transaction of its own, and half as many again in one.
+fn put_a_thousand<R: Abort>(rt: &R, callers: &mut [Caller]) {
+    for key in 0..1_000u64 {
+        let rows = [
+            (0, Ask::Begin, Told::Done),
+            (0, Ask::Do(Op::Put(key, key)), NEW),
+            (0, Ask::Commit, Told::Number(key + 1)),
+        ];
+        play(rt, callers, rows.as_slice());
+    }
+    play(rt, callers, &[(0, Ask::Begin, Told::Done)]);
+    for key in 1_000..1_500u64 {
+        play(rt, callers, &[(0, Ask::Do(Op::Put(key, key)), NEW)]);
+    }
+    play(rt, callers, &[(0, Ask::Commit, Told::Number(1_001))]);
+}
+
+/// Each of these keys with itself as its value.
+fn selves(alloc: Global, keys: u64) -> Result<Vec<(u64, u64)>, AllocError> {
+    let mut pairs = Vec::new(alloc);
+    for key in 0..keys {
+        pairs.push((key, key))?;
+    }
+    Ok(pairs)
+}
+
+/// A map with room for a thousand keys is one with no keys, and takes them and more, on a stripe for
+/// all and on stripes for few or none of them.
+#[test]
+fn a_roomy_map(rt: HostRuntime) -> Result<(), Fail> {
+    let wanted = selves(rt.alloc(), 1_500)?;
+    for stripes in [1, 7, 4096usize] {
+        let (mut host, mut callers) = open_roomy(rt.alloc(), stripes)?;
+        play(&rt, callers.as_mut_slice(), NO_KEYS.as_slice());
+        put_a_thousand(&rt, callers.as_mut_slice());
+        has_left(&rt, &mut host, wanted.as_slice());
     }
     Ok(())
 }

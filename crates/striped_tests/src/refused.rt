@@ -3,7 +3,7 @@ use crate::calls::{Ask, NEW, Row, Told, answer};
 use std::alloc::{AllocError, Global};
 use std::process::Abort;
 use std::test::Fail;
-use striped_map::{Caller, Host, Stop, open_map};
+use striped_map::{Caller, Host, Stop, open_map_with_capacity};
 use txn_words::{Op, Refusal};
 
 /// Makes a call, and once more if it is refused memory.
@@ -29,14 +29,17 @@ fn pairs_again(host: &mut Host) -> Result<Option<Vec<(u64, u64)>>, AllocError> {
     Err(AllocError)
 }
 
-/// A map of one stripe and its caller, asked for once more if memory is refused.
-fn open_again(alloc: Global) -> Result<(Host, Vec<Caller>), AllocError> {
+/// A map of one stripe with room for these keys, and its caller, asked for once more if memory is
+/// refused.
+fn open_again(alloc: Global, keys: usize) -> Result<(Host, Vec<Caller>), Fail> {
     for _ in 0..2u64 {
-        if let Ok(made) = open_map(alloc, 1, 1) {
-            return Ok(made);
+        match open_map_with_capacity(alloc, 1, 1, keys) {
+            Ok(made) => return Ok(made),
+            Err(Refusal::NoMemory) => {}
+            Err(_) => return Err("limits".into()),
         }
     }
-    Err(AllocError)
+    Err(AllocError)?
 }
 
 /// Asks as the table says. Each call must answer as it says, at once or the second time.
@@ -77,19 +80,29 @@ fn grow<R: Abort>(rt: &R, caller: &mut Caller) -> Result<(), AllocError> {
     Ok(())
 }
 
-/// This test is also run with each allocation refused in turn. A part of the second transaction is
-/// taken back by the caller's drop.
-#[test]
-fn refused_memory(rt: HostRuntime) -> Result<(), Fail> {
-    let (mut host, mut callers) = open_again(rt.alloc())?;
+/// Makes these calls. A part of the second transaction is taken back by the caller's drop.
+fn play_with_room<R: Abort>(rt: &R, alloc: Global, keys: usize) -> Result<(), Fail> {
+    let (mut host, mut callers) = open_again(alloc, keys)?;
     let Some(mut caller) = callers.pop() else {
         return Err("a caller".into());
     };
-    play_again(&rt, &mut caller, CALLS.as_slice())?;
-    grow(&rt, &mut caller)?;
-    play_again(&rt, &mut caller, &[(0, Ask::Len, Told::Number(11))])?;
+    play_again(rt, &mut caller, CALLS.as_slice())?;
+    grow(rt, &mut caller)?;
+    play_again(rt, &mut caller, &[(0, Ask::Len, Told::Number(11))])?;
     drop(caller);
     let pairs = pairs_again(&mut host)?.ok_or("a stripe is held")?;
     assert!(rt; pairs.as_slice() == [(1, 10)].as_slice());
     Ok(())
+}
+
+/// This test is also run with each allocation refused in turn.
+#[test]
+fn refused_memory(rt: HostRuntime) -> Result<(), Fail> {
+    play_with_room(&rt, rt.alloc(), 0)
+}
+
+/// This test is also run with each allocation refused in turn.
+#[test]
+fn refused_memory_with_room(rt: HostRuntime) -> Result<(), Fail> {
+    play_with_room(&rt, rt.alloc(), 22)
 }

@@ -27,7 +27,7 @@ pub returns-clause-ok : goal.returns-clause-ok
 returns-clause-ok c =
     let all = c.in-Ok.waiting.items in let before = c.pop.new.self.items in let last = c.in-Some.caller in
     let items : all ≡ before ++ last ∷ [] = c.in-Some.ensures.items in
-    let count : length before + 1 ≡ c.args.callers = (let n = c.in-Ok.ensures.count in let l = c.in-Some.ensures.cases in omega arith) in
+    let count : length before + 1 ≡ c.args.callers = (let n = c.in-Ok.ensures.ok.count in let l = c.in-Some.ensures.cases in omega arith) in
     first_of c.in-Ok._host.map.value c.args.callers c.args.stripes before last count
-    (λ place lt. subst (λ (xs : List Caller). HoldsAt (IsNew c.in-Ok._host.map.value c.args.stripes (place + 1)) xs place) items (c.in-Ok.ensures.each place lt))
+    (λ place lt. subst (λ (xs : List Caller). HoldsAt (IsNew c.in-Ok._host.map.value c.args.stripes (place + 1)) xs place) items (c.in-Ok.ensures.ok.each place lt))
     c.in-Ok-new.member.value (ap (λ m. m.caller) c.in-Ok-new.ensures.ok) (ap (λ m. m.waiting.items) c.in-Ok-new.ensures.ok)

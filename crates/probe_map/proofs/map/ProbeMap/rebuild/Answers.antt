@@ -1,4 +1,4 @@
-use Rattle.std.proofs.Common.{◌≡◌, ◌+◌, length, arith, ap}
+use Rattle.std.proofs.Common.{◌≡◌, length, arith, ap}
 use Rattle.probe_map.specs.MapAt.{MapAt}
 use Rattle.probe_map.specs.Slots.{pairs_of}
 use Rattle.probe_map.proofs.Lookups.{length-pairs_of}
@@ -9,7 +9,7 @@ put_all-requires-clause-room c =
     let all : length (pairs_of c.deref.result.now) ≡ length (pairs_of c.self.inside.slots.items) = ap (λ l. length (pairs_of l)) c.deref.ensures.value in
     let count = length-pairs_of c.self.inside.slots.items in
     let len = c.self.invariant.len_is in
-    let keys : c.in-Some.keys ≡ c.self.inside.len + c.args.more = c.in-Some.ensures.1 in
+    let keys = c.in-Some.ensures in
     let room = c.in_ok-later.ensures.room in
     omega arith
 
@@ -18,7 +18,7 @@ returns-clause-room c =
     let all : length (pairs_of c.deref.result.now) ≡ length (pairs_of c.self.inside.slots.items) = ap (λ l. length (pairs_of l)) c.deref.ensures.value in
     let count = length-pairs_of c.self.inside.slots.items in
     let len = c.self.invariant.len_is in
-    let keys : c.in-Some.keys ≡ c.self.inside.len + c.args.more = c.in-Some.ensures.1 in
+    let keys = c.in-Some.ensures in
     let room = c.in_ok-later.ensures.room in
     let left = c.put_all.ensures.room in
     let spare : c.drop.inside.room ≡ c.put_all.new.map.spare = ap (λ (p : MapAt). p.spare) c.drop.view_is in

@@ -2,7 +2,7 @@ use Rattle.std.specs.Prelude.{◌≡◌, ℕ, ◌+◌, ◌<◌, [], vec_len, vec
 use Rattle.std.specs.List.{HoldsAt}
 use Rattle.striped_map.specs.Callers.{IsNew}
 use Rattle.striped_map.specs.Rule.{view}
-use Rattle.striped_map.proofs.open.open_map.Given as goal
+use Rattle.striped_map.proofs.open.open_map_with_capacity.Given as goal
 
 abbrev pub invariant-loop-place : goal.invariant-loop-place
 invariant-loop-place l = record {

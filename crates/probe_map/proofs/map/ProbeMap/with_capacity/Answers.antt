@@ -4,7 +4,7 @@ use Rattle.probe_map.specs.declared.slot.Slot.TheVariants.{Empty}
 use Rattle.probe_map.specs.MapAt.{map_of}
 use Rattle.probe_map.specs.Slots.{pairs_of}
 use Rattle.probe_map.proofs.Lookups.{pairs_of-replicate}
-use Rattle.probe_map.proofs.map.with_room.Goals as goal
+use Rattle.probe_map.proofs.map.ProbeMap.with_capacity.Goals as goal
 
 pub returns-clause-empty : goal.returns-clause-empty
 returns-clause-empty c =

@@ -4,7 +4,7 @@ use native.Mathlib.Decide.{ℕ_discrete}
 use Rattle.striped_map.specs.declared.caller.Caller.{Caller}
 use Rattle.striped_map.specs.Callers.{IsNew}
 use Rattle.striped_map.specs.Seats.{known, stripes_of}
-use Rattle.striped_map.proofs.open.open_map.Goals as goal
+use Rattle.striped_map.proofs.open.open_map_with_capacity.Goals as goal
 
 pushed_old : (xs : List Caller) (x d : Caller) (k : ℕ) → k < length xs → get_or (xs ++ x ∷ []) k d ≡ get_or xs k d
 pushed_old [] x d k lt = absurd (omega arith)
