@@ -13,6 +13,10 @@ use crate::piece::{PieceKind, Pieces};
 use crate::plain_bytes::{after_bracket, after_comma, after_open};
 use std::alloc::{AllocError, Global};
 
+/// For how many pieces room is made before the first is read. Most arrays have no more, and to make
+/// room again and again costs more than to read some pieces.
+const FIRST_ROOM: usize = 16;
+
 /// The piece at a place, which is then behind it. None if no piece stands there in plain form.
 #[inline(always)]
 fn piece_at<K: PieceKind>(
@@ -49,7 +53,7 @@ fn piece_at<K: PieceKind>(
 /// # Cost
 ///
 /// Time in proportion to the text that is read, where that of `K::read_plain` and `K::is_old` is
-/// so; memory for the pieces, and what `K::read_plain` takes.
+/// so; memory for the pieces, for 16 at least, and what `K::read_plain` takes.
 pub fn pieces_at<K: PieceKind>(
     alloc: Global,
     text: &str,
@@ -67,7 +71,7 @@ pub fn pieces_at<K: PieceKind>(
 {
     let most = K::most();
     let bytes = text.as_bytes();
-    let mut pieces = Vec::new(alloc);
+    let mut pieces = Vec::with_capacity(alloc, FIRST_ROOM)?;
     let mut first_new = None;
     let mut here = *at;
     'pieces: while let Some(piece) = piece_at::<K>(alloc, text, &mut here, depth)? {

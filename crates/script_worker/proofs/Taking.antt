@@ -1,40 +1,119 @@
 -- A worker's turn is taken.
-use Rattle.std.proofs.Common.{◌≡◌, ℕ, List, Option, Some, None, sym, subst, ◌∙◌}
+use Rattle.std.proofs.Common.{◌≡◌, ◌<◌, ℕ, List, Option, Some, None, refl, sym, subst, ◌∙◌, arith}
 use Rattle.txn_words.specs.declared.action.Action.{Action}
 use Rattle.txn_words.specs.declared.answer.Answer.{Answer}
+use Rattle.txn_words.specs.declared.answer.Answer.TheVariants.{Placed}
 use Rattle.txn_words.specs.declared.step.Step.{Step}
 use Rattle.txn_drive.specs.declared.turn.Turn.{Turn}
 use Rattle.txn_drive.specs.declared.turn.Turn.TheVariants.{One, Two, Ended}
-use Rattle.txn_drive.specs.Turns.{HasTaken}
+use Rattle.txn_drive.specs.Turns.{TakesSecond, TakesTurn}
 use Rattle.txn_drive.proofs.TurnLemmas.{turn_maps}
 use Rattle.script_worker.specs.declared.attempt.Finish.{Finish}
-use Rattle.script_worker.specs.Workers.{Standing, sized_by, turn_by, IsTurnBy, Working, TakesStep, TakesIn, TakesNext}
+use Rattle.script_worker.specs.Workers.{Standing, sized_by, turn_by, Working, TakesStep, TakesIn, TakesNext}
 
--- If each step that is taken maps to a step of a part, and keeps a fact that the mapping needs,
--- then so does the worker's turn.
-takes_in : {X F : Type 0} (takes : X → Step → Answer → X → Type 0) (scripts : List (List Action)) (tries : ℕ) (R : F → Step → Answer → F → Type 0) (I : F → Type 0) (p : F → Working X)
-    → (x : F) (t : Turn) (y : F) → IsTurnBy (p x).worker (Some t) → I x → HasTaken R x t y
-    → ((x : F) (s : Step) (a : Answer) (y : F) → I x → R x s a y → TakesStep takes scripts tries (p x) s a (p y) × I y)
-    → TakesIn takes scripts tries (p x) (Some t) (p y) × I y
-takes_in takes scripts tries R I p x (One s) y is i taken each = turn_maps R (TakesStep takes scripts tries) I p x (One s) y i taken each
-takes_in takes scripts tries R I p x (Two s t) y is i taken each = turn_maps R (TakesStep takes scripts tries) I p x (Two s t) y i taken each
-takes_in takes scripts tries R I p x (Ended outcome) y is i taken each = absurd is
+-- The second step of a turn follows the answer `placed`.
+abbrev pub after : Answer → Option Step → Option Step
+after Placed second = second
+after answer second = None
 
-pub takes_next : {X F : Type 0} (takes : X → Step → Answer → X → Type 0) (size : ℕ) (scripts : List (List Action)) (tries : ℕ) (before : Standing)
-    (R : F → Step → Answer → F → Type 0) (I : F → F → Type 0) (p : F → Working X) (x : F) (t : Turn) (o : Option Turn) (y : F)
-    → (p x).worker ≡ sized_by size before → (p x).finish ≡ None → o ≡ turn_by (p x).worker → o ≡ Some t → IsTurnBy (p x).worker o → I x x → HasTaken R x t y
-    → ((z : F) (s : Step) (a : Answer) (y : F) → I x z → R z s a y → TakesStep takes scripts tries (p z) s a (p y) × I x y)
-    → TakesNext takes size scripts tries (p x).taker before (p y).finish (p y).taker (p y).worker × I x y
-takes_next {X} takes size scripts tries before R I p x t o y worker none turn some is i taken each =
-    let mapped = takes_in takes scripts tries R (I x) p x t y (subst (IsTurnBy (p x).worker) some is) i taken each in (
-      record {
-        steps =
-            subst (λ (w : Standing). TakesIn takes scripts tries (record { taker = (p x).taker; worker = w; finish = None }) (turn_by w) (p y)) worker
-            (subst (λ (u : Option Finish). TakesIn takes scripts tries (record { taker = (p x).taker; worker = (p x).worker; finish = u }) (turn_by (p x).worker) (p y)) none
-            (subst (λ u. TakesIn takes scripts tries (p x) u (p y)) (sym some ∙ turn) mapped.0));
-      },
-      mapped.1,
-    )
+after_none : (answer : Answer) → after answer None ≡ None
+after_none Placed = refl
+after_none answer = refl
+
+after_other : (answer : Answer) (second : Option Step) → (answer ≡ Placed → ⊥) → after answer second ≡ None
+after_other Placed second not = absurd (not refl)
+after_other answer second not = refl
+
+-- What is left of a turn: its next step, and the step that may follow that one.
+abbrev pub TakesThen : {X : Type 0} → (X → Step → Answer → X → Type 0) → X → Option Step → X → Type 0
+TakesThen takes y None z = z ≡ y
+TakesThen takes y (Some step) z = (answer : Answer) × takes y step answer z
+
+abbrev pub TakesLeft : {X : Type 0} → (X → Step → Answer → X → Type 0) → X → Option Step → Option Step → X → Type 0
+TakesLeft takes x None second z = z ≡ x
+TakesLeft {X} takes x (Some step) second z = (answer : Answer) × (y : X) × takes x step answer y × TakesThen takes y (after answer second) z
+
+-- How many steps are left.
+abbrev pub left_of : Option Step → Option Step → ℕ
+left_of None second = 0
+left_of (Some step) None = 1
+left_of (Some step) (Some then) = 2
+
+fewer_placed : (step : Step) (second : Option Step) → left_of second None < left_of (Some step) second
+fewer_placed step None = omega arith
+fewer_placed step (Some then) = omega arith
+
+fewer : (step : Step) (second other : Option Step) → left_of None other < left_of (Some step) second
+fewer step None other = omega arith
+fewer step (Some then) other = omega arith
+
+pub smaller_placed : (next second now other : Option Step) (step : Step) → next ≡ Some step → now ≡ second → other ≡ None → left_of now other < left_of next second
+smaller_placed next second now other step next_is now_is other_is =
+    subst (λ n. left_of now other < left_of n second) (sym next_is)
+    (subst (λ n. left_of n other < left_of (Some step) second) (sym now_is) (subst (λ o. left_of second o < left_of (Some step) second) (sym other_is) (fewer_placed step second)))
+
+pub smaller : (next second other : Option Step) (step : Step) → next ≡ Some step → left_of None other < left_of next second
+smaller next second other step next_is = subst (λ n. left_of None other < left_of n second) (sym next_is) (fewer step second other)
+
+module _ {X : Type 0} (takes : X → Step → Answer → X → Type 0) where
+  one_taken : (x : X) (step : Step) (z : X) → TakesLeft takes x (Some step) None z → TakesTurn takes x (One step) z
+  one_taken x step z (answer, y, taken, rest) =
+      (answer, subst (λ q. takes x step answer q) (sym (subst (λ o. TakesThen takes y o z) (after_none answer) rest)) taken)
+
+  second_taken : (y : X) (answer : Answer) (then : Step) (z : X) → TakesThen takes y (after answer (Some then)) z → TakesSecond takes y then answer z
+  second_taken y Placed then z rest = rest
+  second_taken y answer then z rest = rest
+
+  two_taken : (x : X) (step then : Step) (z : X) → TakesLeft takes x (Some step) (Some then) z → TakesTurn takes x (Two step then) z
+  two_taken x step then z (answer, y, taken, rest) = (answer, y, taken, second_taken y answer then z rest)
+
+  -- One more step is taken.
+  placed_left : (x y : X) (step : Step) (answer : Answer) (second : Option Step) (z : X) → takes x step answer y → answer ≡ Placed → TakesLeft takes y second None z → TakesLeft takes x (Some step) second z
+  placed_left x y step answer None z taken is rest = (answer, y, taken, subst (λ o. TakesThen takes y o z) (sym (after_none answer)) rest)
+  placed_left x y step answer (Some then) z taken is rest =
+      (Placed, y, subst (λ a. takes x step a y) is taken, one_taken y then z rest)
+
+  pub nothing_left : (x : X) (next second : Option Step) → next ≡ None → TakesLeft takes x next second x
+  nothing_left x next second is = subst (λ n. TakesLeft takes x n second x) (sym is) refl
+
+  pub on_placed : (x y : X) (next second now other : Option Step) (step : Step) (answer : Answer) (z : X) → next ≡ Some step → now ≡ second → other ≡ None → takes x step answer y → answer ≡ Placed
+      → TakesLeft takes y now other z → TakesLeft takes x next second z
+  on_placed x y next second now other step answer z next_is now_is other_is taken is rest =
+      subst (λ n. TakesLeft takes x n second z) (sym next_is)
+      (placed_left x y step answer second z taken is (subst (λ n. TakesLeft takes y n None z) now_is (subst (λ o. TakesLeft takes y now o z) other_is rest)))
+
+  pub on_other : (x y : X) (next second other : Option Step) (step : Step) (answer : Answer) (z : X) → next ≡ Some step → takes x step answer y → (answer ≡ Placed → ⊥)
+      → TakesLeft takes y None other z → TakesLeft takes x next second z
+  on_other x y next second other step answer z next_is taken not rest =
+      subst (λ n. TakesLeft takes x n second z) (sym next_is) (answer, y, taken, subst (λ o. TakesThen takes y o z) (sym (after_other answer second not)) rest)
+
+-- A worker's turn, once nothing of it is left.
+module _ {X : Type 0} (takes : X → Step → Answer → X → Type 0) (size : ℕ) (scripts : List (List Action)) (tries : ℕ) (old : X) (before : Standing) (w : Standing) (o : Option Turn)
+    (w_is : w ≡ sized_by size before) (turn_is : o ≡ turn_by w) (new : X) (finish : Option Finish) (after_that : Standing) where
+  abbrev begun : Standing → Working X
+  begun v = record { taker = old; worker = v; finish = None }
+
+  abbrev done : Working X
+  done = record { taker = new; worker = after_that; finish = finish }
+
+  taken_next : (turn : Turn) → o ≡ Some turn → TakesIn takes scripts tries (begun w) (Some turn) done → TakesNext takes size scripts tries old before finish new after_that
+  taken_next turn some taken = record {
+    steps =
+        subst (λ (v : Standing). TakesIn takes scripts tries (begun v) (turn_by v) done) w_is
+        (subst (λ t. TakesIn takes scripts tries (begun w) t done) (sym some ∙ turn_is) taken);
+  }
+
+  pub one_next : (step : Step) (first : Step × Option Step) → o ≡ Some (One step) → first ≡ (step, None) → TakesLeft (TakesStep takes scripts tries) (begun w) (Some first.0) first.1 done
+      → TakesNext takes size scripts tries old before finish new after_that
+  one_next step first some first_is left =
+      taken_next (One step) some
+      (one_taken (TakesStep takes scripts tries) (begun w) step done (subst (λ (f : Step × Option Step). TakesLeft (TakesStep takes scripts tries) (begun w) (Some f.0) f.1 done) first_is left))
+
+  pub two_next : (step then : Step) (first : Step × Option Step) → o ≡ Some (Two step then) → first ≡ (step, Some then) → TakesLeft (TakesStep takes scripts tries) (begun w) (Some first.0) first.1 done
+      → TakesNext takes size scripts tries old before finish new after_that
+  two_next step then first some first_is left =
+      taken_next (Two step then) some
+      (two_taken (TakesStep takes scripts tries) (begun w) step then done (subst (λ (f : Step × Option Step). TakesLeft (TakesStep takes scripts tries) (begun w) (Some f.0) f.1 done) first_is left))
 
 -- A worker's turn, as a turn on the part that each step changes.
 module _ {X F : Type 0} (takes : X → Step → Answer → X → Type 0) (R : F → Step → Answer → F → Type 0) (I : F → Type 0) (p : F → X)

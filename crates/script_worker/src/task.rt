@@ -6,7 +6,7 @@ ghost use Rattle.script_worker.specs.Workers.{started, progressed, settled, task
 ghost use Rattle.script_worker.specs.Workers.{finish_at, finish_by, finish_after};
 
 use crate::attempt::{Attempt, Finish, Progress};
-use txn_drive::{Call, Drive, End};
+use txn_drive::{Call, Drive};
 use txn_trace::{Answer, Limits, Script};
 
 /// A script that a worker is at. Its call may have ended.
@@ -40,43 +40,6 @@ impl Task {
             None
         }
     }
-
-    /// Moves on after this end of the call: the worker's task is the next one. Answers how the
-    /// script is over, if it is.
-    fn go_on(
-        self,
-        task: &mut Option<Task>,
-        worker: usize,
-        limits: Limits,
-        scripts: &[Script],
-        tries: u64,
-        end: End,
-    ) -> Option<Finish>
-        ensures task { task.new ≡ progressed scripts.now tries worker limits self end }
-        ensures finish { result ≡ finish_at scripts.now tries self end }
-    {
-        let Some(script) = scripts.get(self.script) else {
-            *task = None;
-            return None;
-        };
-        match self.attempt.progress(script.actions(), tries, end) {
-            Progress::Next(attempt) => {
-                let call = attempt.call(script.actions());
-                let drive = Drive::new(worker as u64, call, limits);
-                *task = Some(Task {
-                    attempt,
-                    drive,
-                    ..self
-                });
-                None
-            }
-            Progress::Over(finish) => {
-                let next = self.script.saturating_add(limits.callers() as usize);
-                *task = Task::start(worker, limits, scripts, next);
-                Some(finish)
-            }
-        }
-    }
 }
 
 /// Moves on to the next call, if the call of the worker's task has ended. Answers how its script
@@ -91,13 +54,29 @@ fn settle(
     ensures task { task.new ≡ settled scripts.now tries worker limits task.old }
     ensures finish { result ≡ finish_by scripts.now tries task.old }
 {
-    let Some(now) = *task else {
+    let Some(now) = task else {
         return None;
     };
     let Some(end) = now.drive.ended() else {
         return None;
     };
-    now.go_on(task, worker, limits, scripts, tries, end)
+    let Some(script) = scripts.get(now.script) else {
+        *task = None;
+        return None;
+    };
+    match now.attempt.progress(script.actions(), tries, end) {
+        Progress::Next(attempt) => {
+            let call = attempt.call(script.actions());
+            now.attempt = attempt;
+            now.drive = Drive::new(worker as u64, call, limits);
+            None
+        }
+        Progress::Over(finish) => {
+            let next = now.script.saturating_add(limits.callers() as usize);
+            *task = Task::start(worker, limits, scripts, next);
+            Some(finish)
+        }
+    }
 }
 
 /// Tells the worker's task the answer to its step and finds its next step. Answers how its script
@@ -123,6 +102,12 @@ pub(crate) fn tell(
     let first = settle(task, worker, limits, scripts, tries);
     // A call of help may end before its first step. Then an abort follows at once, which takes a
     // step.
+    let Some(next) = task else {
+        return first;
+    };
+    let Some(_end) = next.drive.ended() else {
+        return first;
+    };
     let second = settle(task, worker, limits, scripts, tries);
     first.or(second)
 }

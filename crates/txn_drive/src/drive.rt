@@ -124,7 +124,7 @@ impl Drive {
         ensures made { (step : Step) → step_of self.old ≡ Some step
             → made self.new ≡ made self.old ++ entries_of step answer }
     {
-        self.phase = self.phase.told(self.call, answer);
+        self.phase.told(self.call, answer);
     }
 }
 

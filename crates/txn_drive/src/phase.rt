@@ -52,20 +52,21 @@ pub enum Phase {
 }
 
 impl Phase {
-    /// The phase after an answer to the step of this one.
+    /// Goes on to the phase after an answer to the step of this one. Each kind of phase is written
+    /// in a place of its own, so that only the parts that it has are written.
     #[inline(always)]
-    pub(crate) fn told(self, call: Call, answer: Answer) -> Phase
-        ensures { result ≡ told_in call self answer }
+    pub(crate) fn told(&mut self, call: Call, answer: Answer)
+        ensures { self.new ≡ told_in call self.old answer }
     {
-        match self {
-            Phase::Fresh => told_first(call, answer),
-            Phase::Seeking(work, again) => told_seek(work, again, answer),
-            Phase::Acting(work, again) => told_act(work, again, answer),
-            Phase::Doubling(seen) => told_double(call, seen, answer),
-            Phase::Initialising(way, again) => told_init_seek(way, again, answer),
-            Phase::Linking(way, again) => told_link(way, again, answer),
-            Phase::Storing(way) => told_store(way, answer),
-            _ => Phase::Refused(Refusal::OutOfStep),
+        match *self {
+            Phase::Fresh => *self = told_first(call, answer),
+            Phase::Seeking(work, again) => *self = told_seek(work, again, answer),
+            Phase::Acting(work, again) => *self = told_act(work, again, answer),
+            Phase::Doubling(seen) => *self = told_double(call, seen, answer),
+            Phase::Initialising(way, again) => *self = told_init_seek(way, again, answer),
+            Phase::Linking(way, again) => *self = told_link(way, again, answer),
+            Phase::Storing(way) => *self = told_store(way, answer),
+            _ => *self = Phase::Refused(Refusal::OutOfStep),
         }
     }
 }

@@ -6,7 +6,7 @@ use Rattle.piece_files.proofs.plain_pieces.pieces_at.Goals as goal
 
 pub pieces-init : goal.pieces-init
 pieces-init g c =
-    ([], omega arith, omega arith, nothing_taken c.args.depth (drop c.args.at.now c.args.text.now), rw c.new-pieces.ensures.items (nothing_read g.K.PieceKind.of g.K.PieceKind.part g.K.PieceKind.most), nothing_old g.K.PieceKind.of g.K.PieceKind.is_old g.K.PieceKind.part)
+    ([], omega arith, omega arith, nothing_taken c.args.depth (drop c.args.at.now c.args.text.now), rw c.in_ok-pieces.ensures.items (nothing_read g.K.PieceKind.of g.K.PieceKind.part g.K.PieceKind.most), nothing_old g.K.PieceKind.of g.K.PieceKind.is_old g.K.PieceKind.part)
 
 pub pieces-preserved : goal.pieces-preserved
 pieces-preserved g c =

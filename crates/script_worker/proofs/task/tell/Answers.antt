@@ -10,5 +10,5 @@ returns-clause-finish c =
     let with_drive : Drive → Option Task = λ d. Some (record { script = c.in-Some.now.script; attempt = c.in-Some.now.attempt; drive = d }) in
     let told : with_drive c.told.new.self ≡ drive_told c.args.task.now c.args.answer = ap with_drive c.told.ensures.drive ∙ ap (λ o. drive_told o c.args.answer) (sym c.in-Some.is) in
     let first = c.settle-first.ensures.finish ∙ ap (finish_by c.args.scripts.now c.args.tries) told in
-    let second = c.settle-second.ensures.finish ∙ ap (finish_by c.args.scripts.now c.args.tries) (c.settle-first.ensures.task ∙ ap (settled c.args.scripts.now c.args.tries c.args.worker c.args.limits) told) in
+    let second = c.settle-second.ensures.finish ∙ ap (finish_by c.args.scripts.now c.args.tries) (sym c.in-Some-task.is ∙ c.settle-first.ensures.task ∙ ap (settled c.args.scripts.now c.args.tries c.args.worker c.args.limits) told) in
     c.or.ensures ∙ (λ i. option_or (first i) (second i))
