@@ -11,7 +11,7 @@ there=$1
 
 # The crates that the map of threads needs, lowest first.
 below="split_key txn_words txn_trace map_answers txn_drive undo_log key_locks key_words node_list list_steps bucket_table map_ops boost_core
-locked_map shared_transactions"
+core_tokens locked_map shared_transactions"
 
 mkdir -p "$there/crates/counter/src" "$there/crates/counter/proofs" "$there/crates/counter/specs"
 for crate in $below; do

@@ -1,25 +1,27 @@
 -- The caller after a call, from the end that its holds have brought.
-use Rattle.std.proofs.Common.{◌≡◌, ◌∙◌, ℕ, ◌+◌, ◌<◌, Bool, true, false, not, List, [], ◌∷◌, ◌++◌, None, inl, inr, is_some, length, take, arith, refl, sym, ap, subst}
+use Rattle.std.proofs.Common.{◌≡◌, ◌∙◌, ℕ, ◌+◌, ◌≤◌, Bool, true, false, not, List, [], ◌∷◌, ◌++◌, Option, None, inl, inr, is_some, length, take, refl, sym, ap, subst}
 use Rattle.std.specs.Prelude.{slice_get}
 use Rattle.std.proofs.lemmas.Bool.{false≢true}
 use Rattle.std.proofs.lemmas.List.{append-nil}
 use Rattle.txn_words.specs.declared.answer.Answer.TheVariants as answers
 use Rattle.txn_words.specs.declared.entry.Entry.{Entry}
-use Rattle.txn_words.specs.declared.refusal.Refusal.TheVariants.{OutOfStep}
-use Rattle.txn_words.specs.Shape.{seat_after}
+use Rattle.txn_words.specs.declared.refusal.Refusal.{Refusal}
+use Rattle.txn_words.specs.declared.refusal.Refusal.TheVariants.{NoMemory, OutOfStep}
+use Rattle.txn_words.specs.Shape.{Seat, seat_after}
 use Rattle.txn_drive.specs.declared.call.Call.{Call}
-use Rattle.txn_drive.specs.declared.call.Call.TheVariants.{Back}
+use Rattle.txn_drive.specs.declared.call.Call.TheVariants as calls
 use Rattle.txn_drive.specs.declared.«end».End.{End}
 use Rattle.txn_drive.specs.declared.«end».End.TheVariants as ends
 use Rattle.txn_drive.specs.Made.{IsMade}
 use Rattle.undo_log.specs.SideValue.{Leveled}
-use Rattle.locked_map.specs.Calls.{Ended, FellOut, IsDone, Passed, Ran, WentOn, refused_by}
-use Rattle.locked_map.specs.Claims.{Readies, claims_at}
-use Rattle.locked_map.specs.Holds.{HasRun, IsHeld, is_out}
-use Rattle.locked_map.specs.Sides.{Follows}
+use Rattle.locked_map.specs.Calls.{Ended, Failed, FellOut, FoundNone, IsDone, IsHeld, Passed, Ran, WasRefused, WentOn}
+use Rattle.core_tokens.specs.Ready.{IsUnready, Lacks, refused_at, refused_by}
+use Rattle.core_tokens.specs.Claims.{Readies, claims_at}
+use Rattle.core_tokens.specs.Holds.{HasRun, is_out}
+use Rattle.core_tokens.specs.Sides.{Follows}
 use Rattle.undo_log.specs.Sides.{IsBackAt, IsSameSide}
-use Rattle.locked_map.specs.Suits.{may_refuse}
-use Rattle.locked_map.specs.Tokens.{Token, IsSameCaller, IsSameSeen}
+use Rattle.core_tokens.specs.Suits.{may_refuse}
+use Rattle.core_tokens.specs.Tokens.{Token, IsSameCaller, IsSameSeen}
 
 back_on : {S : Type 0} (words : S → List ℕ) (level : ℕ) (a b c : Leveled S) → IsSameSide a b → IsBackAt words level b c → IsBackAt words level a c
 back_on words level a b c same on = record {
@@ -107,18 +109,48 @@ module _ {S : Type 0} (words : S → List ℕ) (k r h l : Token S) (call : Call)
 pub passed_of : {S : Type 0} (words : S → List ℕ) (k l : Token S) (call : Call) (outcome : End) → IsDone outcome → Ran words k call outcome l → Passed k call l
 passed_of words k l call outcome done ran = record { free = ran.free; whose = ran.whose; sound = ran.sound; outcome = outcome; done = done; went = ran.went }
 
--- A return to a level that the side value does not have.
-pub lacks_level : {S : Type 0} (k t : Token S) (call : Call) (level n : ℕ) → t ≡ k → call ≡ Back level → n + 1 ≡ length t.side.levels → n < level → FellOut k call (record t { broken = true })
-lacks_level {S} k t call level n view is as_many above =
-    subst (λ (x : Token S). FellOut x call (record t { broken = true })) view (subst (λ x. FellOut t x (record t { broken = true })) (sym is) fell)
-  where
-    fell : FellOut t (Back level) (record t { broken = true })
-    fell = record {
-      whose = record { number = refl; limits = refl };
-      broken = refl;
-      added = [];
-      entries = sym (append-nil t.seen);
-      quiet = λ whole. refl;
-      side = record { value = refl; levels = refl; changes = refl; kept = refl };
-      cause = inl (omega (arith, as_many, above), refl, refl);
-    }
+-- A call for which its token was not made ready.
+module _ {S : Type 0} (k l : Token S) where
+  free_sound : (half b : Bool) (o : Option Seat) (call : Call) → refused_at half b o call ≡ None → b ≡ false
+  free_sound half true o call free = absurd (cc free)
+  free_sound half false o call free = refl
+
+  found_none : (call : Call) (refusal : Refusal) → may_refuse call NoMemory ≡ true → k.broken ≡ false → refusal ≡ NoMemory → l ≡ k → Failed k call refusal l
+  found_none call refusal may sound is same =
+      subst (λ r. Failed k call r l) (sym is) (subst (λ (x : Token S). FoundNone k call NoMemory x) (sym same) none)
+    where
+      none : FoundNone k call NoMemory k
+      none = record {
+        may = may;
+        whose = record { number = refl; limits = refl };
+        sound = sound;
+        seen = refl;
+        side = record { value = refl; levels = refl; changes = refl; kept = refl };
+        cause = inl (refl, refl);
+      }
+
+  fell_out : (level : ℕ) → length k.side.levels ≤ level → FellOut k (calls.Back level) (record k { broken = true })
+  fell_out level above = record {
+    whose = record { number = refl; limits = refl };
+    broken = refl;
+    added = [];
+    entries = sym (append-nil k.seen);
+    quiet = λ whole. refl;
+    side = record { value = refl; levels = refl; changes = refl; kept = refl };
+    cause = inl (above, refl, refl);
+  }
+
+  lacked : (call : Call) (refusal : Refusal) → k.broken ≡ false → Lacks k call refusal l → Failed k call refusal l
+  lacked calls.Begin refusal sound none = absurd none
+  lacked (calls.Op op) refusal sound (is, same) = found_none (calls.Op op) refusal refl sound is same
+  lacked calls.Save refusal sound (is, same) = found_none calls.Save refusal refl sound is same
+  lacked (calls.Back level) refusal sound (is, above, same) =
+      subst (λ r. Failed k (calls.Back level) r l) (sym is) (subst (λ (x : Token S). FellOut k (calls.Back level) x) (sym same) (fell_out level above))
+  lacked calls.Commit refusal sound none = absurd none
+  lacked calls.Abort refusal sound none = absurd none
+  lacked (calls.Help key) refusal sound none = absurd none
+
+  pub was_refused : (call : Call) (refusal : Refusal) → IsUnready k call refusal l → WasRefused k call refusal l
+  was_refused call refusal (inl by_token) = inl by_token
+  was_refused call refusal (inr later) =
+      inr (later.0, lacked call refusal (free_sound k.limits.half k.broken (seat_after k.seen) call later.0) later.1)

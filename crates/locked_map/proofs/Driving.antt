@@ -1,6 +1,8 @@
 -- A call in progress, from hold to hold.
 use Rattle.std.proofs.Common.{◌≡◌, ◌∙◌, ℕ, suc, [], ◌++◌, Option, Some, None, refl, sym, ap, subst}
 use Rattle.std.proofs.lemmas.List.{append-nil}
+use Rattle.std.specs.List.{filter}
+use Rattle.txn_words.specs.Kinds.{is_commit}
 use Rattle.txn_words.specs.Shape.{seat_after}
 use Rattle.txn_words.specs.Sizes.{Sizes}
 use Rattle.txn_drive.specs.declared.call.Call.{Call}
@@ -9,9 +11,13 @@ use Rattle.txn_drive.specs.declared.«end».End.{End}
 use Rattle.txn_drive.specs.Drives.{first_phase, new_drive}
 use Rattle.txn_drive.specs.Made.{made}
 use Rattle.boost_core.specs.State.{State}
-use Rattle.locked_map.specs.Holds.{FitsIf, Held, IsGoing, IsHeld, IsHolding}
-use Rattle.locked_map.specs.Tokens.{Token}
-use Rattle.locked_map.proofs.Quiet.{new_quiet}
+use Rattle.core_tokens.specs.Holds.{CommitNothing, FitsIf, Held, IsGoing}
+use Rattle.locked_map.specs.Calls.{IsHeld, IsHolding}
+use Rattle.core_tokens.specs.Tokens.{Token}
+
+-- A new drive has committed nothing.
+pub new_quiet : (d : Drive) → made d ≡ [] → CommitNothing (made d)
+new_quiet d none = ap (filter is_commit) none
 
 -- A call before its first hold.
 pub record Starts {S : Type 0} (k : Token S) (call : Call) (d : Drive) : Type 0 where

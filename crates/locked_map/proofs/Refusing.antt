@@ -1,25 +1,15 @@
--- The refusal of a call by the token.
+-- The refusal of help for its key.
 use Rattle.std.proofs.Common.{◌≡◌, ◌↔◌, ◌∙◌, ℕ, Bool, true, false, if◌then◌else◌, List, Option, Some, None, Result, Ok, Err, inl, inr, is_some, refl, sym, ap, subst}
 use Rattle.std.proofs.lemmas.Bool.{false≢true}
-use Rattle.std.specs.Option.{option_or}
-use Rattle.txn_words.specs.declared.refusal.Refusal.{Refusal}
 use Rattle.txn_words.specs.declared.refusal.Refusal.TheVariants.{BadKey}
-use Rattle.txn_words.specs.Seats.{refusal_in}
 use Rattle.txn_words.specs.Shape.{Seat, seat_after}
 use Rattle.txn_words.specs.Sizes.{is_bad_key}
-use Rattle.txn_drive.specs.declared.call.Call.{Call}
 use Rattle.txn_drive.specs.declared.call.Call.TheVariants as calls
-use Rattle.txn_drive.specs.Drives.{first_step}
-use Rattle.locked_map.specs.Calls.{refused_help, refused_at, refused_by, LeavesBy, WasRefused}
-use Rattle.locked_map.specs.Tokens.{Token}
+use Rattle.locked_map.specs.Calls.{LeavesBy, WasRefused}
+use Rattle.core_tokens.specs.Ready.{refused_at, refused_by}
+use Rattle.core_tokens.specs.Tokens.{Token}
 use Rattle.map_answers.specs.declared.stop.Stop.{Stop}
 use Rattle.map_answers.specs.declared.stop.Stop.TheVariants as stops
-
-pub refuses : (half b : Bool) (o : Option Seat) (call : Call) (seat help r : Option Refusal) → b ≡ false → (b ≡ false → is_some o ≡ true)
-    → ((s : Seat) → o ≡ Some s → seat ≡ refusal_in half s (first_step 0 call)) → help ≡ refused_help half call → r ≡ option_or seat help → r ≡ refused_at half b o call
-refuses half b None call seat help r sound whole seat_is help_is is = absurd (cc (whole sound))
-refuses half b (Some s) call seat help r sound whole seat_is help_is is =
-    is ∙ (λ i. option_or (seat_is s refl i) (help_is i)) ∙ sym (ap (λ x. refused_at half x (Some s) call) sound)
 
 help_at : (half b : Bool) (o : Option Seat) (key : ℕ) → b ≡ false → is_some o ≡ true → refused_at half b o (calls.Help key) ≡ (if is_bad_key half key then Some BadKey else None)
 help_at half true o key sound whole = absurd (false≢true (sym sound))

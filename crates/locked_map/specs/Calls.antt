@@ -1,43 +1,52 @@
--- The caller after a shared call.
-use Rattle.std.specs.Prelude.{ℕ, ◌≡◌, ◌≤◌, ◌⊎◌, if◌then◌else◌, Bool, true, false, List, ◌++◌}
-use Rattle.std.specs.Prelude.{length, Option, Some, None, is_some, Result, Ok, Err}
-use Rattle.std.specs.Option.{option_or}
+-- The holds of a shared call, and the caller after it.
+use Rattle.std.specs.Prelude.{ℕ, zero, suc, ◌≡◌, ◌≤◌, ◌⊎◌, true, false, List, ◌++◌, length}
+use Rattle.std.specs.Prelude.{Some, None, is_some, Result, Ok, Err}
 use Rattle.txn_words.specs.declared.entry.Entry.{Entry}
 use Rattle.txn_words.specs.declared.refusal.Refusal.{Refusal}
-use Rattle.txn_words.specs.declared.refusal.Refusal.TheVariants.{BadKey, NoMemory, OutOfStep}
-use Rattle.txn_words.specs.Seats.{refusal_in}
-use Rattle.txn_words.specs.Shape.{Seat, seat_after}
-use Rattle.txn_words.specs.Sizes.{is_bad_key}
+use Rattle.txn_words.specs.declared.refusal.Refusal.TheVariants.{NoMemory, OutOfStep}
+use Rattle.txn_words.specs.Shape.{seat_after}
 use Rattle.txn_drive.specs.declared.call.Call.{Call}
 use Rattle.txn_drive.specs.declared.call.Call.TheVariants as calls
+use Rattle.txn_drive.specs.declared.drive.Drive.{Drive}
 use Rattle.txn_drive.specs.declared.«end».End.{End}
 use Rattle.txn_drive.specs.declared.«end».End.TheVariants as ends
-use Rattle.txn_drive.specs.Drives.{first_step}
+use Rattle.txn_drive.specs.Drives.{new_drive}
 use Rattle.txn_drive.specs.Made.{IsMade}
-use Rattle.locked_map.specs.Claims.{Readies, claims_at}
-use Rattle.locked_map.specs.Holds.{CommitNothing, IsHeld}
-use Rattle.locked_map.specs.Sides.{Follows}
 use Rattle.undo_log.specs.Sides.{IsSameSide}
-use Rattle.locked_map.specs.Suits.{may_refuse}
-use Rattle.locked_map.specs.Tokens.{Token, IsSameCaller, IsSameSeen}
+use Rattle.boost_core.specs.State.{State}
+use Rattle.core_tokens.specs.Claims.{Readies, claims_at}
+use Rattle.core_tokens.specs.Holds.{CommitNothing, Held}
+use Rattle.core_tokens.specs.Ready.{refused_by}
+use Rattle.core_tokens.specs.Sides.{Follows}
+use Rattle.core_tokens.specs.Suits.{may_refuse}
+use Rattle.core_tokens.specs.Tokens.{Token, IsSameCaller, IsSameSeen}
 use Rattle.map_answers.specs.declared.stop.Stop.{Stop}
 use Rattle.map_answers.specs.declared.stop.Stop.TheVariants as stops
 
--- The refusal of help by its key; the argument says whether the map takes only half keys.
-abbrev pub refused_help : Bool → Call → Option Refusal
-refused_help half (calls.Help key) = if is_bad_key half key then Some BadKey else None
-refused_help half call = None
+-- This number of holds of a call, none of which has ended it: each is of the core that is then
+-- under the lock, and other callers take their steps in between.
+abbrev pub HasHeld : {S : Type 0} → ℕ → Token S → Drive → Token S → Drive → Type 0
+HasHeld zero k d l e = (l ≡ k) × (e ≡ d)
+HasHeld {S} (suc holds) k d l e =
+    (between : Token S) × (half : Drive) × (m : State) × (n : State)
+    × HasHeld holds k d between half × Held m between half None n l e
 
--- The refusal of a call by the token: out of step if it is broken, else that of the seat which its
--- entries give it, and then that of help by its key.
-abbrev pub refused_at : Bool → Bool → Option Seat → Call → Option Refusal
-refused_at half true seat call = Some OutOfStep
-refused_at half false None call = Some OutOfStep
-refused_at half false (Some s) call =
-    option_or (refusal_in half s (first_step 0 call)) (refused_help half call)
+-- A call in progress, after some holds.
+pub record IsHolding {S : Type 0} (k : Token S) (call : Call) (l : Token S) (d : Drive) : Type 0
+  where
+    pub holds : ℕ
+    pub held : HasHeld holds k (new_drive k.limits.half k.number call) l d
 
-abbrev pub refused_by : {S : Type 0} → Token S → Call → Option Refusal
-refused_by k call = refused_at k.limits.half k.broken (seat_after k.seen) call
+-- A call has ended with its last hold: its effects are those of its holds, and no other.
+pub record IsHeld {S : Type 0} (k : Token S) (call : Call) (outcome : End) (l : Token S) : Type 0
+  where
+    pub between : Token S
+    pub half : Drive
+    pub holding : IsHolding k call between half
+    pub before : State
+    pub after : State
+    pub last : Drive
+    pub held : Held before between half (Some outcome) after l last
 
 -- A call that took the lock: an operation had tried the word of its key's stripe before. The
 -- entries that the token has seen since are those that its holds added, and its claims are those of
@@ -148,9 +157,3 @@ pub record Leaves {S T : Type 0} (words : S → List ℕ) (k : Token S) (call : 
     (result : Result T Stop) (l : Token S) : Type 0 where
   pub by_result : LeavesBy words k call result l
   pub stays : k.broken ≡ true → (result ≡ Err (stops.Refused OutOfStep)) × (l ≡ k)
-
--- The reason why a change of the side value is refused: the token is broken, or else memory is
--- refused.
-abbrev pub refused_side : Bool → Refusal
-refused_side true = OutOfStep
-refused_side false = NoMemory

@@ -1,10 +1,10 @@
 -- The result of closing a map.
 use Rattle.std.specs.Prelude.{ℕ, ◌≡◌, ◌==◌, ◌<◌, List, length, IsTrue, All}
-use Rattle.std.specs.List.{list_any, sum_by}
+use Rattle.std.specs.List.{list_any}
 use Rattle.txn_words.specs.declared.entry.Entry.{Entry}
 use Rattle.txn_words.specs.Shape.{own}
 use Rattle.txn_words.specs.Sizes.{Sizes}
-use Rattle.locked_map.specs.Tokens.{Token}
+use Rattle.core_tokens.specs.Tokens.{Token, AreCounted}
 use Rattle.locked_map.specs.declared.unclosed.Unclosed.{Unclosed}
 use Rattle.locked_map.specs.declared.unclosed.Unclosed.TheVariants.{Missing, Differs}
 
@@ -16,10 +16,6 @@ IsOwn h k = own k.number h ≡ k.seen
 abbrev pub IsAllHere : {S : Type 0} → ℕ → List (Token S) → Type 0
 IsAllHere count ks =
     (length ks ≡ count) × ((c : ℕ) → c < count → IsTrue (list_any (λ k. k.number == c) ks))
-
--- The history has as many entries as all callers have seen.
-abbrev pub AreCounted : {S : Type 0} → List Entry → List (Token S) → Type 0
-AreCounted h ks = length h ≡ sum_by (λ k. length k.seen) ks
 
 -- The callers that a map which was not closed returns.
 abbrev pub back_of : {L S J : Type 0} → Unclosed L S J → List (Token S)

@@ -1,10 +1,3 @@
 pub mod Calls
-pub mod Claims
 pub mod Closes
-pub mod Helps
-pub mod Holds
-pub mod Noted
-pub mod Sides
-pub mod Suits
 pub mod Texts
-pub mod Tokens

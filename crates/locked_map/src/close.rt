@@ -1,20 +1,19 @@
 //! Closing a map: its history is compared with what the callers saw. The ledger has counted what
 //! they saw, so if each caller's own entries are right there are no others.
-ghost use Rattle.std.specs.Prelude.{◌≡◌, ◌+◌, ◌==◌, ◌↔◌, All, IsTrue, IfOk, IfErr, length};
-ghost use Rattle.std.specs.List.{list_any, sum_by};
+ghost use Rattle.std.specs.Prelude.{◌≡◌, ◌==◌, ◌↔◌, All, IsTrue, IfOk, IfErr, length};
+ghost use Rattle.std.specs.List.{list_any};
 ghost use Rattle.txn_words.specs.declared.holder.Holder.TheVariants.{Begun};
 ghost use Rattle.txn_trace.specs.Legal.{IsLegal};
 ghost use Rattle.txn_words.specs.Shape.{own};
-ghost use Rattle.locked_map.specs.Closes.{AreCounted, IsAllHere, IsBeside, IsCounted, IsOwn, IsWhy};
-ghost use Rattle.locked_map.specs.Closes.{back_of};
+ghost use Rattle.core_tokens.specs.Tokens.{AreCounted};
+ghost use Rattle.locked_map.specs.Closes.{IsAllHere, IsBeside, IsCounted, IsOwn, IsWhy, back_of};
 
-use crate::booked::Booked;
-use crate::caller::Caller;
 use crate::closed::Closed;
 use crate::shared_map::SharedMap;
 use crate::unclosed::Unclosed;
 use boost_core::Core;
-use std::sync::ledger::{Book, Ledger, Share};
+use core_tokens::Caller;
+use std::sync::ledger::Ledger;
 use txn_trace::{Limits, SmallEntry};
 use undo_log::Side;
 
@@ -69,9 +68,9 @@ impl<L: Ledger> SharedMap<L> {
         has_all(callers, u64::from(self.limits().callers()))
     }
 
-    /// Takes the core out, and says whether it has the map's limits and each caller's entries in its
-    /// history are those that the caller saw. The callers are all there, so the history has as many
-    /// entries as they saw.
+    /// Takes the core out, and says whether it has the map's limits and each caller's entries in
+    /// its history are those that the caller saw. The callers are all there, so the history has as
+    /// many entries as they saw.
     fn into_core<S: Side>(self, callers: &mut [Caller<L, S>]) -> (Core, bool)
         requires parts { length callers.old ≡ L.parts }
         ensures callers { callers.new ≡ callers.old }
@@ -83,7 +82,7 @@ impl<L: Ledger> SharedMap<L> {
         let limits = self.limits();
         let booked = self.into_booked();
         let is_seen = is_seen(&booked.core, limits, callers);
-        (core_of(booked, callers), is_seen)
+        (booked.into_core(callers), is_seen)
     }
 }
 
@@ -150,40 +149,4 @@ fn is_same(one: &SmallEntry, other: &SmallEntry) -> bool
     ensures { IsTrue result ↔ (one.now ≡ other.now) }
 {
     one.entry() == other.entry()
-}
-
-/// The core of a map whose callers are all there. Its history has as many entries as they saw.
-fn core_of<L: Ledger, S: Side>(booked: Booked<L>, callers: &mut [Caller<L, S>]) -> Core
-    requires { length callers.old ≡ L.parts }
-    ensures core { result ≡ booked.core }
-    ensures callers { callers.new ≡ callers.old }
-    ensures counted { AreCounted result.history callers.old }
-{
-    let Booked {
-        core,
-        mut book,
-        mut none,
-    } = booked;
-    gather(callers, &mut none, &mut book);
-    core
-}
-
-/// Lends the shares of all callers to one share, which then counts all that the book has, and gives
-/// them back.
-fn gather<L: Ledger, S: Side>(callers: &mut [Caller<L, S>], all: &mut Share<L>, book: &mut Book<L>)
-    requires { all.old.parts + length callers.old ≡ L.parts }
-    ensures total { all.old.amount + sum_by (λ k. length k.seen) callers.old ≡ book.old.total }
-    ensures callers { callers.new ≡ callers.old }
-    ensures parts { all.new.parts ≡ all.old.parts }
-    ensures amount { all.new.amount ≡ all.old.amount }
-    ensures book { book.new.total ≡ book.old.total }
-{
-    book.audit(all);
-    let Some((first, rest)) = callers.split_first_mut() else {
-        return;
-    };
-    let count = first.seen.entries().len() as u64;
-    first.seen.share.give(all, 1, count);
-    gather(rest, all, book);
-    all.give(&mut first.seen.share, 1, count);
 }

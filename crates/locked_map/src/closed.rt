@@ -1,7 +1,7 @@
 //! The result of `close`: the core and the callers, in one value, so that neither is dropped by
 //! mistake.
-use crate::caller::Caller;
 use boost_core::Core;
+use core_tokens::Caller;
 use std::sync::ledger::Ledger;
 use undo_log::Side;
 

@@ -1,27 +1,18 @@
 //! A transactional map that callers in several threads share: one core under one lock.
 //!
-//! - A *token*, `Caller`, is one caller. `SharedMap::new` makes a `Pass` for each number, and a
-//!   pass makes the token of its number, once. The calls are made on a `&SharedMap` with a `&mut
-//!   Caller`: `begin`, `put`, `put_if`, `take`, `get`, `save`, `back`, `commit`, `abort` and
-//!   `help`, any of which `run` takes by its value; and `side`. A token keeps in `seen` the entries
-//!   that its calls have added to the history, and a side value, whose changes a transaction takes
-//!   back with its others.
-//! - A *hold* of the lock is one turn of a call, one step of the core or two. So other callers take
-//!   their steps between any two turns, also while changes are taken back. Under the lock
-//!   `Caller::hold` runs: the core makes the moves of the turn, and `seen` gains their entries.
-//! - Unless its token has the right to the stripe of its key, an operation first tries the stripe's
-//!   *word*, an atomic word outside the lock that says who holds the stripe. If the word was free,
-//!   the token has the right from then on, and the core is asked by it; if not, the core is asked
-//!   by the word, and the operation is busy with the caller that the word names. A token keeps its
-//!   rights until its transaction has committed or aborted, and then gives all of them back outside
-//!   the lock. So a Busy entry may name a caller whose transaction has just ended.
-//! - Between two holds a token knows of the core only its own entries, and the seat that they give
-//!   it. If the core's answer is impossible by these, the call ends with `OutOfStep`, and so does
-//!   every later call of the token.
+//! - A *token*, `Caller` of `core_tokens`, is one caller. `SharedMap::new` makes a `Pass` for each
+//!   number, and a pass makes the token of its number, once. The calls are made on a `&SharedMap`
+//!   with a `&mut Caller`: `begin`, `put`, `put_if`, `take`, `get`, `save`, `back`, `commit`,
+//!   `abort` and `help`, any of which `run` takes by its value; and `side`.
+//! - Each *hold* of a token, one turn of a call, is one hold of the lock. So other callers take
+//!   their steps between any two turns, also while changes are taken back. The words of stripes are
+//!   tried, and rights given back, outside the lock.
+//! - Between two holds only the invariants of the core's type are known: what a token knows is
+//!   what `core_tokens` says. If the core's answer is impossible by that, the call ends with
+//!   `OutOfStep`, and so does every later call of the token.
 //! - `SharedMap::close` takes all tokens back and compares: the history is legal, each caller's own
-//!   entries in it are its `seen`, and there are no others, since a ledger counts them. The ledger
-//!   is `std`'s `sync::ledger`: the lock's value, `Booked`, holds the book, each token a share. Its
-//!   name `L` is the first parameter of each type, and is picked as `sync::ledger` says.
+//!   entries in it are its `seen`, and there are no others, since a ledger counts them. The lock's
+//!   value, `Booked`, holds the ledger's book, each token a share.
 //! - `laws::helped` is about the holds of a call for help: they initialise its key's bucket.
 //!
 //! No clause is about time: none says that a call returns, or that two threads ran at once.
@@ -44,28 +35,16 @@
 //! has an example with threads. Calls take constant time and no memory unless they say otherwise.
 #![tactic(auto)]
 
-mod booked;
-mod caller;
 mod calls;
-mod claims;
 mod close;
 mod closed;
-mod ends;
-pub mod laws;
-mod no_side;
-mod pass;
 mod receipt;
-mod seen;
 mod shared_map;
-mod turns;
 mod unclosed;
 
-pub use booked::Booked;
-pub use caller::Caller;
 pub use closed::Closed;
+pub use core_tokens::{Booked, Caller, NoJob, NoSide, Pass, laws};
 pub use map_answers::Stop;
-pub use no_side::{NoJob, NoSide};
-pub use pass::Pass;
 pub use receipt::Receipt;
 pub use shared_map::{OnRelease, SharedMap};
 pub use unclosed::Unclosed;

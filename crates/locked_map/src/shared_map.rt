@@ -1,28 +1,21 @@
 //! The shared map: the core under its lock, and a drive's turns, each under one hold of it. Between
 //! two holds only the invariants of the core's type are known; the clauses of a call are about its
 //! holds (`WentOn`).
-ghost use Rattle.std.specs.Prelude.{◌≡◌, ◌<◌, ◌≤◌, true, IfOk, IfErr, map};
-ghost use Rattle.std.specs.List.{range_with_len};
+ghost use Rattle.std.specs.Prelude.{◌≡◌, true, IfOk, IfErr};
 ghost use Rattle.txn_words.specs.Shape.{seat_after};
 ghost use Rattle.txn_drive.specs.Drives.{first_phase};
-ghost use Rattle.locked_map.specs.Calls.{Ended, IsDone, Leaves, Ran};
-ghost use Rattle.locked_map.specs.Holds.{FitsIf, HasRun, IsHeld, is_out};
-ghost use Rattle.locked_map.specs.Tokens.{AreTickets, HasTried, IsSameCaller, IsSameClaims};
-ghost use Rattle.locked_map.specs.Tokens.{new_ticket};
+ghost use Rattle.core_tokens.specs.Holds.{FitsIf, HasRun, is_out};
+ghost use Rattle.core_tokens.specs.Tokens.{AreTickets, HasTried, IsSameCaller, IsSameClaims};
+ghost use Rattle.locked_map.specs.Calls.{Ended, IsDone, IsHeld, Leaves, Ran};
 ghost use Rattle.txn_words.specs.declared.holder.Holder.TheVariants.{Begun};
 ghost use Rattle.txn_trace.specs.Legal.{IsLegal};
-ghost use Rattle.key_words.specs.Seats.{AreSeats, stripes_of};
 
-use crate::booked::Booked;
-use crate::caller::Caller;
-use crate::claims::Claims;
-use crate::pass::Pass;
 use boost_core::{Call, Drive, End};
-use key_words::{KeySeat, KeyWords, StripeRight};
+use core_tokens::{Booked, Caller, Pass};
 use map_answers::Stop;
-use std::alloc::{AllocError, Global};
-use std::sync::ledger::{Blank, Ledger, Share};
-use std::sync::{Arc, Mutex, Wait};
+use std::alloc::Global;
+use std::sync::ledger::{Blank, Ledger};
+use std::sync::{Mutex, Wait};
 use txn_trace::{Limits, Refusal};
 use undo_log::Side;
 
@@ -75,14 +68,9 @@ impl<L: Ledger> SharedMap<L> {
         ensures passes { IfOk result (λ r. AreTickets limits r.1.items) }
         ensures err { IfErr result (λ refusal. refusal ≡ Refusal.NoMemory) }
     {
-        let (book, mut all) = blank.open::<L>();
-        let none = all.empty();
-        let booked = Mutex::new(Booked::new(alloc, limits, book, none)?);
-        let (words, seats) = words_of(alloc, limits)?;
-        match passes_of(alloc, limits, words, seats, &mut all) {
-            Ok(passes) => Ok((SharedMap { booked, limits }, passes)),
-            Err(AllocError) => Err(Refusal::NoMemory),
-        }
+        let (booked, passes) = Booked::new(alloc, blank, limits)?;
+        let booked = Mutex::new(booked);
+        Ok((SharedMap { booked, limits }, passes))
     }
 
     /// The map's limits.
@@ -106,7 +94,7 @@ impl<L: Ledger> SharedMap<L> {
     }
 
     /// Takes the turns of a call, each under one hold, until the call has ended.
-    #[tactic(auto, using(crate::proofs::Quiet::new_quiet))]
+    #[tactic(auto, using(crate::proofs::Driving::new_quiet))]
     fn drive<S: Side, H: OnRelease, R: Wait>(
         &self,
         rt: &R,
@@ -154,9 +142,6 @@ impl<L: Ledger> SharedMap<L> {
     ) -> End
         ensures { Ended S.words_of me.old call result me.new }
     {
-        if let Some(refusal) = me.refusal(call) {
-            return End::Refused(refusal);
-        }
         if let Err(refusal) = me.make_ready(call) {
             return End::Refused(refusal);
         }
@@ -182,53 +167,4 @@ impl<L: Ledger> SharedMap<L> {
             end => Ok(end),
         }
     }
-}
-
-/// The words of a map with these limits, all of them free, and a seat for each caller.
-///
-/// # Errors
-///
-/// `NoMemory` if memory is refused.
-fn words_of(alloc: Global, limits: Limits) -> Result<(Arc<KeyWords, Global>, Vec<KeySeat>), Refusal>
-    ensures words { IfOk result (λ r. stripes_of r.0.value ≡ limits.stripes) }
-    ensures seats { IfOk result (λ r. AreSeats r.0.value limits.callers r.1.items) }
-    ensures err { IfErr result (λ refusal. refusal ≡ Refusal.NoMemory) }
-{
-    let Ok(rights) = StripeRight::all(alloc, limits.stripes() as usize) else {
-        return Err(Refusal::NoMemory);
-    };
-    let Ok((words, seats)) = KeyWords::new(alloc, rights, limits.callers() as usize) else {
-        return Err(Refusal::NoMemory);
-    };
-    let Ok(words) = Arc::new(alloc, words) else {
-        return Err(Refusal::NoMemory);
-    };
-    Ok((words, seats))
-}
-
-/// A pass for each seat, by rising number, with one part of the share each. The seats are taken out
-/// of their list, the last one first.
-fn passes_of<L: Ledger>(
-    alloc: Global,
-    limits: Limits,
-    words: Arc<KeyWords, Global>,
-    mut seats: Vec<KeySeat>,
-    all: &mut Share<L>,
-) -> Result<Vec<Pass<L>>, AllocError>
-    requires stripes { stripes_of words.value ≡ limits.stripes }
-    requires seats { AreSeats words.value limits.callers seats.items }
-    requires parts { all.old.parts ≡ limits.callers }
-    requires amount { all.old.amount ≡ 0 }
-    ensures { IfOk result (λ passes. passes.items
-        ≡ map (new_ticket limits words.value.table.shared.table_id)
-        (range_with_len 0 limits.callers)) }
-{
-    let mut passes = Vec::with_capacity(alloc, seats.len())?;
-    while let Some(seat) = seats.pop() {
-        let number = seats.len() as u64;
-        let share = all.split_off(1, 0);
-        let claims = Claims::new(alloc, Arc::try_clone(&words)?, seat);
-        passes.insert(0, Pass::new(number, limits, share, claims))?;
-    }
-    Ok(passes)
 }

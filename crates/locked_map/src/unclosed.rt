@@ -3,9 +3,9 @@
 ghost use Rattle.std.specs.Prelude.{◌≡◌};
 ghost use Rattle.locked_map.specs.Texts.{text_of};
 
-use crate::caller::Caller;
 use crate::shared_map::SharedMap;
 use boost_core::Core;
+use core_tokens::Caller;
 use std::error::Error;
 use std::fmt;
 use std::sync::ledger::Ledger;

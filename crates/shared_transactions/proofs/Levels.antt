@@ -8,9 +8,9 @@ use Rattle.txn_drive.specs.declared.call.Call.{Call}
 use Rattle.txn_drive.specs.declared.call.Call.TheVariants as calls
 use Rattle.txn_drive.specs.declared.«end».End.TheVariants as ends
 use Rattle.txn_drive.specs.Made.{undone_by}
-use Rattle.locked_map.specs.Noted.{last_txn}
+use Rattle.core_tokens.specs.Noted.{last_txn}
 use Rattle.locked_map.specs.Calls.{LeavesBy, Passed, Stopped}
-use Rattle.locked_map.specs.Tokens.{Token}
+use Rattle.core_tokens.specs.Tokens.{Token}
 use Rattle.map_answers.specs.declared.stop.Stop.{Stop}
 use Rattle.map_answers.specs.declared.stop.Stop.TheVariants as stops
 use Rattle.shared_transactions.specs.Keeps.{Keeps}

@@ -7,7 +7,7 @@ use Rattle.std.proofs.Math.Seq.{take-suc}
 use Rattle.txn_words.specs.declared.op.Op.TheVariants.{Put}
 use Rattle.txn_words.specs.declared.entry.Entry.{Entry}
 use Rattle.txn_words.specs.declared.entry.Entry.TheVariants.{Began, Asked, Did, Committed}
-use Rattle.locked_map.specs.Tokens.{Token, Ticket, AreTickets, new_ticket}
+use Rattle.core_tokens.specs.Tokens.{Token, Ticket, AreTickets, new_ticket}
 use Rattle.shared_transactions.specs.Within.{IsBegun, IsCommitted, GoesOn}
 use Rattle.shared_transactions.specs.Restarted.{ArePuts, HasPut, IsRefilled}
 

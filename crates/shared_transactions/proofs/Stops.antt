@@ -10,7 +10,7 @@ use Rattle.txn_words.specs.Map.{key_of}
 use Rattle.txn_drive.specs.declared.call.Call.TheVariants as calls
 use Rattle.txn_drive.specs.declared.«end».End.TheVariants as ends
 use Rattle.locked_map.specs.Calls.{Ran, WasRefused}
-use Rattle.locked_map.specs.Tokens.{Token}
+use Rattle.core_tokens.specs.Tokens.{Token}
 use Rattle.shared_transactions.specs.Stops.{StoppedGrowing}
 
 -- An operation was done, at a key that was not there, and the help after it fell out of step.

@@ -4,7 +4,7 @@ use Rattle.std.specs.Prelude.{Result, Ok, Err, IfOk, IfErr, OnErr}
 use Rattle.std.proofs.lemmas.Bool.{false≢true}
 use Rattle.map_answers.specs.declared.stop.Stop.{Stop}
 use Rattle.map_answers.specs.declared.stop.Stop.TheVariants.{Busy, Refused}
-use Rattle.locked_map.specs.Tokens.{Token}
+use Rattle.core_tokens.specs.Tokens.{Token}
 use Rattle.shared_transactions.specs.Within.{GoesOn, IsBegun, IsTakenBack, IsUndone}
 use Rattle.shared_transactions.specs.Tries.{is_busy_stop, is_busy, IsWhy, Fails, BusyTries, HasTried, GivesUp}
 

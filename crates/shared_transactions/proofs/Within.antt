@@ -23,11 +23,12 @@ use Rattle.txn_drive.specs.declared.«end».End.{End}
 use Rattle.txn_drive.specs.declared.«end».End.TheVariants as ends
 use Rattle.txn_drive.specs.Drives.{first_step}
 use Rattle.txn_drive.specs.Made.{undone_by, IsMade}
-use Rattle.locked_map.specs.Calls.{Ended, Ran, FellOut, Failed, TriedNothing, WasRefused, WentOn, refused_by, refused_at}
-use Rattle.locked_map.specs.Claims.{Claimed, Readies, given_back}
-use Rattle.locked_map.specs.Holds.{CommitNothing}
-use Rattle.locked_map.specs.Tokens.{Token, IsSameCaller, is_over}
-use Rattle.locked_map.specs.Noted.{began_by, last_txn}
+use Rattle.locked_map.specs.Calls.{Ended, Ran, FellOut, Failed, TriedNothing, WasRefused, WentOn}
+use Rattle.core_tokens.specs.Ready.{refused_by, refused_at}
+use Rattle.core_tokens.specs.Claims.{Claimed, Readies, given_back}
+use Rattle.core_tokens.specs.Holds.{CommitNothing}
+use Rattle.core_tokens.specs.Tokens.{Token, IsSameCaller, is_over}
+use Rattle.core_tokens.specs.Noted.{began_by, last_txn}
 use Rattle.shared_transactions.specs.Within.{is_idle, is_steady, is_steady_in, HoldsNone, HoldsWithin, IsOver, IsSince, GoesOn, IsTakenBack, IsUndone, IsBegun, IsCommitted, IsRun, is_quiet}
 use Rattle.shared_transactions.specs.Keeps.{Keeps}
 use Rattle.shared_transactions.specs.Stops.{IsNotCommitted, IsRefusalOf}

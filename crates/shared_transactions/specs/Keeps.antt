@@ -1,7 +1,7 @@
 -- What every call within a transaction keeps, so also every work that is made of such calls.
 use Rattle.std.specs.Prelude.{◌≡◌}
 use Rattle.std.specs.Borrow.{MutBor}
-use Rattle.locked_map.specs.Tokens.{Token}
+use Rattle.core_tokens.specs.Tokens.{Token}
 use Rattle.shared_transactions.specs.Within.{GoesOn}
 
 -- It is the same token, and it went on.

@@ -8,8 +8,8 @@ use Rattle.txn_words.specs.declared.op.Op.TheVariants.{Put}
 use Rattle.txn_words.specs.declared.refusal.Refusal.TheVariants.{NoMemory}
 use Rattle.txn_words.specs.declared.entry.Entry.{Entry}
 use Rattle.txn_words.specs.declared.entry.Entry.TheVariants.{Began, Asked, Did, Committed}
-use Rattle.locked_map.specs.Claims.{IsIdle}
-use Rattle.locked_map.specs.Tokens.{Token}
+use Rattle.core_tokens.specs.Claims.{IsIdle}
+use Rattle.core_tokens.specs.Tokens.{Token}
 use Rattle.shared_transactions.specs.Stops.{IsNotCommitted, StoppedGrowing}
 use Rattle.shared_transactions.specs.Tries.{IsNotBegun}
 use Rattle.shared_transactions.specs.Within.{IsBegun, IsOver}

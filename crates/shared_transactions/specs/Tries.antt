@@ -5,7 +5,7 @@ use Rattle.std.specs.Prelude.{ℕ, ◌≡◌, ◌≤◌, ◌⊎◌, zero, suc, B
 use Rattle.map_answers.specs.declared.stop.Stop.{Stop}
 use Rattle.map_answers.specs.declared.stop.Stop.TheVariants.{Busy, Refused}
 use Rattle.txn_drive.specs.declared.call.Call.TheVariants as calls
-use Rattle.locked_map.specs.Tokens.{Token}
+use Rattle.core_tokens.specs.Tokens.{Token}
 use Rattle.shared_transactions.specs.Stops.{IsNotCommitted, IsRefusalOf}
 use Rattle.shared_transactions.specs.Within.{GoesOn, IsBegun, IsOver, IsTakenBack, IsUndone}
 

@@ -9,10 +9,10 @@ use Rattle.txn_words.specs.Seats.{is_closed}
 use Rattle.txn_words.specs.Shape.{Seat, seat_after}
 use Rattle.txn_drive.specs.declared.call.Call.{Call}
 use Rattle.txn_drive.specs.declared.call.Call.TheVariants as calls
-use Rattle.locked_map.specs.Claims.{Claimed, given_back}
-use Rattle.locked_map.specs.Holds.{CommitNothing}
-use Rattle.locked_map.specs.Noted.{last_txn}
-use Rattle.locked_map.specs.Tokens.{Token, IsSameCaller, is_over}
+use Rattle.core_tokens.specs.Claims.{Claimed, given_back}
+use Rattle.core_tokens.specs.Holds.{CommitNothing}
+use Rattle.core_tokens.specs.Noted.{last_txn}
+use Rattle.core_tokens.specs.Tokens.{Token, IsSameCaller, is_over}
 
 -- Nothing is unfinished: there is no transaction, or one that can go on.
 abbrev pub is_steady_in : Phase → Bool

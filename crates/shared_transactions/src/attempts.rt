@@ -4,8 +4,8 @@
 //! its parameter `L` is owned by a ghost member of a bound.
 ghost use Rattle.std.specs.Prelude.{◌≡◌, true, false, IfOk, IfErr, OnErr, Ok};
 ghost use Rattle.std.specs.Borrow.{MutBor};
-ghost use Rattle.locked_map.specs.Tokens.{Token};
-ghost use Rattle.locked_map.specs.declared.no_side.NoSide.{NoSide};
+ghost use Rattle.core_tokens.specs.Tokens.{Token};
+ghost use Rattle.core_tokens.specs.declared.no_side.NoSide.{NoSide};
 ghost use Rattle.shared_transactions.specs.Keeps.{Keeps};
 ghost use Rattle.shared_transactions.specs.Stops.{IsNotCommitted};
 ghost use Rattle.shared_transactions.specs.Tries.{Fails, GivesUp, HasTried, IsNotBegun, is_busy};

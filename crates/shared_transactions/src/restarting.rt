@@ -6,7 +6,7 @@
 ghost use Rattle.std.specs.Prelude.{◌≡◌, ◌∷◌, ◌++◌, [], IfOk, IfErr, OnOk};
 ghost use Rattle.txn_trace.specs.Now.{now};
 ghost use Rattle.txn_words.specs.Ordered.{ordered};
-ghost use Rattle.locked_map.specs.Tokens.{AreTickets, Ticket};
+ghost use Rattle.core_tokens.specs.Tokens.{AreTickets, Ticket};
 ghost use Rattle.shared_transactions.specs.Keeps.{Keeps};
 ghost use Rattle.shared_transactions.specs.Restarted.{HasPut, IsNotRestarted, IsRefilled};
 ghost use Rattle.shared_transactions.specs.Restarted.{StopsPutting, StopsRefilling};

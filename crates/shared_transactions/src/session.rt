@@ -5,7 +5,7 @@
 //! method. A `run` that starts threads gets no proof from the toolchain: what it sends to a thread
 //! rests on the bounds of the method. A caller with threads names the ledger itself, as `visits`.
 ghost use Rattle.std.specs.Prelude.{◌≡◌, ◌<◌, IfOk, IfErr, OnErr, length, map};
-ghost use Rattle.locked_map.specs.Tokens.{AreTickets};
+ghost use Rattle.core_tokens.specs.Tokens.{AreTickets};
 
 use locked_map::{Caller, NoSide, Pass, SharedMap};
 use std::alloc::{AllocError, Global};

@@ -11,7 +11,7 @@ use Rattle.txn_drive.specs.declared.«end».End.{End}
 use Rattle.txn_drive.specs.declared.«end».End.TheVariants as ends
 use Rattle.txn_drive.specs.Made.{IsMade}
 use Rattle.locked_map.specs.Calls.{Ended, Failed}
-use Rattle.locked_map.specs.Tokens.{Token, IsSameCaller}
+use Rattle.core_tokens.specs.Tokens.{Token, IsSameCaller}
 use Rattle.thread_runs.specs.Runs.{Adds, HasRoomFor, HasRoomAt}
 
 -- A call that was not made, since memory was refused for its reply, adds none.

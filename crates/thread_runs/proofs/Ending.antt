@@ -31,9 +31,10 @@ use Rattle.script_worker.specs.declared.attempt.Progress.TheVariants.{Next, Over
 use Rattle.script_worker.specs.declared.attempt.Finish.{Finish}
 use Rattle.script_worker.specs.declared.attempt.Finish.TheVariants as finishes
 use Rattle.script_worker.specs.Attempts.{attempt_at, first_attempt, call_of, call_at, done_with, done_at, busy_at, refused_with, refused_in, refused_at, progress_at, progress_of}
-use Rattle.locked_map.specs.Calls.{Ran, Failed, refused_at as refused_token, refused_help}
-use Rattle.locked_map.specs.Suits.{may_refuse}
-use Rattle.locked_map.specs.Tokens.{Token}
+use Rattle.locked_map.specs.Calls.{Ran, Failed}
+use Rattle.core_tokens.specs.Ready.{refused_at as refused_token, refused_help}
+use Rattle.core_tokens.specs.Suits.{may_refuse}
+use Rattle.core_tokens.specs.Tokens.{Token}
 use Rattle.script_worker.specs.Accounts.{Outcome}
 use Rattle.thread_runs.specs.Possible.{has_bad_key, is_back, is_abort, MayBeRefused, MayCome, is_op}
 use Rattle.script_worker.specs.Chunks.{Heard, outcome_by}

@@ -20,9 +20,10 @@ use Rattle.script_worker.specs.declared.attempt.Progress.{Progress}
 use Rattle.script_worker.specs.declared.attempt.Progress.TheVariants.{Over}
 use Rattle.script_worker.specs.Attempts.{call_at, progress_of}
 use Rattle.script_worker.specs.Chunks.{Heard}
-use Rattle.locked_map.specs.Calls.{Ended, Failed, FellOut, refused_at}
-use Rattle.locked_map.specs.Holds.{CommitNothing, is_out}
-use Rattle.locked_map.specs.Tokens.{Token}
+use Rattle.locked_map.specs.Calls.{Ended, Failed, FellOut}
+use Rattle.core_tokens.specs.Ready.{refused_at}
+use Rattle.core_tokens.specs.Holds.{CommitNothing, is_out}
+use Rattle.core_tokens.specs.Tokens.{Token}
 use Rattle.script_worker.specs.Accounts as accounts
 use Rattle.script_worker.specs.Accounts.{Outcome}
 use Rattle.thread_runs.specs.Runs.{Adds, Grows, HasEnded, HasRunTo, IsIn, phase_at}

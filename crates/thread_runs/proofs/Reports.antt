@@ -16,7 +16,7 @@ use Rattle.txn_trace.specs.Replies.{RepliesHold}
 use Rattle.txn_words.specs.Shape.{own, IsShaped}
 use Rattle.txn_words.specs.Sizes.{Sizes}
 use Rattle.locked_map.specs.Closes.{IsOwn}
-use Rattle.locked_map.specs.Tokens.{Ticket, new_ticket}
+use Rattle.core_tokens.specs.Tokens.{Ticket, new_ticket}
 use Rattle.thread_runs.specs.declared.outcome.Outcome as codes
 use Rattle.thread_runs.specs.declared.worker.WorkerReport.{WorkerReport}
 use Rattle.script_worker.specs.Accounts.{Outcome, every, AreAllTrue}

@@ -22,9 +22,9 @@ use Rattle.txn_drive.specs.Made.{IsMade}
 use Rattle.script_worker.specs.declared.attempt.Stage.{Stage}
 use Rattle.script_worker.specs.declared.attempt.Stage.TheVariants.{Beginning}
 use Rattle.locked_map.specs.Calls.{Ended}
-use Rattle.locked_map.specs.Holds.{IsQuiet}
-use Rattle.locked_map.specs.Suits.{may_refuse}
-use Rattle.locked_map.specs.Tokens.{Token}
+use Rattle.core_tokens.specs.Holds.{IsQuiet}
+use Rattle.core_tokens.specs.Suits.{may_refuse}
+use Rattle.core_tokens.specs.Tokens.{Token}
 use Rattle.script_worker.specs.Chunks.{Heard, heard_at}
 use Rattle.script_worker.specs.Accounts as accounts
 use Rattle.script_worker.specs.Accounts.{Outcome, IsAccount, AreAccounts, AreAllTrue, every, tolds_of}

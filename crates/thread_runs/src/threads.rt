@@ -1,6 +1,6 @@
 //! The workers' threads: started, each with its caller, and joined in the order of their numbers.
 ghost use Rattle.std.specs.Prelude.{◌≡◌, IfOk, IfErr, length, map};
-ghost use Rattle.locked_map.specs.Tokens.{AreTickets};
+ghost use Rattle.core_tokens.specs.Tokens.{AreTickets};
 ghost use Rattle.thread_runs.specs.Each.{Each};
 ghost use Rattle.thread_runs.specs.Runs.{HasReported, IsRunRefusal};
 

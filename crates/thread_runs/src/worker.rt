@@ -1,7 +1,7 @@
 //! The course of one worker through its scripts. Room for an outcome is made before its script
 //! runs, so no outcome is lost.
 ghost use Rattle.std.specs.Prelude.{◌≡◌, ◌<◌, ◌^◌, [], IfOk, map};
-ghost use Rattle.locked_map.specs.Tokens.{IsSameCaller};
+ghost use Rattle.core_tokens.specs.Tokens.{IsSameCaller};
 ghost use Rattle.thread_runs.specs.Runs.{HasReported, HasRunAll, told_of};
 
 use crate::gate::Gate;

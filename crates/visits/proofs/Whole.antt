@@ -24,7 +24,7 @@ use Rattle.txn_trace.specs.Legal.{IsLegal}
 use Rattle.txn_words.proofs.Maps.{get-insert-here}
 use Rattle.txn_trace.proofs.Now.{same_option}
 use Rattle.txn_trace.proofs.Committing.{has_committed}
-use Rattle.locked_map.specs.Tokens.{Token}
+use Rattle.core_tokens.specs.Tokens.{Token}
 use Rattle.locked_map.specs.Closes.{IsOwn}
 use Rattle.visits.specs.declared.visit.Visit.{Visit}
 use Rattle.visits.specs.Visits.{visiting, HasDone, HasVisited, IsAnswered, AreAnswered}

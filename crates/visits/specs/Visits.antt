@@ -6,7 +6,7 @@ use Rattle.txn_words.specs.declared.entry.Entry.{Entry}
 use Rattle.txn_words.specs.declared.entry.Entry.TheVariants.{Began, Asked, Did, Committed}
 use Rattle.map_answers.specs.declared.stop.Stop.{Stop}
 use Rattle.txn_trace.specs.History.{of}
-use Rattle.locked_map.specs.Tokens.{Token, IsSameCaller}
+use Rattle.core_tokens.specs.Tokens.{Token, IsSameCaller}
 use Rattle.visits.specs.declared.visit.Visit.{Visit}
 
 -- The entries of a transaction that puts a value at a key, gets the key, and commits.

@@ -1,6 +1,6 @@
 //! Calls that are driven by hand, one hold of the lock at a time.
 ghost use Rattle.std.specs.Prelude.{◌≡◌};
-ghost use Rattle.locked_map.specs.Tokens.{HasTried};
+ghost use Rattle.core_tokens.specs.Tokens.{HasTried};
 
 use crate::devices::{Play, Shared, callers_in, has_seen, play_with};
 use boost_core::{Call, Core, Drive, End};

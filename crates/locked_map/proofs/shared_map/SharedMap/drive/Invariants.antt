@@ -1,5 +1,6 @@
 use Rattle.std.specs.Prelude.{◌≡◌}
-use Rattle.locked_map.specs.Holds.{IsGoing, IsHolding}
+use Rattle.core_tokens.specs.Holds.{IsGoing}
+use Rattle.locked_map.specs.Calls.{IsHolding}
 use Rattle.locked_map.proofs.shared_map.SharedMap.drive.Given as goal
 
 abbrev pub invariant-loop : goal.invariant-loop

@@ -1,6 +1,6 @@
 use Rattle.std.specs.Prelude.{◌-◌, length, map}
 use Rattle.txn_words.specs.declared.seat.Phase.TheVariants.{Closed}
-use Rattle.locked_map.specs.Tokens.{IsSameCaller}
+use Rattle.core_tokens.specs.Tokens.{IsSameCaller}
 use Rattle.thread_runs.specs.Runs.{IsIn, told_of}
 use Rattle.thread_runs.proofs.Rounds.{IsSoFar}
 use Rattle.thread_runs.proofs.worker.Orders.outcomes.Given as goal

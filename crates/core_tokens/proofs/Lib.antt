@@ -1,0 +1,17 @@
+pub mod Noting
+pub mod Claiming
+pub mod Phases
+pub mod Starting
+pub mod Working
+pub mod Helping
+pub mod Suiting
+pub mod Stepping
+pub mod Quiet
+pub mod Going
+pub mod Room
+pub mod Holding
+pub mod Refusing
+pub mod Readying
+pub mod Trying
+pub mod Helped
+pub mod Smalls

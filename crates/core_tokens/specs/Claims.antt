@@ -1,0 +1,152 @@
+-- The rights that a caller holds, the word that it tried last, and the effect of calls on them.
+use Rattle.std.specs.Prelude.{ℕ, ◌≡◌, ◌≢◌, ◌+◌, ◌-◌, ◌==◌, List, [], ◌∷◌, ◌++◌, Option, Some, None}
+use Rattle.std.specs.Prelude.{slice_get, if◌then◌else◌}
+use Rattle.atomic_table.specs.Seated.{TableId}
+use Rattle.txn_words.specs.declared.answer.Answer.TheVariants as answers
+use Rattle.txn_words.specs.declared.step.Step.{Step}
+use Rattle.txn_words.specs.declared.step.Step.TheVariants.{Ask}
+use Rattle.txn_trace.specs.Locks.{stripe_of}
+use Rattle.txn_words.specs.Map.{key_of}
+use Rattle.txn_drive.specs.declared.call.Call.{Call}
+use Rattle.txn_drive.specs.declared.call.Call.TheVariants as calls
+use Rattle.txn_drive.specs.declared.«end».End.{End}
+use Rattle.txn_drive.specs.declared.«end».End.TheVariants as ends
+use Rattle.key_words.specs.declared.rights.Rights.{Rights}
+use Rattle.key_words.specs.declared.taken.Tried.{Tried}
+use Rattle.key_words.specs.declared.taken.Tried.TheVariants.{Mine, Another}
+use Rattle.key_words.specs.declared.view.View.{View}
+use Rattle.key_words.specs.declared.words.KeyWords.{KeyWords}
+use Rattle.key_words.specs.Kept.{none_held}
+use Rattle.key_words.specs.Rule.{Holds}
+use Rattle.key_words.specs.Seats.{IsOf}
+use Rattle.key_words.specs.Steps.{gained, with_note}
+use Rattle.boost_core.specs.State.{State}
+use Rattle.boost_core.specs.declared.claim.Claim.{Claim}
+use Rattle.boost_core.specs.declared.claim.Claim.TheVariants.{Lock, Right}
+use Rattle.boost_core.specs.Words.{claim_of}
+
+-- A stripe whose word was tried, and the word that was found: 0 if the caller has the right.
+pub record Trial : Type 0 where
+  pub stripe : ℕ
+  pub word : ℕ
+
+abbrev pub trial : ℕ → ℕ → Option Trial
+trial stripe word = Some (record { stripe = stripe; word = word })
+
+-- The words, the number of stripes, the view of the caller's seat, the stripes whose rights are
+-- held, the newest last, and the last trial.
+pub record Claimed : Type 0 where
+  pub words : TableId
+  pub stripes : ℕ
+  pub seat : View
+  pub held : List ℕ
+  pub tried : Option Trial
+
+-- The trial, from the result of the try.
+abbrev pub trial_of : ℕ → Option Tried → Option Trial
+trial_of stripe None = None
+trial_of stripe (Some (Mine place)) = trial stripe 0
+trial_of stripe (Some (Another word)) = trial stripe word
+
+-- If a right was found it is at its position, and if another's word was found it is not 0.
+abbrev pub IsTrial : List ℕ → ℕ → Option Tried → Type 0
+IsTrial rights stripe None = Unit {0}
+IsTrial rights stripe (Some (Mine place)) = slice_get rights place ≡ Some stripe
+IsTrial rights stripe (Some (Another word)) = word ≢ 0
+
+-- The seat is one of the words, and the result of the try is there.
+pub record IsClaimed (words : KeyWords) (rights : Rights) (stripe : ℕ) (tried : Option Tried) :
+    Type 0 where
+  pub seat : IsOf rights.seat words
+  pub trial : IsTrial rights.rights.items stripe tried
+
+-- Nothing was tried yet, and no right is held.
+pub record IsIdle (k : Claimed) : Type 0 where
+  pub notes : k.seat.notes ≡ []
+  pub stripes : k.seat.held ≡ []
+  pub held : k.held ≡ []
+  pub tried : k.tried ≡ None
+
+-- The states in which a stripe's word may be tried: the right is in hand, the word is 0, or it is
+-- another's.
+pub data Found : Type 0 where
+  InHand : Found
+  WasFree : Found
+  WasHeld : ℕ → Found
+
+-- With the right in hand no word is tried. If it is not, one is, and the seat has one more note, of
+-- this stripe with the word that was found: if that was 0 the caller gets the right, and if not the
+-- word is not the seat's.
+abbrev pub TriesAt : Found → Claimed → ℕ → Claimed → Type 0
+TriesAt InHand k stripe l = Holds k.seat stripe × (l ≡ record k { tried = trial stripe 0 })
+TriesAt WasFree k stripe l =
+    (Holds k.seat stripe → ⊥)
+    × (l
+    ≡ record k {
+      seat = gained k.seat stripe;
+      held = k.held ++ stripe ∷ [];
+      tried = trial stripe 0;
+    })
+TriesAt (WasHeld word) k stripe l =
+    (Holds k.seat stripe → ⊥) × (word ≢ 0) × (word ≢ k.seat.number + 1)
+    × (l ≡ record k { seat = with_note k.seat stripe word; tried = trial stripe word })
+
+-- A stripe's word is tried, unless its right is in hand.
+pub record Tries (k : Claimed) (stripe : ℕ) (l : Claimed) : Type 0 where
+  pub found : Found
+  pub so : TriesAt found k stripe l
+
+-- The last trial was of this stripe.
+abbrev pub HasTriedAt : Option Trial → ℕ → Type 0
+HasTriedAt None stripe = ⊥
+HasTriedAt (Some trial) stripe = trial.stripe ≡ stripe
+
+-- If the call is an operation, the last trial was of the stripe of its key.
+abbrev pub HasTriedFor : Option Trial → ℕ → Call → Type 0
+HasTriedFor tried stripes (calls.Op op) = HasTriedAt tried (stripe_of stripes (key_of op))
+HasTriedFor tried stripes call = Unit {0}
+
+-- If the step asks for an operation, the last trial was of the stripe of its key.
+abbrev pub HasTriedStep : Option Trial → ℕ → Step → Type 0
+HasTriedStep tried stripes (Ask c op) = HasTriedAt tried (stripe_of stripes (key_of op))
+HasTriedStep tried stripes step = Unit {0}
+
+-- If there is a step that asks for an operation, the last trial was of the stripe of its key.
+abbrev pub HasTriedIf : Option Trial → ℕ → Option Step → Type 0
+HasTriedIf tried stripes None = Unit {0}
+HasTriedIf tried stripes (Some step) = HasTriedStep tried stripes step
+
+-- The claim of a caller with this trial: by the right that it found, or by the word.
+abbrev pub claim_by : State → ℕ → Trial → Claim
+claim_by m c trial = if trial.word == 0 then Right else claim_of m c (trial.word - 1)
+
+-- The claim of a step to its stripe: an operation claims it by the last trial, any other step by no
+-- right and no word.
+abbrev pub claim_in : Option Trial → State → Step → Claim
+claim_in None m step = Lock
+claim_in (Some trial) m (Ask c op) = claim_by m c trial
+claim_in (Some trial) m step = Lock
+
+-- The claims of a call before its first hold: an operation tries the word of its key's
+-- stripe.
+abbrev pub Readies : Claimed → Call → Claimed → Type 0
+Readies k (calls.Op op) l = Tries k (stripe_of k.stripes (key_of op)) l
+Readies k call l = l ≡ k
+
+-- All rights are given back.
+abbrev pub given_back : Claimed → Claimed
+given_back k = record k { seat = none_held k.seat; held = []; tried = None }
+
+-- The claims after the end of a call: all rights are given back if it ends the transaction, and if
+-- not they are unchanged.
+abbrev pub claims_at : End → Claimed → Claimed
+claims_at (ends.Answered (answers.Committed place)) k = given_back k
+claims_at (ends.Answered answers.Aborted) k = given_back k
+claims_at (ends.Busy holder) k = given_back k
+claims_at outcome k = k
+
+-- The claims after a call with this end.
+pub record ClaimsAfter (k : Claimed) (call : Call) (outcome : End) (l : Claimed) : Type 0 where
+  pub ready : Claimed
+  pub readied : Readies k call ready
+  pub left : l ≡ claims_at outcome ready

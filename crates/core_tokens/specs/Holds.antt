@@ -1,0 +1,180 @@
+-- The effect of a hold, which is one turn of a call on the core, on core, token and drive, and the
+-- effect of a call by its end.
+use Rattle.std.specs.Prelude.{ℕ, ◌≡◌, ◌≢◌, Bool, true, false, not, ◌||◌, List, [], ◌++◌}
+use Rattle.std.specs.Prelude.{Option, Some, None, is_some}
+use Rattle.std.specs.List.{filter}
+use Rattle.txn_words.specs.declared.answer.Answer.{Answer}
+use Rattle.txn_words.specs.declared.answer.Answer.TheVariants as answers
+use Rattle.txn_words.specs.declared.entry.Entry.{Entry}
+use Rattle.txn_words.specs.declared.refusal.Refusal.TheVariants.{NoMemory, OutOfStep}
+use Rattle.txn_words.specs.declared.step.Step.{Step}
+use Rattle.txn_words.specs.Entries.{entries_of}
+use Rattle.txn_words.specs.Kinds.{is_commit}
+use Rattle.txn_words.specs.Shape.{Seat, seat_after}
+use Rattle.txn_words.specs.Sizes.{Sizes}
+use Rattle.txn_drive.specs.declared.call.Call.{Call}
+use Rattle.txn_drive.specs.declared.drive.Drive.{Drive}
+use Rattle.txn_drive.specs.declared.«end».End.{End}
+use Rattle.txn_drive.specs.declared.«end».End.TheVariants as ends
+use Rattle.txn_drive.specs.declared.turn.Turn.{Turn}
+use Rattle.txn_drive.specs.declared.turn.Turn.TheVariants.{One, Two, Ended}
+use Rattle.txn_drive.specs.declared.phase.Phase.{Phase}
+use Rattle.txn_drive.specs.Made.{made, IsMade}
+use Rattle.txn_drive.specs.Drives.{sized_of, step_of, turn_of, told_of, end_of}
+use Rattle.boost_core.specs.State.{State}
+use Rattle.boost_core.specs.Words.{Goes}
+use Rattle.core_tokens.specs.Claims.{Claimed, Trial, HasTriedIf, claim_in}
+use Rattle.core_tokens.specs.Tokens.{Token, IsSameCaller, IsSameClaims}
+use Rattle.core_tokens.specs.Suits.{is_odd, may_refuse, Fits, IsInStep, IsSized}
+
+-- The course of a hold: the token was broken; the core does not have as many stripes as there are
+-- words; there was no room for what the turn may add; or the turn was taken.
+pub data How : Type 0 where
+  WasBroken : How
+  FoundOther : How
+  HadNoRoom : How
+  TookTurn : How
+
+-- Whether a call has ended, in a way that it may not.
+abbrev pub odd_if : Call → Option End → Bool
+odd_if call None = false
+odd_if call (Some outcome) = is_odd call outcome
+
+-- The answer of a hold after its turn.
+abbrev pub end_in : Bool → Option End → Option End
+end_in true outcome = Some (ends.Refused OutOfStep)
+end_in false outcome = outcome
+
+-- Whether an end says that the call is out of step.
+abbrev pub is_out : End → Bool
+is_out (ends.Refused OutOfStep) = true
+is_out outcome = false
+
+abbrev pub out_if : Option End → Bool
+out_if None = false
+out_if (Some outcome) = is_out outcome
+
+-- Claims, a core and seen entries with which the next step of a drive may be taken.
+pub record MayTake (claims : Claimed) (m : State) (seen : List Entry) (d : Drive) : Type 0 where
+  pub whole : is_some (seat_after seen) ≡ true
+  pub stripes : m.limits.stripes ≡ claims.stripes
+  pub tried : HasTriedIf claims.tried claims.stripes (step_of d)
+
+-- A step is taken: the core makes its move, or, if an operation is asked for, the outcome is that
+-- of the claim to its stripe; the drive is told the answer, and the step's entries are seen.
+pub record Takes (tried : Option Trial) (m : State) (seen : List Entry) (d : Drive) (step : Step)
+    (answer : Answer) (n : State) (seen' : List Entry) (e : Drive) : Type 0 where
+  pub goes : Goes (claim_in tried m step) m step answer n
+  pub told : e ≡ told_of d answer
+  pub entries : seen' ≡ seen ++ entries_of step answer
+
+-- After the first of two steps, the second is taken if the answer was `placed`.
+abbrev pub TakesSecond : Option Trial → State → List Entry → Drive → Step → Answer → State
+    → List Entry → Drive → Type 0
+TakesSecond tried m seen d step answers.Placed n seen' e =
+    (answer : Answer) × Takes tried m seen d step answer n seen' e
+TakesSecond tried m seen d step answer n seen' e = (n ≡ m) × (seen' ≡ seen) × (e ≡ d)
+
+-- A turn is taken: its steps and no other.
+abbrev pub TakesTurn : Option Trial → State → List Entry → Drive → Turn → State → List Entry
+    → Drive → Type 0
+TakesTurn tried m seen d (One step) n seen' e =
+    (answer : Answer) × Takes tried m seen d step answer n seen' e
+TakesTurn tried m seen d (Two step next) n seen' e =
+    (answer : Answer) × (between : State) × (middle : List Entry) × (half : Drive)
+    × Takes tried m seen d step answer between middle half
+    × TakesSecond tried between middle half next answer n seen' e
+TakesTurn tried m seen d (Ended outcome) n seen' e = (n ≡ m) × (seen' ≡ seen) × (e ≡ d)
+
+-- A hold that took the drive's turn: the core took the steps of the turn and no other, their
+-- entries are seen and no other, and the drive was told their answers. The token breaks if an entry
+-- has no row, or if the call may not have this end.
+pub record TurnHeld {S : Type 0} (m : State) (k : Token S) (d : Drive) (outcome : Option End)
+    (n : State) (l : Token S) (e : Drive) : Type 0 where
+  pub sound : k.broken ≡ false
+  pub stripes : m.limits.stripes ≡ k.limits.stripes
+  pub turn : TakesTurn k.claims.tried m k.seen d (turn_of d) n l.seen e
+  pub broken : l.broken ≡ (not (is_some (seat_after l.seen)) || odd_if e.call (end_of e))
+  pub ends : outcome ≡ end_in l.broken (end_of e)
+  pub whose : IsSameCaller k l
+  pub claims : IsSameClaims k l
+  pub side : l.side ≡ k.side
+
+abbrev pub HeldBy : {S : Type 0} → How → State → Token S → Drive → Option End → State → Token S
+    → Drive → Type 0
+HeldBy WasBroken m k d outcome n l e =
+    (k.broken ≡ true) × (outcome ≡ Some (ends.Refused OutOfStep)) × (n ≡ m) × (l ≡ k) × (e ≡ d)
+HeldBy FoundOther m k d outcome n l e =
+    (k.broken ≡ false) × (m.limits.stripes ≢ k.limits.stripes)
+    × (outcome ≡ Some (ends.Refused OutOfStep)) × (n ≡ m) × (l ≡ record k { broken = true })
+    × (e ≡ d)
+HeldBy HadNoRoom m k d outcome n l e =
+    (k.broken ≡ false) × (outcome ≡ Some (ends.Refused NoMemory)) × (n ≡ m) × (l ≡ k) × (e ≡ d)
+HeldBy TookTurn m k d outcome n l e = TurnHeld m k d outcome n l e
+
+-- The effect of a hold: the drive is told the size, and its turn is taken, if the token is not
+-- broken and has room and the core has as many stripes as there are words.
+abbrev pub Held : {S : Type 0} → State → Token S → Drive → Option End → State → Token S → Drive
+    → Type 0
+Held m k d outcome n l e = (how : How) × HeldBy how m k (sized_of m.size d) outcome n l e
+
+-- Core and token are in step.
+abbrev pub InStep : {S : Type 0} → State → Token S → Drive → Type 0
+InStep m k d = (k.broken ≡ false) × IsInStep m k.limits k.number k.seen d
+
+-- If the caller's entries have rows, its seat fits the drive.
+abbrev pub FitsIf : Option Seat → Call → Phase → Type 0
+FitsIf None call phase = Unit {0}
+FitsIf (Some s) call phase = Fits s call phase
+
+-- A call in progress; the entries `base` were seen before it.
+pub record GoesOn (base seen : List Entry) (d : Drive) : Type 0 where
+  pub entries : seen ≡ base ++ made d
+  pub fits : FitsIf (seat_after seen) d.call d.phase
+
+-- The effect of taking a turn: `taken` says whether there was room for what it may add. If there
+-- was not, nothing is done, which happens only to a call that has added nothing yet and may be
+-- refused memory.
+pub record TurnTaken (tried : Option Trial) (m : State) (seen : List Entry) (d : Drive)
+    (turn : Turn) (taken : Bool) (n : State) (seen' : List Entry) (e : Drive) : Type 0 where
+  pub took : taken ≡ true → TakesTurn tried m seen d turn n seen' e
+  pub whose : (e.caller ≡ d.caller) × (e.call ≡ d.call)
+  pub no_room : taken ≡ false → (n ≡ m) × (seen' ≡ seen) × (e ≡ d)
+  pub in_step : (limits : Sizes) (c : ℕ) → IsSized m.size d.phase → IsInStep m limits c seen d
+      → IsInStep n limits c seen' e
+  pub goes : (base : List Entry) → GoesOn base seen d → GoesOn base seen' e
+  pub starts : taken ≡ false → (base : List Entry) → GoesOn base seen d
+      → (made d ≡ []) × (may_refuse d.call NoMemory ≡ true)
+
+-- The ends that a call may have.
+abbrev pub MayEnd : Call → End → Type 0
+MayEnd call (ends.Refused OutOfStep) = Unit {0}
+MayEnd call outcome = is_odd call outcome ≡ false
+
+-- None of the entries commits.
+abbrev pub CommitNothing : List Entry → Type 0
+CommitNothing es = filter is_commit es ≡ []
+
+-- A call that ends out of step has committed nothing.
+abbrev pub IsQuiet : End → List Entry → Type 0
+IsQuiet (ends.Refused OutOfStep) added = CommitNothing added
+IsQuiet outcome added = Unit {0}
+
+-- A call with this end; the entries `base` were seen before it. It is quiet, provided that the rule
+-- of shape has a row for each entry that was seen.
+pub record HasRun (base seen : List Entry) (c : ℕ) (call : Call) (outcome : End) : Type 0 where
+  pub added : List Entry
+  pub entries : seen ≡ base ++ added
+  pub made : IsMade c call outcome added
+  pub may : MayEnd call outcome
+  pub quiet : is_some (seat_after seen) ≡ true → IsQuiet outcome added
+
+-- A call in progress that may take its next turn: it has committed nothing.
+pub record IsGoing (base seen : List Entry) (d : Drive) : Type 0 where
+  pub on : GoesOn base seen d
+  pub quiet : CommitNothing (made d)
+
+-- The state of a call after a hold.
+abbrev pub GoesTo : List Entry → List Entry → Drive → Option End → Type 0
+GoesTo base seen d None = IsGoing base seen d
+GoesTo base seen d (Some outcome) = HasRun base seen d.caller d.call outcome

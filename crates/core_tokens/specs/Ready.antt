@@ -1,0 +1,52 @@
+-- The refusal of a call by its token, and a token that was not made ready for a call.
+use Rattle.std.specs.Prelude.{◌≡◌, ◌≤◌, ◌⊎◌, if◌then◌else◌, Bool, true, false, length, Option}
+use Rattle.std.specs.Prelude.{Some, None}
+use Rattle.std.specs.Option.{option_or}
+use Rattle.txn_words.specs.declared.refusal.Refusal.{Refusal}
+use Rattle.txn_words.specs.declared.refusal.Refusal.TheVariants.{BadKey, NoMemory, OutOfStep}
+use Rattle.txn_words.specs.Seats.{refusal_in}
+use Rattle.txn_words.specs.Shape.{Seat, seat_after}
+use Rattle.txn_words.specs.Sizes.{is_bad_key}
+use Rattle.txn_drive.specs.declared.call.Call.{Call}
+use Rattle.txn_drive.specs.declared.call.Call.TheVariants as calls
+use Rattle.txn_drive.specs.Drives.{first_step}
+use Rattle.core_tokens.specs.Tokens.{Token}
+
+-- The refusal of help by its key; the argument says whether the map takes only half keys.
+abbrev pub refused_help : Bool → Call → Option Refusal
+refused_help half (calls.Help key) = if is_bad_key half key then Some BadKey else None
+refused_help half call = None
+
+-- The refusal of a call by the token: out of step if it is broken, else that of the seat which its
+-- entries give it, and then that of help by its key.
+abbrev pub refused_at : Bool → Bool → Option Seat → Call → Option Refusal
+refused_at half true seat call = Some OutOfStep
+refused_at half false None call = Some OutOfStep
+refused_at half false (Some s) call =
+    option_or (refusal_in half s (first_step 0 call)) (refused_help half call)
+
+abbrev pub refused_by : {S : Type 0} → Token S → Call → Option Refusal
+refused_by k call = refused_at k.limits.half k.broken (seat_after k.seen) call
+
+-- A token that lets a call pass and is not ready for it: memory was refused for one more right or
+-- one more level, and nothing has changed; or the side value does not have the level of a return,
+-- and the token is broken, and otherwise unchanged.
+abbrev pub Lacks : {S : Type 0} → Token S → Call → Refusal → Token S → Type 0
+Lacks k (calls.Op op) refusal l = (refusal ≡ NoMemory) × (l ≡ k)
+Lacks k calls.Save refusal l = (refusal ≡ NoMemory) × (l ≡ k)
+Lacks k (calls.Back level) refusal l =
+    (refusal ≡ OutOfStep) × (length k.side.levels ≤ level) × (l ≡ record k { broken = true })
+Lacks k call refusal l = ⊥
+
+-- A token that was not made ready for a call: it refuses the call, and is unchanged, or lacks what
+-- the call needs.
+abbrev pub IsUnready : {S : Type 0} → Token S → Call → Refusal → Token S → Type 0
+IsUnready k call refusal l =
+    ((refused_by k call ≡ Some refusal) × (l ≡ k))
+    ⊎ ((refused_by k call ≡ None) × Lacks k call refusal l)
+
+-- The reason why a change of the side value is refused: the token is broken, or else memory is
+-- refused.
+abbrev pub refused_side : Bool → Refusal
+refused_side true = OutOfStep
+refused_side false = NoMemory

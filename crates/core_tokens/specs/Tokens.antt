@@ -1,0 +1,88 @@
+-- A caller and a pass as contracts see them, and the parts of a caller that a call leaves
+-- unchanged.
+use Rattle.std.specs.Prelude.{ℕ, ◌≡◌, Bool, true, List, length, map, Option, Some, None}
+use Rattle.std.specs.List.{range_with_len, sum_by}
+use Rattle.atomic_table.specs.Seated.{TableId}
+use Rattle.txn_words.specs.declared.entry.Entry.{Entry}
+use Rattle.txn_words.specs.Seats.{is_closed}
+use Rattle.txn_words.specs.Shape.{Seat}
+use Rattle.txn_words.specs.Sizes.{Sizes}
+use Rattle.txn_drive.specs.declared.call.Call.{Call}
+use Rattle.txn_drive.specs.declared.drive.Drive.{Drive}
+use Rattle.txn_drive.specs.Drives.{step_of}
+use Rattle.undo_log.specs.SideValue.{Leveled}
+use Rattle.core_tokens.specs.Claims.{Claimed, HasTriedFor, HasTriedIf, IsIdle}
+
+-- A caller: its number, its map's limits, its side value, the entries that it has seen, its claims
+-- to stripes, and whether it is broken.
+pub record Token (S : Type 0) : Type 0 where
+  pub number : ℕ
+  pub limits : Sizes
+  pub side : Leveled S
+  pub seen : List Entry
+  pub claims : Claimed
+  pub broken : Bool
+
+-- A pass: its number, its map's limits, and its seat at the map's words.
+pub record Ticket : Type 0 where
+  pub number : ℕ
+  pub limits : Sizes
+  pub words : TableId
+
+abbrev pub new_ticket : Sizes → TableId → ℕ → Ticket
+new_ticket limits words number = record { number = number; limits = limits; words = words }
+
+-- One pass for each caller's number, rising, all of them at the same words.
+pub record AreTickets (limits : Sizes) (passes : List Ticket) : Type 0 where
+  pub words : TableId
+  pub are : passes ≡ map (new_ticket limits words) (range_with_len 0 limits.callers)
+
+-- Both are the same caller of the same map.
+pub record IsSameCaller {S : Type 0} (k l : Token S) : Type 0 where
+  pub number : l.number ≡ k.number
+  pub limits : l.limits ≡ k.limits
+
+-- It holds the same rights, and has tried no other word.
+abbrev pub IsSameClaims : {S : Type 0} → Token S → Token S → Type 0
+IsSameClaims k l = l.claims ≡ k.claims
+
+-- All of the caller except its side value and its claims is unchanged.
+pub record IsSameSeen {S : Type 0} (k l : Token S) : Type 0 where
+  pub whose : IsSameCaller k l
+  pub seen : l.seen ≡ k.seen
+  pub broken : l.broken ≡ k.broken
+
+-- All of the caller except its side value is unchanged.
+pub record IsSameButSide {S : Type 0} (k l : Token S) : Type 0 where
+  pub whose : IsSameCaller k l
+  pub seen : l.seen ≡ k.seen
+  pub claims : IsSameClaims k l
+  pub broken : l.broken ≡ k.broken
+
+-- The seat of a pass or of a caller: it has the number, and there is a word for each stripe.
+pub record IsSeated (number : ℕ) (limits : Sizes) (claims : Claimed) : Type 0 where
+  pub number_is : claims.seat.number ≡ number
+  pub stripes : claims.stripes ≡ limits.stripes
+
+-- A pass has tried nothing.
+pub record IsUnused (number : ℕ) (limits : Sizes) (claims : Claimed) : Type 0 where
+  pub seat : IsSeated number limits claims
+  pub idle : IsIdle claims
+
+-- Whether no transaction is open at a seat; if the entries give no seat, none is.
+abbrev pub is_over : Option Seat → Bool
+is_over None = true
+is_over (Some s) = is_closed s.phase
+
+-- If the call is an operation, the last word that the caller has tried is that of its key's stripe.
+abbrev pub HasTried : {S : Type 0} → Token S → Call → Type 0
+HasTried k call = HasTriedFor k.claims.tried k.limits.stripes call
+
+-- If the next step of a drive asks for an operation, the last word that the caller has tried is
+-- that of its key's stripe.
+abbrev pub HasTriedNext : {S : Type 0} → Token S → Drive → Type 0
+HasTriedNext k d = HasTriedIf k.claims.tried k.limits.stripes (step_of d)
+
+-- The history has as many entries as all callers have seen.
+abbrev pub AreCounted : {S : Type 0} → List Entry → List (Token S) → Type 0
+AreCounted h ks = length h ≡ sum_by (λ k. length k.seen) ks

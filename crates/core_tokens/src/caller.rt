@@ -1,0 +1,427 @@
+//! A caller's token: its seat after its own entries, its rights and its side value. Invariant: its
+//! share of the ledger counts as many entries as `seen` has.
+ghost use Rattle.std.specs.Prelude.{◌≡◌, ◌≢◌, ◌<◌, true, false, is_some, length, unwrap_or, Some};
+ghost use Rattle.std.specs.Prelude.{None, [], ◌∷◌, List, ◌+◌, IfSome, IfNone, IfErr, OnOk, OnErr};
+ghost use Rattle.txn_words.specs.declared.entry.Entry.{Entry};
+ghost use Rattle.txn_words.specs.declared.refusal.Refusal.{Refusal};
+ghost use Rattle.txn_words.specs.Shape.{Seat, seat_after};
+ghost use Rattle.txn_drive.specs.declared.«end».End.{End};
+ghost use Rattle.txn_drive.specs.Drives.{first_step};
+ghost use Rattle.core_tokens.specs.Claims.{IsIdle, Readies, claims_at};
+ghost use Rattle.core_tokens.specs.Holds.{Held, InStep, IsGoing, GoesTo, out_if};
+ghost use Rattle.core_tokens.specs.Noted.{last_txn};
+ghost use Rattle.core_tokens.specs.Ready.{IsUnready, refused_by, refused_help, refused_side};
+ghost use Rattle.core_tokens.specs.Sides.{CanFollow, Follows, IsReadyFor};
+ghost use Rattle.undo_log.specs.Sides.{IsSameSide};
+ghost use Rattle.core_tokens.specs.Tokens.{HasTried, HasTriedNext, IsSameButSide, IsSameCaller};
+ghost use Rattle.core_tokens.specs.Tokens.{IsSameClaims, IsSameSeen, IsSeated, is_over};
+
+use crate::booked::Booked;
+use crate::claims::Claims;
+use crate::ends::{breaks, end_in};
+use crate::seen::Seen;
+use crate::turns::take_turn;
+use boost_core::{Call, Drive, End};
+use std::alloc::{AllocError, Global};
+use std::marker::Model;
+use std::sync::ledger::{Ledger, Share};
+use txn_trace::{Answer, Limits, Op, Refusal, SmallEntry, Step};
+use undo_log::{Side, SideJob, SideValue};
+
+/// One caller of a shared map: its token. It cannot be cloned, so each number has at most one.
+///
+/// A contract sees its number, the limits of its map, its side value, in `seen` the entries that
+/// its calls have added, in `claims` the stripes whose rights it holds and all words that it has
+/// tried, and whether it is `broken`: a call that falls out of step breaks it, and from then on
+/// each call is refused with `Refusal::OutOfStep`.
+///
+/// It keeps its rights until its transaction has committed or aborted. A broken token keeps them
+/// for good, and a token that is dropped loses them: their stripes stay held.
+#[derive(Drop)]
+pub struct Caller<L: Ledger, S: Side> {
+    number: u64,
+    limits: Limits,
+    side: SideValue<S>,
+    pub(crate) seen: Seen<L>,
+    claims: Claims,
+    is_broken: bool,
+}
+
+impl<L: Ledger, S: Side> Model for Caller<L, S> {
+    ghost use Rattle.std.specs.Prelude.{◌≡◌, true, false, is_some};
+    ghost use Rattle.txn_words.specs.Shape.{seat_after};
+    ghost use Rattle.core_tokens.specs.Tokens.{IsSeated, Token};
+
+    ghost Value = { Token S };
+
+    ghost view = { λ c. record {
+      number = c.number;
+      limits = c.limits;
+      side = c.side;
+      seen = c.seen.entries;
+      claims = c.claims;
+      broken = c.is_broken;
+    } };
+
+    ghost invariant = { λ c. IsSeated c.number c.limits c.claims
+        × (c.is_broken ≡ false → is_some (seat_after c.seen.entries) ≡ true) };
+}
+
+impl<L: Ledger, S: Side> Caller<L, S> {
+    /// A caller that has seen no entries.
+    pub(crate) fn new(
+        alloc: Global,
+        number: u64,
+        limits: Limits,
+        share: Share<L>,
+        claims: Claims,
+        side: S,
+    ) -> Caller<L, S>
+        requires parts { share.parts ≡ 1 }
+        requires amount { share.amount ≡ 0 }
+        requires seat { IsSeated number limits claims }
+        ensures number { result.number ≡ number }
+        ensures limits { result.limits ≡ limits }
+        ensures seen { result.seen ≡ [] }
+        ensures claims { result.claims ≡ claims }
+        ensures broken { result.broken ≡ false }
+        ensures value { result.side.value ≡ side }
+        ensures levels { result.side.levels ≡ S.words_of side ∷ [] }
+        ensures changes { result.side.changes ≡ 0 }
+        ensures kept { result.side.kept ≡ 0 ∷ [] }
+    {
+        Caller {
+            number,
+            limits,
+            side: SideValue::new(alloc, side),
+            seen: Seen::new(alloc, share),
+            claims,
+            is_broken: false,
+        }
+    }
+
+    /// The caller's number.
+    pub fn number(&self) -> u64
+        ensures { result ≡ self.now.number }
+    {
+        self.number
+    }
+
+    /// The limits of its map.
+    pub fn limits(&self) -> Limits
+        ensures { result ≡ self.now.limits }
+    {
+        self.limits
+    }
+
+    /// The entries that its calls have added, in order. Unless the token is broken, the rule of
+    /// shape has a row for each. They are packed: `txn_trace::Unpacked` goes over them as values of
+    /// `Entry`.
+    pub fn seen(&self) -> &[SmallEntry]
+        ensures seen { result.now ≡ self.now.seen }
+        ensures rows { self.now.broken ≡ false → is_some (seat_after self.now.seen) ≡ true }
+    {
+        self.seen.entries()
+    }
+
+    /// Whether it has no transaction open and may begin one. For a broken token, which may do
+    /// nothing, the answer tells only what its entries say.
+    pub fn is_idle(&self) -> bool
+        ensures { result ≡ is_over (seat_after self.now.seen) }
+    {
+        self.seen.is_over()
+    }
+
+    /// The four words of the side value.
+    ///
+    /// # Cost
+    ///
+    /// One call of the side type's `words`.
+    pub fn words(&self) -> [u64; 4]
+        ensures { result ≡ S.words_of self.now.side.value }
+    {
+        self.side.words()
+    }
+
+    /// Takes the drive's next turn on the core, which nobody else has meanwhile, and answers the
+    /// end of the call, if the drive has ended with it or before.
+    ///
+    /// The core takes the steps of the turn and no other, and `seen` gains their entries and no
+    /// other. An operation is asked for by the word that was tried last, so call `make_ready` or
+    /// `try_word` once before its first turn. Side value and rights are unchanged: `follow` rolls
+    /// the value back and returns the rights when the drive has ended.
+    ///
+    /// # Errors
+    ///
+    /// The end is `Refused` with
+    /// - `OutOfStep` if the token is broken: nothing is done;
+    /// - `OutOfStep` if the core does not have as many stripes as the map has words: no step is
+    ///   taken, and the token breaks;
+    /// - `NoMemory` if memory is refused for room in `seen`: no step is taken;
+    /// - `NoMemory`, `StampsUsedUp` or `StaleWord` if the core refuses the step with it;
+    /// - `OutOfStep` if the core's answer is impossible in the token's state, or if the token would
+    ///   have refused the call, as `help` for a bad key: the token breaks.
+    ///
+    /// If core and token are in step they stay so, and the end is never `OutOfStep`.
+    ///
+    /// # Cost
+    ///
+    /// That of the one or two steps, and otherwise amortized constant time; may take memory, for
+    /// the steps and for `seen`.
+    pub fn hold(&mut self, booked: &mut Booked<L>, drive: &mut Drive) -> Option<End>
+        requires caller { drive.old.caller ≡ self.old.number }
+        requires tried { HasTriedNext self.old drive.old }
+        ensures held { Held booked.old.core self.old drive.old result
+            booked.new.core self.new drive.new }
+        ensures same { self.new.side ≡ self.old.side }
+        ensures caller { IsSameCaller self.old self.new }
+        ensures claims { IsSameClaims self.old self.new }
+        ensures drive { (drive.new.caller ≡ drive.old.caller) × (drive.new.call ≡ drive.old.call) }
+        ensures broken { self.new.broken ≡ out_if result }
+        ensures in_step { InStep booked.old.core self.old drive.old
+            → InStep booked.new.core self.new drive.new
+            × IfSome result (λ e. e ≢ End.Refused Refusal.OutOfStep) }
+        ensures goes { (base : List Entry) → IsGoing base self.old.seen drive.old
+            → GoesTo base self.new.seen drive.new result }
+    {
+        let turn = drive.turn(booked.core.size());
+        if self.is_broken {
+            return Some(End::Refused(Refusal::OutOfStep));
+        }
+        if booked.core.limits().stripes() != self.limits.stripes() {
+            self.is_broken = true;
+            return Some(End::Refused(Refusal::OutOfStep));
+        }
+        if !take_turn(&mut self.seen, &self.claims, booked, drive, turn) {
+            return Some(End::Refused(Refusal::NoMemory));
+        }
+        let _core = booked.core.trace();
+        let end = drive.ended();
+        self.is_broken = breaks(self.seen.is_whole(), drive.call, end);
+        end_in(self.is_broken, end)
+    }
+
+    /// The refusal of a call by the token, before any step.
+    fn refusal(&self, call: Call) -> Option<Refusal>
+        ensures refusal { result ≡ refused_by self.now call }
+        ensures sound { IfNone result (self.now.broken ≡ false) }
+    {
+        if self.is_broken {
+            return Some(Refusal::OutOfStep);
+        }
+        let by_seat = self.seen.refusal(self.limits, first_step(call));
+        by_seat.or(help_refusal(self.limits, call))
+    }
+
+    /// The number of the last transaction that it began, or 0 if it has begun none.
+    pub fn txn(&self) -> u64
+        ensures { result ≡ last_txn self.now.seen }
+    {
+        self.seen.txn()
+    }
+
+    /// The number of savepoints of its transaction. For a broken token, which may do nothing, the
+    /// answer tells only what the entries say that have a row.
+    pub fn levels(&self) -> u64
+        ensures { (s : Seat) → seat_after self.now.seen ≡ Some s → length s.kept ≡ result + 1 }
+    {
+        self.seen.levels()
+    }
+
+    /// Tries the word of the stripe of an operation's key, unless the token has the stripe's right.
+    /// `make_ready` does so too: this is for those who call `hold` for operations only.
+    ///
+    /// If the word was free the token has the right now, and keeps it until its transaction has
+    /// committed or aborted. If not, the word is kept, and the operation is asked for by it.
+    ///
+    /// # Errors
+    ///
+    /// No word was tried, and the token is unchanged:
+    /// - the refusal of the operation by the token, as `make_ready` answers it: so a token without
+    ///   a transaction tries no word;
+    /// - then `NoMemory` if memory is refused for one more right.
+    ///
+    /// # Cost
+    ///
+    /// Time in proportion to the rights that it holds, and one try of one word; takes memory only
+    /// if there is no room for one more right.
+    pub fn try_word(&mut self, op: Op) -> Result<(), Refusal>
+        ensures same { IsSameSeen self.old self.new }
+        ensures side { self.new.side ≡ self.old.side }
+        ensures free { OnOk result (refused_by self.old (Call.Op op) ≡ None) }
+        ensures tried { OnOk result (HasTried self.new (Call.Op op)) }
+        ensures readied { OnOk result (Readies self.old.claims (Call.Op op) self.new.claims) }
+        ensures err { IfErr result (λ refusal. (self.new ≡ self.old)
+            × (refusal ≡ unwrap_or (refused_by self.old (Call.Op op)) Refusal.NoMemory)) }
+    {
+        if let Some(refusal) = self.refusal(Call::Op(op)) {
+            return Err(refusal);
+        }
+        self.try_stripe(op)
+    }
+
+    /// `try_word`, for a token that does not refuse the operation.
+    fn try_stripe(&mut self, op: Op) -> Result<(), Refusal>
+        ensures same { IsSameSeen self.old self.new }
+        ensures side { self.new.side ≡ self.old.side }
+        ensures tried { OnOk result (HasTried self.new (Call.Op op)) }
+        ensures readied { OnOk result (Readies self.old.claims (Call.Op op) self.new.claims) }
+        ensures err { IfErr result (λ refusal. (refusal ≡ Refusal.NoMemory)
+            × (self.new ≡ self.old)) }
+    {
+        let stripe = op.key() % u64::from(self.limits.stripes());
+        match self.claims.try_word(stripe) {
+            Ok(()) => Ok(()),
+            Err(AllocError) => Err(Refusal::NoMemory),
+        }
+    }
+
+    /// Makes the token ready for the holds of a call, if it does not refuse the call: tries the
+    /// word of an operation, as `try_word` does, makes room for the level that a save adds to the
+    /// side value, and tests that the level of a return exists. No step is taken, and `seen` and
+    /// the side value with its levels are unchanged.
+    ///
+    /// # Errors
+    ///
+    /// - The refusal of the call by the token: `OutOfStep` if it is broken, else the first that
+    ///   applies of those that the entries in `seen` give, and then `BadKey` for help with a bad
+    ///   key. The token is unchanged.
+    /// - Then `NoMemory` if memory is refused, for one more right or for the level of a save: no
+    ///   word was tried, and the token is unchanged.
+    /// - `OutOfStep` if the side value does not have the level of a return, which breaks the token;
+    ///   all else is unchanged.
+    ///
+    /// # Cost
+    ///
+    /// That of `try_word` for an operation, and else constant time; takes memory only if there is
+    /// no room for one more right, or for the level of a save.
+    pub fn make_ready(&mut self, call: Call) -> Result<(), Refusal>
+        ensures free { OnOk result (refused_by self.old call ≡ None) }
+        ensures same { OnOk result (IsSameSeen self.old self.new) }
+        ensures side { OnOk result (IsSameSide self.old.side self.new.side) }
+        ensures ready { OnOk result (IsReadyFor call self.new.side) }
+        ensures tried { OnOk result (HasTried self.new call) }
+        ensures readied { OnOk result (Readies self.old.claims call self.new.claims) }
+        ensures err { IfErr result (λ refusal. IsUnready self.old call refusal self.new) }
+    {
+        if let Some(refusal) = self.refusal(call) {
+            return Err(refusal);
+        }
+        match call {
+            Call::Op(op) => self.try_stripe(op),
+            Call::Save => match self.side.save_room() {
+                Ok(()) => Ok(()),
+                Err(AllocError) => Err(Refusal::NoMemory),
+            },
+            Call::Back(level) => {
+                if self.side.level() < level as usize {
+                    self.is_broken = true;
+                    return Err(Refusal::OutOfStep);
+                }
+                Ok(())
+            }
+            _ => Ok(()),
+        }
+    }
+
+    /// Changes the side value as the end of a call requires, and gives back all rights if the call
+    /// has ended its transaction. `seen` is unchanged, and so is the side value after any other end
+    /// than that of a begin, a commit, an abort, a save, a return or an operation that was busy.
+    ///
+    /// It is for the end that the last hold of a call has answered. After another end side value
+    /// and rights are not what the token's entries say.
+    ///
+    /// # Cost
+    ///
+    /// A step for each right that is given back, and a step or a run for each side job that is
+    /// dropped or taken back; takes no memory.
+    pub fn follow(&mut self, end: End)
+        requires { CanFollow end self.old.side }
+        ensures same { IsSameSeen self.old self.new }
+        ensures side { Follows S.words_of end self.old.side self.new.side }
+        ensures claims { self.new.claims ≡ claims_at end self.old.claims }
+    {
+        self.claims.follow(end);
+        let _levels = self.side.level();
+        match end {
+            End::Answered(Answer::Began(_) | Answer::Committed(_)) => self.side.settle(),
+            End::Answered(Answer::Saved(_)) => {
+                let _ = self.side.save();
+            }
+            End::Answered(Answer::Returned(level)) => self.side.back(level as usize),
+            End::Answered(Answer::Aborted) | End::Busy(_) => self.side.back(0),
+            _ => {}
+        }
+    }
+
+    /// Changes the side value, and logs the job that takes the change back.
+    ///
+    /// The job must name the words now as before, and those that `change` answers as after. It
+    /// needs no transaction: a change that is made outside of one stays. Nothing is added to
+    /// `seen`.
+    ///
+    /// # Errors
+    ///
+    /// The change was not called, nothing has changed, and change and job are returned:
+    /// - `OutOfStep` if the token is broken;
+    /// - `NoMemory` if memory is refused.
+    ///
+    /// # Cost
+    ///
+    /// One call of `change`, and otherwise amortized constant time; takes memory only if there is
+    /// no room for a change.
+    pub fn change<F: FnOnce(S) -> S>(
+        &mut self,
+        change: F,
+        job: SideJob<S>,
+    ) -> Result<(), (Refusal, F, SideJob<S>)>
+        requires before { S.words_of self.old.side.value ≡ S.before job.job }
+        requires callable { F.pre change self.old.side.value }
+        requires after { (value : S) → F.post change self.old.side.value value
+            → S.words_of value ≡ S.after job.job }
+        ensures same { IsSameButSide self.old self.new }
+        ensures sound { OnOk result (self.old.broken ≡ false) }
+        ensures changed { OnOk result (F.post change self.old.side.value self.new.side.value) }
+        ensures levels { self.new.side.levels ≡ self.old.side.levels }
+        ensures changes { OnOk result (self.new.side.changes ≡ self.old.side.changes + 1) }
+        ensures kept { self.new.side.kept ≡ self.old.side.kept }
+        ensures err { IfErr result (λ e. (e.0 ≡ refused_side self.old.broken)
+            × (e.1 ≡ change) × (e.2 ≡ job) × (self.new ≡ self.old)) }
+    {
+        if self.is_broken {
+            return Err((Refusal::OutOfStep, change, job));
+        }
+        match self.side.change(change, job) {
+            Ok(()) => Ok(()),
+            Err(refused) => {
+                let (change, job) = refused.value;
+                Err((Refusal::NoMemory, change, job))
+            }
+        }
+    }
+}
+
+/// The first step of a call, by which its caller's seat refuses it.
+fn first_step(call: Call) -> Step
+    ensures { result ≡ first_step 0 call }
+{
+    match call {
+        Call::Begin => Step::Begin(0),
+        Call::Op(op) => Step::Ask(0, op),
+        Call::Save => Step::Save(0),
+        Call::Back(level) => Step::Back(0, level),
+        Call::Commit => Step::Commit(0),
+        Call::Abort => Step::Abort(0),
+        Call::Help(_) => Step::Double(0),
+    }
+}
+
+/// The refusal of help by its key.
+fn help_refusal(limits: Limits, call: Call) -> Option<Refusal>
+    ensures { result ≡ refused_help limits.half call }
+{
+    match call {
+        Call::Help(key) if limits.is_bad_key(key) => Some(Refusal::BadKey),
+        _ => None,
+    }
+}

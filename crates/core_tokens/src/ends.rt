@@ -1,0 +1,61 @@
+//! The ends that a call may have, and those that break its token: an end that a call may not have
+//! shows that core and token are out of step.
+ghost use Rattle.std.specs.Prelude.{◌≡◌, ◌||◌, not};
+ghost use Rattle.core_tokens.specs.Suits.{is_odd, may_refuse};
+ghost use Rattle.core_tokens.specs.Holds.{end_in, odd_if};
+
+use boost_core::{Call, End};
+use txn_trace::Refusal;
+
+/// Whether a token breaks after a turn: an entry that it saw has no row, or its call may not have
+/// this end.
+pub(crate) fn breaks(is_whole: bool, call: Call, end: Option<End>) -> bool
+    ensures { result ≡ (not is_whole || odd_if call end) }
+{
+    !is_whole || odd_if(call, end)
+}
+
+/// The answer of a hold after its turn: the call is out of step if the token is broken.
+pub(crate) fn end_in(is_broken: bool, end: Option<End>) -> Option<End>
+    ensures { result ≡ end_in is_broken end }
+{
+    if is_broken {
+        return Some(End::Refused(Refusal::OutOfStep));
+    }
+    end
+}
+
+/// Whether a call has ended, in a way that it may not.
+fn odd_if(call: Call, end: Option<End>) -> bool
+    ensures { result ≡ odd_if call end }
+{
+    match end {
+        Some(end) => is_odd(call, end),
+        None => false,
+    }
+}
+
+/// Whether a call may not have this end.
+fn is_odd(call: Call, end: End) -> bool
+    ensures { result ≡ is_odd call end }
+{
+    match end {
+        End::Refused(refusal) => !may_refuse(call, refusal),
+        _ => false,
+    }
+}
+
+/// Whether a call may end with this refusal after its token has let it pass.
+fn may_refuse(call: Call, refusal: Refusal) -> bool
+    ensures { result ≡ may_refuse call refusal }
+{
+    match call {
+        Call::Begin | Call::Save | Call::Back(_) => matches!(refusal, Refusal::NoMemory),
+        Call::Op(_) => matches!(
+            refusal,
+            Refusal::NoMemory | Refusal::StampsUsedUp | Refusal::StaleWord
+        ),
+        Call::Help(_) => matches!(refusal, Refusal::NoMemory | Refusal::StampsUsedUp),
+        Call::Commit | Call::Abort => false,
+    }
+}

@@ -1,0 +1,33 @@
+//! The laws of holds: a function that does nothing, whose contract is about the holds of a call for
+//! help. It is about one hold at a time, so it serves those who take holds by hand too.
+ghost use Rattle.std.specs.Prelude.{◌≡◌, ◌%◌, ℕ, true, Some, None};
+ghost use Rattle.txn_drive.specs.declared.drive.Drive.{Drive};
+ghost use Rattle.txn_drive.specs.declared.«end».End.TheVariants.{Helped};
+ghost use Rattle.boost_core.specs.State.{State, is_set};
+ghost use Rattle.boost_core.specs.Whole.{IsWhole};
+ghost use Rattle.core_tokens.specs.Helps.{Begins, Heads};
+ghost use Rattle.core_tokens.specs.Holds.{Held, InStep};
+ghost use Rattle.core_tokens.specs.Tokens.{Token};
+
+use undo_log::Side;
+
+/// A call for help ends well only after the bucket of its key is initialised.
+///
+/// Its first hold, after which the core has some size, heads for the bucket that the key has at
+/// this size (`heads`), and each hold that does not end the call keeps to that (`stays`). If core
+/// and token are in step before the hold that ends it, the core has this bucket after it (`stored`,
+/// and `at_once` if that is the first hold).
+///
+/// The contract is the law; the function does nothing.
+pub fn helped<S: Side>()
+    ensures heads { (key : ℕ) (m n : State) (k l : Token S) (d e : Drive) → Begins key d
+        → Held m k d None n l e → Heads key n.size e }
+    ensures stays { (key size : ℕ) (m n : State) (k l : Token S) (d e : Drive) → Heads key size d
+        → Held m k d None n l e → Heads key size e }
+    ensures stored { (key size : ℕ) (m n : State) (k l : Token S) (d e : Drive) → IsWhole m
+        → InStep m k d → Heads key size d → Held m k d (Some Helped) n l e
+        → is_set n.stored (key % size) ≡ true }
+    ensures at_once { (key : ℕ) (m n : State) (k l : Token S) (d e : Drive) → IsWhole n
+        → Begins key d → Held m k d (Some Helped) n l e
+        → is_set n.stored (key % n.size) ≡ true }
+{}

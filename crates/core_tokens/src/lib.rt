@@ -1,0 +1,43 @@
+//! Tokens: one caller each of a core that other callers use too, without a lock.
+//!
+//! - A *token*, `Caller`, is one caller. `Booked::new` makes a core with a `Pass` for each number,
+//!   and a pass makes the token of its number, once. A token keeps in `seen` the entries that its
+//!   calls have added to the history, and a side value, whose changes a transaction takes back with
+//!   its others.
+//! - A *hold* is one turn of a call, one step of the core or two. Who calls `Caller::hold` has the
+//!   core for as long as that takes: the core makes the moves of the turn, and `seen` gains their
+//!   entries. Other callers may take their steps between any two holds.
+//! - A call is `make_ready`, its holds until one answers the end, and `follow` with this end.
+//! - Unless its token has the right to the stripe of its key, an operation first tries the stripe's
+//!   *word*, an atomic word beside the core that says who holds the stripe. If the word was free,
+//!   the token has the right from then on, and the core is asked by it; if not, the core is asked
+//!   by the word, and the operation is busy with the caller that the word names. A token keeps its
+//!   rights until its transaction has committed or aborted, and `follow` gives all of them back. So
+//!   a Busy entry may name a caller whose transaction has just ended.
+//! - Between two holds a token knows of the core only its own entries, and the seat that they give
+//!   it. If the core's answer is impossible by these, the call ends with `OutOfStep`, and so does
+//!   every later call of the token.
+//! - No entry can be added without a token: a ledger counts them, `Booked` has its book, and each
+//!   token a share. So the history of the core that `Booked::into_core` takes out has as many
+//!   entries as the tokens saw. The ledger is `std`'s `sync::ledger`. Its name `L` is the first
+//!   parameter of each type, and is picked as `sync::ledger` says.
+//! - `laws::helped` is about the holds of a call for help: they initialise its key's bucket.
+//!
+//! It stands alone since nothing here waits: the crates above say how callers take turns at the
+//! core. Calls take constant time and no memory unless they say otherwise.
+#![tactic(auto)]
+
+mod booked;
+mod caller;
+mod claims;
+mod ends;
+pub mod laws;
+mod no_side;
+mod pass;
+mod seen;
+mod turns;
+
+pub use booked::Booked;
+pub use caller::Caller;
+pub use no_side::{NoJob, NoSide};
+pub use pass::Pass;

@@ -1,0 +1,150 @@
+//! The turns of a drive on the core. A step is taken on the core, in the book, in the seen entries
+//! and in the drive by one function, so that none of them misses it.
+ghost use Rattle.std.specs.Prelude.{◌≡◌, ℕ, true, false, Some, List, [], is_some};
+ghost use Rattle.txn_words.specs.declared.entry.Entry.{Entry};
+ghost use Rattle.txn_words.specs.declared.refusal.Refusal.{Refusal};
+ghost use Rattle.txn_words.specs.Entries.{entries_of};
+ghost use Rattle.txn_words.specs.Shape.{seat_after};
+ghost use Rattle.txn_words.specs.Sizes.{Sizes};
+ghost use Rattle.txn_drive.specs.Drives.{step_of, turn_of};
+ghost use Rattle.txn_drive.specs.Made.{made};
+ghost use Rattle.core_tokens.specs.Noted.{HasRoomFor};
+ghost use Rattle.core_tokens.specs.Suits.{may_refuse, IsSized, IsInStep};
+ghost use Rattle.core_tokens.specs.Holds.{MayTake, Takes, TurnTaken, GoesOn};
+
+use crate::booked::Booked;
+use crate::claims::Claims;
+use crate::seen::Seen;
+use boost_core::{Drive, Turn};
+use std::sync::ledger::Ledger;
+use txn_trace::{Answer, Step};
+
+/// Takes a turn if there is room for what it may add, and says whether there was. Each kind of step
+/// that every operation takes has its own arm, so that `take_one` is compiled for it.
+pub(crate) fn take_turn<L: Ledger>(
+    seen: &mut Seen<L>,
+    claims: &Claims,
+    booked: &mut Booked<L>,
+    drive: &mut Drive,
+    turn: Turn,
+) -> bool
+    requires turn { turn ≡ turn_of drive.old }
+    requires may { MayTake claims.now booked.old.core seen.old.entries drive.old }
+    ensures { TurnTaken claims.now.tried booked.old.core seen.old.entries drive.old turn
+        result booked.new.core seen.new.entries drive.new }
+{
+    match turn {
+        Turn::One(step) => match step {
+            Step::Ask(caller, op) => take_one(seen, claims, booked, drive, Step::Ask(caller, op)),
+            Step::Seek(caller) => take_one(seen, claims, booked, drive, Step::Seek(caller)),
+            Step::Act(caller) => take_one(seen, claims, booked, drive, Step::Act(caller)),
+            _ => take_other(seen, claims, booked, drive, step),
+        },
+        Turn::Two(first, second) => take_two(seen, claims, booked, drive, first, second),
+        Turn::Ended(_) => true,
+    }
+}
+
+/// Takes a turn of one step; compiled once.
+#[inline(never)]
+fn take_other<L: Ledger>(
+    seen: &mut Seen<L>,
+    claims: &Claims,
+    booked: &mut Booked<L>,
+    drive: &mut Drive,
+    step: Step,
+) -> bool
+    requires turn { Turn.One step ≡ turn_of drive.old }
+    requires may { MayTake claims.now booked.old.core seen.old.entries drive.old }
+    ensures { TurnTaken claims.now.tried booked.old.core seen.old.entries drive.old
+        (Turn.One step) result booked.new.core seen.new.entries drive.new }
+{
+    take_one(seen, claims, booked, drive, step)
+}
+
+/// Takes a turn of one step; compiled for each kind of step that it is called with.
+#[inline(always)]
+fn take_one<L: Ledger>(
+    seen: &mut Seen<L>,
+    claims: &Claims,
+    booked: &mut Booked<L>,
+    drive: &mut Drive,
+    step: Step,
+) -> bool
+    requires turn { Turn.One step ≡ turn_of drive.old }
+    requires may { MayTake claims.now booked.old.core seen.old.entries drive.old }
+    ensures { TurnTaken claims.now.tried booked.old.core seen.old.entries drive.old
+        (Turn.One step) result booked.new.core seen.new.entries drive.new }
+{
+    let _seen = seen.entries();
+    if seen.reserve(step).is_err() {
+        return false;
+    }
+    take(seen, claims, booked, drive, step);
+    true
+}
+
+/// Takes a turn of two steps: the second is taken if the answer to the first was `Placed`.
+#[inline(never)]
+fn take_two<L: Ledger>(
+    seen: &mut Seen<L>,
+    claims: &Claims,
+    booked: &mut Booked<L>,
+    drive: &mut Drive,
+    first: Step,
+    second: Step,
+) -> bool
+    requires turn { Turn.Two first second ≡ turn_of drive.old }
+    requires may { MayTake claims.now booked.old.core seen.old.entries drive.old }
+    ensures { TurnTaken claims.now.tried booked.old.core seen.old.entries drive.old
+        (Turn.Two first second) result booked.new.core seen.new.entries drive.new }
+{
+    let _seen = seen.entries();
+    if seen.reserve(second).is_err() {
+        return false;
+    }
+    if let Answer::Placed = take(seen, claims, booked, drive, first) {
+        take(seen, claims, booked, drive, second);
+    }
+    true
+}
+
+/// Takes a step, for which there is room: on the core, in the book, in the seen entries, and in the
+/// drive.
+#[inline(always)]
+#[tactic(auto, using(crate::proofs::Claiming::tried_step))]
+fn take<L: Ledger>(
+    seen: &mut Seen<L>,
+    claims: &Claims,
+    booked: &mut Booked<L>,
+    drive: &mut Drive,
+    step: Step,
+) -> Answer
+    requires step { step_of drive.old ≡ Some step }
+    requires may { MayTake claims.now booked.old.core seen.old.entries drive.old }
+    requires room { HasRoomFor seen.old step }
+    ensures takes { Takes claims.now.tried booked.old.core seen.old.entries drive.old step result
+        booked.new.core seen.new.entries drive.new }
+    ensures limits { booked.new.core.limits ≡ booked.old.core.limits }
+    ensures whose { (drive.new.caller ≡ drive.old.caller) × (drive.new.call ≡ drive.old.call) }
+    ensures same { entries_of step result ≡ [] → seen.new ≡ seen.old }
+    ensures in_step { (limits : Sizes) (c : ℕ) → IsSized booked.old.core.size drive.old.phase
+        → IsInStep booked.old.core limits c seen.old.entries drive.old
+        → IsInStep booked.new.core limits c seen.new.entries drive.new }
+    ensures goes { (base : List Entry) → GoesOn base seen.old.entries drive.old
+        → GoesOn base seen.new.entries drive.new }
+{
+    let Booked {
+        core,
+        book,
+        none: _,
+    } = booked;
+    let _before = core.trace();
+    let answer = claims.step(core, step);
+    let _after = core.trace();
+    let _fits = core.limits().callers();
+    seen.note(book, step, answer);
+    let _seen = seen.entries();
+    drive.told(answer);
+    answer
+}
