@@ -67,13 +67,13 @@ program_tests commands::refused_allocations
 """
 # The largest allocation of a test, in bytes: the list's counts of marked nodes, 4,096 of 8 bytes, are
 # the largest of a small core, and more than what a token of the map of threads takes for what it has
-# seen; 16 jobs of 16 bytes are the room of a log of nine, whose ninth is not inline; 32 slots of 24
-# bytes are the largest array of a map of eleven keys.
+# seen; 16 jobs of 16 bytes are the room of a log of nine, whose ninth is not inline; 64 slots of 24
+# bytes are the largest array of a map of eleven keys: at least four times as many slots as keys.
 LARGEST = """
 core_tests cores::nine_undone_newest_first 32768
 thread_tests map_tests::rows::help_grows 32768
 table_tests undo_log_tests::nine_undone_newest_first 256
-table_tests probe_map_tests::removed_keys 768
+table_tests probe_map_tests::removed_keys 1536
 """
 # The text of an assertion that a call was refused memory.
 OF_MEMORY = re.compile("AllocError|AllocFailed|NoMemory")

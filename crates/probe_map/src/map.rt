@@ -11,6 +11,11 @@ use crate::slot::Slot;
 use std::alloc::{AllocError, Global};
 use std::marker::Model;
 
+/// A map of fewer keys than this grows fourfold: an array that doubles would have to be laid out
+/// anew, and its keys moved, three times as often. An array of more keys doubles, since a fourfold
+/// one would leave too much memory unused.
+const FEW: usize = 1024;
+
 /// A map from whole numbers to whole numbers.
 ///
 /// A contract sees a `MapAt`: the content, a finite map, and the number of new keys that it has
@@ -19,7 +24,8 @@ use std::marker::Model;
 /// # Cost
 ///
 /// An empty map takes no memory. A new array has at least 4 slots, each of 24 bytes, and at most 4
-/// for each key that is there or reserved. It shrinks only when it is rebuilt.
+/// for each key that is there or reserved, or 8 if these are fewer than 1,024. It shrinks only when
+/// it is rebuilt.
 #[derive(Drop)]
 pub struct ProbeMap {
     slots: Vec<Slot>,
@@ -55,11 +61,13 @@ fn count_for(keys: usize) -> Option<usize>
 }
 
 /// For how many keys a map that grows is made anew, so that at most half of its slots have a key at
-/// first.
+/// first, and of a map of few keys at most a quarter.
 fn grown(len: usize, more: usize) -> Option<usize>
     ensures { IfSome result (λ keys. len + more ≤ keys) }
 {
-    Some(len.checked_add(more)?.checked_mul(7)? / 4)
+    let keys = len.checked_add(more)?;
+    let times = if keys < FEW { 14 } else { 7 };
+    Some(keys.checked_mul(times)? / 4)
 }
 
 /// Puts the keys that have values into an empty map.

@@ -257,7 +257,7 @@ fn put_and_remove(rt: &impl Abort, map: &mut ProbeMap) -> Result<(), Fail> {
 }
 
 /// Keys that are removed take no room for good: of 100,000 keys ten are there at a time. The
-/// largest allocation is that of 32 slots, which docs/tests/refused.py looks at.
+/// largest allocation is that of 64 slots, which docs/tests/refused.py looks at.
 #[test]
 fn removed_keys(rt: HostRuntime) -> Result<(), Fail> {
     put_and_remove(&rt, &mut ProbeMap::new(rt.alloc()))
