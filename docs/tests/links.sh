@@ -26,12 +26,12 @@ links() {
     done
 }
 
-# A file of must-fail/ is one wrong body, or has several, each below a line "# NAME".
+# The files of must-fail/ have the wrong bodies, each below a line "# NAME".
 bodies() {
     grep '^- Refused: ' docs/PROMISES.md | tr ';' '\n' | while read -r part; do
         folder=$(echo "$part" | sed -n 's|.*(\.\./\(crates/[a-z_]*/must-fail\)).*|\1|p')
         for name in $(echo "$part" | grep -o '`[a-z0-9_]*`' | tr -d '`'); do
-            if [ ! -e "$folder/$name.edit" ] && ! grep -qxF -e "# $name" "$folder"/*.edit; then
+            if ! grep -qxF -e "# $name" "$folder"/*; then
                 echo "docs/PROMISES.md: $name is not in $folder"
             fi
         done
