@@ -4,8 +4,8 @@
 #   PREFIX/lib/pkgconfig/boostmap.pc
 #   PREFIX/include/boostmap.h, boostmap_checked.h, boostmap.hpp
 #   PREFIX/share/boostmap/python/        boostmap.py and the shared object that it loads
-# If the archive is not built yet, or a source is newer, it is proved and built first, in a quarter of an
-# hour. It needs rt, cc and ar.
+# If the archive is not built yet, or a source is newer, archive.sh proves and builds it first, in a quarter
+# of an hour. It needs rt, cc and ar.
 set -euo pipefail
 if [ $# != 1 ]; then
   echo "usage: bindings/install.sh PREFIX" >&2
@@ -15,9 +15,7 @@ mkdir -p "$1"
 prefix=$(cd "$1" && pwd)
 cd "$(dirname "${BASH_SOURCE[0]}")/.."
 proved=crates/boostmap_c/out/libboostmap_c.a
-if [ ! -f "$proved" ] || [ -n "$(find crates crates.txt -newer "$proved" \( -name '*.rt' -o -name '*.antt' -o -name crates.txt \) -not -path '*/out/*')" ]; then
-  (cd crates/boostmap_c && ${RT:-rt} lib) >&2
-fi
+bindings/archive.sh >&2
 glue=$(dirname "$(${RT:-rt} doc)")/c/liblibc_c.a
 python=$prefix/share/boostmap/python
 mkdir -p "$prefix/lib/pkgconfig" "$prefix/include" "$python"

@@ -11,9 +11,8 @@ use crate::slot::Slot;
 use std::alloc::{AllocError, Global};
 use std::marker::Model;
 
-/// A map of fewer keys than this grows fourfold: an array that doubles would have to be laid out
-/// anew, and its keys moved, three times as often. An array of more keys doubles, since a fourfold
-/// one would leave too much memory unused.
+/// A map of fewer keys than this grows by four, which moves a third as many keys as growth by two. A
+/// larger one grows by two, since an array of four times the size would leave too much memory unused.
 const FEW: usize = 1024;
 
 /// A map from whole numbers to whole numbers.
