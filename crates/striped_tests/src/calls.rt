@@ -1,12 +1,11 @@
-//! Calls of callers as values, and tables of them.
-use std::alloc::{AllocError, Global};
+//! Calls of callers as values, tables of them, and runs of a new map.
+use std::alloc::Global;
 use std::process::Abort;
-use std::test::Fail;
 use striped_map::{Caller, Host, Stop, open_map};
 use txn_words::{Op, Refusal, Reply};
 
 /// What a caller is asked for.
-#[derive(Clone, Copy, Debug)]
+#[derive(Clone, Copy)]
 pub(crate) enum Ask {
     Begin,
     Do(Op),
@@ -19,7 +18,7 @@ pub(crate) enum Ask {
 
 /// What it answers: nothing, a reply, a number (a level, a count or a place), or that it did not do
 /// it.
-#[derive(Clone, Copy, Debug, PartialEq, Eq)]
+#[derive(Clone, Copy, PartialEq, Eq)]
 pub(crate) enum Told {
     Done,
     Replied(Reply),
@@ -67,35 +66,49 @@ pub(crate) fn answer(caller: &mut Caller, what: Ask) -> Told {
     }
 }
 
-/// A map and its callers.
-pub(crate) fn open(
-    alloc: Global,
-    stripes: usize,
-    callers: usize,
-) -> Result<(Host, Vec<Caller>), Fail> {
-    match open_map(alloc, stripes, callers) {
-        Ok(made) => Ok(made),
-        Err(Refusal::NoMemory) => Err(AllocError)?,
-        Err(_) => Err("limits".into()),
-    }
+/// A map: its host, and those of its callers that are not dropped yet.
+#[derive(Drop)]
+pub(crate) struct Home {
+    pub(crate) host: Host,
+    pub(crate) callers: Vec<Caller>,
+}
+
+/// A new map.
+pub(crate) fn open<R: Abort>(rt: &R, alloc: Global, stripes: usize, callers: usize) -> Home {
+    let Ok((host, callers)) = open_map(alloc, stripes, callers) else {
+        panic!(rt; "no map");
+    };
+    Home { host, callers }
+}
+
+/// Asks a caller, as the row of this number says. It must answer as wanted.
+pub(crate) fn ask_row<R: Abort>(rt: &R, caller: &mut Caller, row: usize, what: Ask, wanted: Told) {
+    assert!(rt; answer(caller, what) == wanted, "row {row}");
 }
 
 /// Asks the callers as the table says. Each must answer as it says.
-pub(crate) fn play<R: Abort>(rt: &R, callers: &mut [Caller], rows: &[Row]) {
+pub(crate) fn play<R: Abort>(rt: &R, home: &mut Home, rows: &[Row]) {
     for (row, &(place, what, wanted)) in rows.iter().enumerate() {
-        assert!(rt; place < callers.len());
-        let told = answer(&mut callers[place], what);
-        assert_eq!(rt; told, wanted, "row {row}: {what:?}");
+        assert!(rt; place < home.callers.len());
+        ask_row(rt, &mut home.callers[place], row, what, wanted);
     }
+}
+
+/// Whether the host reads just these pairs, in this order.
+pub(crate) fn reads(host: &mut Host, left: &[(u64, u64)]) -> Result<bool, Stop> {
+    Ok(host.pairs()?.as_slice() == left)
 }
 
 /// What is committed is just these pairs, in this order, and nobody holds a stripe.
 pub(crate) fn has_left<R: Abort>(rt: &R, host: &mut Host, left: &[(u64, u64)]) {
-    let is_left = match host.pairs() {
-        Ok(pairs) => pairs.as_slice() == left,
-        Err(_) => false,
-    };
-    assert!(rt; is_left);
+    let is_left = reads(host, left);
+    assert!(rt; is_left == Ok(true));
+}
+
+/// All callers are dropped, and these pairs are left.
+pub(crate) fn leaves<R: Abort>(rt: &R, home: &mut Home, left: &[(u64, u64)]) {
+    home.callers.clear();
+    has_left(rt, &mut home.host, left);
 }
 
 /// A run of callers of a new map: its stripes, the calls, and the pairs that are left when the
@@ -108,11 +121,13 @@ pub(crate) struct Worked<'a> {
     pub(crate) left: &'a [(u64, u64)],
 }
 
+/// Plays the run in a map.
+fn play_in<R: Abort>(rt: &R, home: &mut Home, run: &Worked) {
+    play(rt, home, run.rows);
+    leaves(rt, home, run.left);
+}
+
 /// Plays the run.
-pub(crate) fn play_worked<R: Abort>(rt: &R, alloc: Global, run: &Worked) -> Result<(), Fail> {
-    let (mut host, mut callers) = open(alloc, run.stripes, run.callers)?;
-    play(rt, callers.as_mut_slice(), run.rows);
-    drop(callers);
-    has_left(rt, &mut host, run.left);
-    Ok(())
+pub(crate) fn play_worked<R: Abort>(rt: &R, alloc: Global, run: &Worked) {
+    play_in(rt, &mut open(rt, alloc, run.stripes, run.callers), run);
 }

@@ -1,12 +1,10 @@
 //! Callers that are dropped at every point of a transaction.
-use crate::calls::{Ask, NEW, Row, Told, has_left, open, play};
-use std::alloc::Global;
+use crate::calls::{Ask, Home, NEW, Row, Told, has_left, open, play};
 use std::process::Abort;
-use std::test::Fail;
 use txn_words::Op;
 
 /// Caller 2 leaves two pairs.
-const BEFORE: [Row; 4] = [
+const BEFORE: &[Row] = &[
     (1, Ask::Begin, Told::Done),
     (1, Ask::Do(Op::Put(1, 5)), NEW),
     (1, Ask::Do(Op::Put(2, 6)), NEW),
@@ -14,7 +12,7 @@ const BEFORE: [Row; 4] = [
 ];
 
 /// A transaction of caller 1 of each kind of call, which at last has every stripe.
-const CALLS: [Row; 12] = [
+const CALLS: &[Row] = &[
     (0, Ask::Begin, Told::Done),
     (0, Ask::Do(Op::Get(1)), Told::Replied(Some(5))),
     (0, Ask::Do(Op::Put(1, 10)), Told::Replied(Some(5))),
@@ -34,7 +32,7 @@ const CALLS: [Row; 12] = [
 ];
 
 /// Caller 2, which has the first place now, then finds no stripe held and the two pairs.
-const AFTER: [Row; 5] = [
+const AFTER: &[Row] = &[
     (0, Ask::Begin, Told::Done),
     (0, Ask::Len, Told::Number(2)),
     (0, Ask::Do(Op::Get(1)), Told::Replied(Some(5))),
@@ -42,24 +40,25 @@ const AFTER: [Row; 5] = [
     (0, Ask::Commit, Told::Number(2)),
 ];
 
+/// Drops the first caller.
+fn drop_first<R: Abort>(rt: &R, home: &mut Home) {
+    assert!(rt; 0 < home.callers.len());
+    drop(home.callers.remove(0));
+}
+
 /// Drops caller 1 after so many calls.
-fn drop_after<R: Abort>(rt: &R, alloc: Global, calls: usize) -> Result<(), Fail> {
-    let (mut host, mut callers) = open(alloc, 4, 2)?;
-    play(rt, callers.as_mut_slice(), BEFORE.as_slice());
-    for row in CALLS.iter().take(calls) {
-        play(rt, callers.as_mut_slice(), &[*row]);
-    }
-    assert!(rt; 0 < callers.len());
-    drop(callers.remove(0));
-    play(rt, callers.as_mut_slice(), AFTER.as_slice());
-    has_left(rt, &mut host, &[(1, 5), (2, 6)]);
-    Ok(())
+fn drop_after<R: Abort>(rt: &R, home: &mut Home, calls: usize) {
+    play(rt, home, BEFORE);
+    assert!(rt; calls <= CALLS.len());
+    play(rt, home, &CALLS[..calls]);
+    drop_first(rt, home);
+    play(rt, home, AFTER);
+    has_left(rt, &mut home.host, &[(1, 5), (2, 6)]);
 }
 
 #[test]
-fn dropped_at_every_point(rt: HostRuntime) -> Result<(), Fail> {
+fn dropped_at_every_point(rt: HostRuntime) {
     for calls in 0..13usize {
-        drop_after(&rt, rt.alloc(), calls)?;
+        drop_after(&rt, &mut open(&rt, rt.alloc(), 4, 2), calls);
     }
-    Ok(())
 }

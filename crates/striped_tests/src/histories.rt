@@ -5,13 +5,13 @@
 //! earlier, since they give stripes back. Commits are put in the order of their places, each at the
 //! latest stamp of the commits up to it: that still comes before its own atomic step. A Busy is put
 //! at its earlier stamp too, but not before the first beginning of the caller that it names.
-use crate::calls::{Ask, NEW, Row, Told, answer, open, play};
+use crate::calls::{Ask, Home, NEW, Row, Told, answer, open};
+use crate::threads::{Work, in_threads, must_start};
 use history_check::{Checker, Verdict};
 use std::alloc::{AllocError, Global};
 use std::process::Abort;
 use std::sync::Wait;
 use std::sync::atomic::{AtomicU64, Ordering};
-use std::test::Fail;
 use std::thread;
 use std::thread::Threads;
 use striped_map::Caller;
@@ -24,6 +24,16 @@ enum Plan {
     Drawn,
     /// Each puts, takes and puts each of a hundred keys that no other has, in a transaction each.
     Scripts,
+}
+
+impl Plan {
+    /// How many transactions each caller runs.
+    fn transactions(self) -> u64 {
+        match self {
+            Plan::Drawn => 4,
+            Plan::Scripts => 100,
+        }
+    }
 }
 
 /// A call, with the stamps before and after it.
@@ -45,6 +55,17 @@ struct Recorder {
 }
 
 impl Recorder {
+    /// The recorder of the caller of a place.
+    fn new(alloc: Global, caller: Caller, place: usize, seed: u64) -> Recorder {
+        let number = (place as u64).wrapping_add(1);
+        Recorder {
+            caller,
+            number,
+            dice: seed.wrapping_mul(64).wrapping_add(number),
+            log: Vec::new(alloc),
+        }
+    }
+
     /// A number below `sides` that looks random.
     fn roll(&mut self, sides: u64) -> u64 {
         let next = self.dice.wrapping_mul(6_364_136_223_846_793_005);
@@ -80,6 +101,14 @@ impl Recorder {
         Ok(!matches!(told, Told::Busy(_)))
     }
 
+    /// The call that ends a transaction.
+    fn draw_end(&mut self) -> Ask {
+        match self.roll(5) {
+            0 => Ask::Abort,
+            _ => Ask::Commit,
+        }
+    }
+
     /// A transaction that looks random.
     fn transact(&mut self, clock: &AtomicU64) -> Result<(), AllocError> {
         self.ask(clock, Ask::Begin)?;
@@ -90,64 +119,59 @@ impl Recorder {
             }
             thread::yield_now();
         }
-        let end = if self.roll(5) == 0 {
-            Ask::Abort
-        } else {
-            Ask::Commit
-        };
+        let end = self.draw_end();
         self.ask(clock, end)?;
         Ok(())
     }
 
     /// A transaction on a key that nobody else has.
     fn script(&mut self, clock: &AtomicU64, key: u64) -> Result<(), AllocError> {
-        self.ask(clock, Ask::Begin)?;
-        self.ask(clock, Ask::Do(Op::Put(key, key)))?;
-        self.ask(clock, Ask::Do(Op::Take(key)))?;
-        self.ask(clock, Ask::Do(Op::Put(key, key.wrapping_add(1))))?;
-        self.ask(clock, Ask::Commit)?;
+        let calls = [
+            Ask::Begin,
+            Ask::Do(Op::Put(key, key)),
+            Ask::Do(Op::Take(key)),
+            Ask::Do(Op::Put(key, key.wrapping_add(1))),
+            Ask::Commit,
+        ];
+        for what in calls {
+            self.ask(clock, what)?;
+        }
         Ok(())
+    }
+
+    /// A transaction of the plan, with its place among the caller's.
+    fn run_one(&mut self, clock: &AtomicU64, plan: Plan, place: u64) -> Result<(), AllocError> {
+        match plan {
+            Plan::Drawn => self.transact(clock),
+            Plan::Scripts => {
+                let first = self.number.wrapping_mul(100);
+                self.script(clock, first.wrapping_add(place))
+            }
+        }
     }
 
     /// All transactions of the plan.
     fn run<R: Abort>(&mut self, rt: &R, clock: &AtomicU64, plan: Plan) {
-        match plan {
-            Plan::Drawn => {
-                for _ in 0..4u64 {
-                    let ran = self.transact(clock);
-                    assert!(rt; ran.is_ok());
-                }
-            }
-            Plan::Scripts => {
-                for key in 0..100u64 {
-                    let first = self.number.wrapping_mul(100);
-                    let ran = self.script(clock, first.wrapping_add(key));
-                    assert!(rt; ran.is_ok());
-                }
-            }
+        for place in 0..plan.transactions() {
+            let ran = self.run_one(clock, plan, place);
+            assert!(rt; ran.is_ok());
         }
     }
 }
 
-/// A recorder of each caller of a new map.
-fn recorders(
-    alloc: Global,
-    stripes: usize,
-    callers: usize,
-    seed: u64,
-) -> Result<Vec<Recorder>, Fail> {
-    let (_host, made) = open(alloc, stripes, callers)?;
+/// Adds a recorder to a list.
+fn add<R: Abort>(rt: &R, all: &mut Vec<Recorder>, one: Recorder) {
+    let added = all.push(one);
+    assert!(rt; added.is_ok());
+}
+
+/// A recorder of each caller of a map.
+fn recorders<R: Abort>(rt: &R, alloc: Global, home: Home, seed: u64) -> Vec<Recorder> {
     let mut all = Vec::new(alloc);
-    for (place, caller) in made.into_iter().enumerate() {
-        let number = (place as u64).wrapping_add(1);
-        all.push(Recorder {
-            caller,
-            number,
-            dice: seed.wrapping_mul(64).wrapping_add(number),
-            log: Vec::new(alloc),
-        })?;
+    for (place, caller) in home.callers.into_iter().enumerate() {
+        add(rt, &mut all, Recorder::new(alloc, caller, place, seed));
     }
-    Ok(all)
+    all
 }
 
 /// Each caller runs in a thread of its own.
@@ -160,29 +184,29 @@ fn run_all<R: Threads + Wait + Abort + Sync>(
     thread::scope(thread::scope_env(), rt, |scope| {
         for one in all {
             let started = scope.spawn(move || one.run(rt, clock, plan));
-            assert!(rt; started.is_ok(), "a thread");
+            must_start(rt, started.is_ok());
         }
     });
 }
 
-/// The stamps of the commits by their places, each raised to the latest before it.
-fn commit_stamps(alloc: Global, all: &[Recorder]) -> Result<Vec<u64>, AllocError> {
-    let mut commits = Vec::new(alloc);
-    for one in all {
-        for noted in &one.log {
-            if let (Ask::Commit, Told::Number(place)) = (noted.what, noted.told) {
-                commits.push((place, noted.before))?;
-            }
+/// Notes the places and the stamps of a caller's commits.
+fn note_commits(commits: &mut Vec<(u64, u64)>, one: &Recorder) -> Result<(), AllocError> {
+    for noted in &one.log {
+        if let (Ask::Commit, Told::Number(place)) = (noted.what, noted.told) {
+            commits.push((place, noted.before))?;
         }
     }
+    Ok(())
+}
+
+/// Sorts commits by their places, and raises each stamp to the latest before it.
+fn raise_stamps(commits: &mut Vec<(u64, u64)>) {
     commits.sort_unstable_by_key(|commit| commit.0);
     let mut latest = 0u64;
-    let mut stamps = Vec::new(alloc);
-    for (_, stamp) in commits {
-        latest = latest.max(stamp);
-        stamps.push(latest)?;
+    for commit in commits.iter_mut() {
+        latest = latest.max(commit.1);
+        commit.1 = latest;
     }
-    Ok(stamps)
 }
 
 /// Entries with their places in the history: a stamp, then an order among those of one stamp, then
@@ -192,7 +216,8 @@ type Lines = Vec<((u64, u64, usize), Entry)>;
 /// Makes entries of the calls of one caller after the other.
 #[derive(Drop)]
 struct Merge {
-    commits: Vec<u64>,
+    /// The places of the commits, with their stamps.
+    commits: Vec<(u64, u64)>,
     firsts: Vec<u64>,
     lines: Lines,
     caller: u64,
@@ -207,6 +232,17 @@ fn stamp_at(stamps: &[u64], place: u64) -> u64 {
 }
 
 impl Merge {
+    fn new(alloc: Global) -> Merge {
+        Merge {
+            commits: Vec::new(alloc),
+            firsts: Vec::new(alloc),
+            lines: Vec::new(alloc),
+            caller: 0,
+            standing: 0,
+            levels: Vec::new(alloc),
+        }
+    }
+
     /// Puts an entry.
     fn put(&mut self, stamp: u64, order: u64, entry: Entry) -> Result<(), AllocError> {
         let line = self.lines.len();
@@ -266,6 +302,12 @@ impl Merge {
         self.put_undone(noted.after, leave, left, Entry::Returned(caller, level))
     }
 
+    /// The stamp of a commit.
+    fn stamp_of(&self, place: u64) -> u64 {
+        let index = place.wrapping_sub(1) as usize;
+        self.commits.get(index).map_or(u64::MAX, |commit| commit.1)
+    }
+
     /// Puts the entries of a call, unless it was refused.
     fn put_call(&mut self, noted: &Noted) -> Result<(), AllocError> {
         let caller = self.caller;
@@ -286,7 +328,7 @@ impl Merge {
                 let Told::Number(place) = noted.told else {
                     return Ok(());
                 };
-                let stamp = stamp_at(&self.commits, place);
+                let stamp = self.stamp_of(place);
                 self.put(stamp, place, Entry::Committed(caller, place))
             }
             Ask::Abort => {
@@ -295,50 +337,65 @@ impl Merge {
             }
         }
     }
-}
 
-/// The entries of all callers, in the order of their places.
-fn merged(alloc: Global, all: &[Recorder]) -> Result<Lines, AllocError> {
-    let mut firsts = Vec::new(alloc);
-    for one in all {
-        firsts.push(one.log.first().map_or(u64::MAX, |noted| noted.after))?;
+    /// Notes when a caller began first, and its commits.
+    fn note(&mut self, one: &Recorder) -> Result<(), AllocError> {
+        let first = one.log.first().map_or(u64::MAX, |noted| noted.after);
+        self.firsts.push(first)?;
+        note_commits(&mut self.commits, one)
     }
-    let mut merge = Merge {
-        commits: commit_stamps(alloc, all)?,
-        firsts,
-        lines: Vec::new(alloc),
-        caller: 0,
-        standing: 0,
-        levels: Vec::new(alloc),
-    };
-    for one in all {
-        merge.caller = one.number;
+
+    /// Puts the entries of a caller.
+    fn put_all(&mut self, one: &Recorder) -> Result<(), AllocError> {
+        self.caller = one.number;
         for noted in &one.log {
-            merge.put_call(noted)?;
+            self.put_call(noted)?;
         }
+        Ok(())
     }
-    let mut lines = merge.lines;
-    lines.sort_unstable_by_key(|line| line.0);
-    Ok(lines)
+
+    /// Merges the entries of all callers, in the order of their places.
+    fn merge(&mut self, all: &[Recorder]) -> Result<(), AllocError> {
+        for one in all {
+            self.note(one)?;
+        }
+        raise_stamps(&mut self.commits);
+        for one in all {
+            self.put_all(one)?;
+        }
+        self.lines.sort_unstable_by_key(|line| line.0);
+        Ok(())
+    }
 }
 
-/// How many transactions a history commits, if it is legal, of callers below 64, and nobody is in a
-/// transaction at its end. Transactions are numbered here.
-fn commits_in(alloc: Global, stripes: u64, lines: Lines) -> Result<Option<u64>, AllocError> {
-    if stripes == 0 {
-        return Ok(None);
-    }
-    let mut checker = Checker::new(alloc, stripes, Holder::Begun)?;
+/// Feeds entries of callers below 64; whether all are. Transactions are numbered here.
+fn feed_all(
+    checker: &mut Checker,
+    lines: &[((u64, u64, usize), Entry)],
+) -> Result<bool, AllocError> {
     let mut begun = 0u64;
-    for (_, mut entry) in lines {
-        if entry.caller() >= 64 {
-            return Ok(None);
-        }
+    for line in lines {
+        let mut entry = line.1;
         if let Entry::Began(caller, _) = entry {
             begun = begun.wrapping_add(1);
             entry = Entry::Began(caller, begun);
         }
+        if entry.caller() >= 64 {
+            return Ok(false);
+        }
         checker.feed(&entry)?;
+    }
+    Ok(true)
+}
+
+/// How many transactions a history commits, if it is legal, of callers below 64, and nobody is in a
+/// transaction at its end.
+fn commits_fed(
+    checker: &mut Checker,
+    lines: &[((u64, u64, usize), Entry)],
+) -> Result<Option<u64>, AllocError> {
+    if !feed_all(checker, lines)? {
+        return Ok(None);
     }
     match checker.verdict() {
         Verdict::Legal {
@@ -349,7 +406,36 @@ fn commits_in(alloc: Global, stripes: u64, lines: Lines) -> Result<Option<u64>, 
     }
 }
 
-/// The callers run, and their history is legal. Answers how many transactions it commits.
+/// How many transactions the history of these callers commits, if it is legal.
+fn commits_in(
+    alloc: Global,
+    stripes: u64,
+    merge: &mut Merge,
+    all: &[Recorder],
+) -> Result<Option<u64>, AllocError> {
+    if stripes == 0 {
+        return Ok(None);
+    }
+    merge.merge(all)?;
+    let mut checker = Checker::new(alloc, stripes, Holder::Begun)?;
+    commits_fed(&mut checker, merge.lines.as_slice())
+}
+
+/// The callers run. Answers how many transactions their history commits, if it is legal.
+fn run_and_judge<R: Threads + Wait + Abort + Sync>(
+    rt: &R,
+    alloc: Global,
+    stripes: usize,
+    all: &mut [Recorder],
+    plan: Plan,
+) -> Option<u64> {
+    let clock = AtomicU64::new(1);
+    run_all(rt, all, &clock, plan);
+    let commits = commits_in(alloc, stripes as u64, &mut Merge::new(alloc), all);
+    commits.expect(rt, "memory")
+}
+
+/// Callers of a new map run so.
 fn commits_of<R: Threads + Wait + Abort + Sync>(
     rt: &R,
     alloc: Global,
@@ -357,89 +443,74 @@ fn commits_of<R: Threads + Wait + Abort + Sync>(
     callers: usize,
     seed: u64,
     plan: Plan,
-) -> Result<Option<u64>, Fail> {
-    let mut all = recorders(alloc, stripes, callers, seed)?;
-    let clock = AtomicU64::new(1);
-    run_all(rt, all.as_mut_slice(), &clock, plan);
-    let lines = merged(alloc, all.as_slice())?;
-    Ok(commits_in(alloc, stripes as u64, lines)?)
+) -> Option<u64> {
+    let home = open(rt, alloc, stripes, callers);
+    let mut all = recorders(rt, alloc, home, seed);
+    run_and_judge(rt, alloc, stripes, all.as_mut_slice(), plan)
 }
 
-/// A quarter of a thousand runs of 2 to 16 callers, by the seed, on 8 stripes. Answers the first
-/// seed whose history is not legal.
-fn illegal_run<R: Threads + Wait + Abort + Sync>(
-    rt: &R,
-    alloc: Global,
-    quarter: u8,
-) -> Result<Option<u64>, Fail> {
+/// A quarter of a thousand runs of 2 to 16 callers, by the seed, on 8 stripes: each history is legal.
+fn run_quarter<R: Threads + Wait + Abort + Sync>(rt: &R, alloc: Global, quarter: u64) {
     for run in 0..250u64 {
-        let seed = u64::from(quarter) * 250 + run;
+        let seed = quarter.wrapping_mul(250).wrapping_add(run);
         let callers = 2 + (seed % 15) as usize;
-        let commits = commits_of(rt, alloc, 8, callers, seed, Plan::Drawn)?;
-        if commits.is_none() {
-            return Ok(Some(seed));
-        }
+        let commits = commits_of(rt, alloc, 8, callers, seed, Plan::Drawn);
+        assert!(rt; commits.is_some(), "seed {seed}");
     }
-    Ok(None)
 }
 
 /// The thousand runs are four tests, since a test has a minute and threads wait for their turn on a
 /// machine with other work.
 #[test]
-fn runs_0_to_249(rt: HostRuntime) -> Result<(), Fail> {
-    assert_eq!(rt; illegal_run(&rt, rt.alloc(), 0)?, None);
-    Ok(())
+fn runs_0_to_249(rt: HostRuntime) {
+    run_quarter(&rt, rt.alloc(), 0);
 }
 
 #[test]
-fn runs_250_to_499(rt: HostRuntime) -> Result<(), Fail> {
-    assert_eq!(rt; illegal_run(&rt, rt.alloc(), 1)?, None);
-    Ok(())
+fn runs_250_to_499(rt: HostRuntime) {
+    run_quarter(&rt, rt.alloc(), 1);
 }
 
 #[test]
-fn runs_500_to_749(rt: HostRuntime) -> Result<(), Fail> {
-    assert_eq!(rt; illegal_run(&rt, rt.alloc(), 2)?, None);
-    Ok(())
+fn runs_500_to_749(rt: HostRuntime) {
+    run_quarter(&rt, rt.alloc(), 2);
 }
 
 #[test]
-fn runs_750_to_999(rt: HostRuntime) -> Result<(), Fail> {
-    assert_eq!(rt; illegal_run(&rt, rt.alloc(), 3)?, None);
-    Ok(())
+fn runs_750_to_999(rt: HostRuntime) {
+    run_quarter(&rt, rt.alloc(), 3);
 }
 
 /// Four callers commit a hundred transactions each: none finds a stripe held, and the places are 1
 /// to 400.
 #[test]
-fn four_hundred_scripts(rt: HostRuntime) -> Result<(), Fail> {
-    let commits = commits_of(&rt, rt.alloc(), 4096, 4, 0, Plan::Scripts)?;
-    assert_eq!(rt; commits, Some(400));
-    Ok(())
+fn four_hundred_scripts(rt: HostRuntime) {
+    let commits = commits_of(&rt, rt.alloc(), 4096, 4, 0, Plan::Scripts);
+    assert!(rt; commits == Some(400));
 }
 
-/// Caller 1 puts 60 at key 6 in its thread, and when that has ended caller 2 gets it in another.
-const IN_TURN: [Row; 6] = [
+/// Caller 1 puts 60 at key 6 in its thread.
+const PUTS: &[Row] = &[
     (0, Ask::Begin, Told::Done),
     (0, Ask::Do(Op::Put(6, 60)), NEW),
     (0, Ask::Commit, Told::Number(1)),
+];
+
+/// When that has ended, caller 2 gets it in another.
+const GETS: &[Row] = &[
     (1, Ask::Begin, Told::Done),
     (1, Ask::Do(Op::Get(6)), Told::Replied(Some(60))),
     (1, Ask::Commit, Told::Number(2)),
 ];
 
-/// Makes these calls in a thread, and waits for its end.
-fn play_in_thread<R: Threads + Wait + Abort + Sync>(rt: &R, callers: &mut [Caller], rows: &[Row]) {
-    thread::scope(thread::scope_env(), rt, |scope| {
-        let started = scope.spawn(move || play(rt, callers, rows));
-        assert!(rt; started.is_ok(), "a thread");
-    });
+/// Both threads, one after the other.
+fn play_in_turn<R: Threads + Wait + Abort + Sync>(rt: &R, callers: &mut [Caller]) {
+    assert!(rt; callers.len() == 2);
+    in_threads(rt, &mut callers[..1], Work::Calls(PUTS));
+    in_threads(rt, &mut callers[1..], Work::Calls(GETS));
 }
 
 #[test]
-fn two_threads_in_turn(rt: HostRuntime) -> Result<(), Fail> {
-    let (_host, mut callers) = open(rt.alloc(), 8, 2)?;
-    play_in_thread(&rt, callers.as_mut_slice(), &IN_TURN[..3]);
-    play_in_thread(&rt, callers.as_mut_slice(), &IN_TURN[3..]);
-    Ok(())
+fn two_threads_in_turn(rt: HostRuntime) {
+    play_in_turn(&rt, open(&rt, rt.alloc(), 8, 2).callers.as_mut_slice());
 }

@@ -24,6 +24,8 @@ mod sided;
 #[cfg(test)]
 mod sided_limits;
 #[cfg(test)]
+mod threads;
+#[cfg(test)]
 mod transfers;
 #[cfg(test)]
 mod values;

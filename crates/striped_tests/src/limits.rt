@@ -1,10 +1,10 @@
 //! Callers at the limits of the map: stripes, callers, keys, values, savepoints, changes, and the
 //! order of the pairs.
-use crate::calls::{Ask, NEW, Row, Told, Worked, has_left, open, play, play_worked};
+use crate::calls::{Ask, Home, NEW, Row, Told, Worked, has_left, leaves, open, play, play_worked};
 use std::alloc::{AllocError, Global};
 use std::process::Abort;
 use std::test::Fail;
-use striped_map::{Caller, Host, open_map, open_map_with_capacity};
+use striped_map::{open_map, open_map_with_capacity};
 use txn_words::{Op, Refusal};
 
 /// How many callers a map of so many stripes and callers has, or none if it is refused as a limit.
@@ -17,7 +17,7 @@ fn callers_in(alloc: Global, stripes: usize, callers: usize) -> Result<Option<us
 }
 
 /// Stripes and callers, and whether there is such a map.
-const MAPS: [(usize, usize, bool); 9] = [
+const MAPS: &[(usize, usize, bool)] = &[
     (0, 1, false),
     (1, 0, true),
     (1, 1, true),
@@ -35,7 +35,7 @@ const MAPS: [(usize, usize, bool); 9] = [
 
 #[test]
 fn stripes_and_callers(rt: HostRuntime) -> Result<(), Fail> {
-    for (stripes, callers, is_there) in MAPS {
+    for &(stripes, callers, is_there) in MAPS {
         let made = callers_in(rt.alloc(), stripes, callers)?;
         assert!(rt; made == is_there.then_some(callers), "{stripes} {callers}");
     }
@@ -48,7 +48,7 @@ fn why_not(alloc: Global, stripes: usize, callers: usize, keys: usize) -> Option
 }
 
 /// Stripes, callers and keys, and why there is no such map.
-const ROOMS: [(usize, usize, usize, Option<Refusal>); 11] = [
+const ROOMS: &[(usize, usize, usize, Option<Refusal>)] = &[
     (1, 1, 0, None),
     (1, 0, 1, None),
     (3, 1, 2, None),
@@ -64,23 +64,23 @@ const ROOMS: [(usize, usize, usize, Option<Refusal>); 11] = [
 
 #[test]
 fn room_for_keys(rt: HostRuntime) -> Result<(), Fail> {
-    for (stripes, callers, keys, wanted) in ROOMS {
+    for &(stripes, callers, keys, wanted) in ROOMS {
         let found = why_not(rt.alloc(), stripes, callers, keys);
         assert!(rt; found == wanted, "{stripes} {callers} {keys}");
     }
     Ok(())
 }
 
-/// A map that has room for a thousand keys, and its caller.
-fn open_roomy(alloc: Global, stripes: usize) -> Result<(Host, Vec<Caller>), Fail> {
-    match open_map_with_capacity(alloc, stripes, 1, 1_000) {
-        Ok(made) => Ok(made),
-        Err(_) => Err("not opened".into()),
-    }
+/// A map of one caller that has room for a thousand keys.
+fn open_roomy<R: Abort>(rt: &R, alloc: Global, stripes: usize) -> Home {
+    let Ok((host, callers)) = open_map_with_capacity(alloc, stripes, 1, 1_000) else {
+        panic!(rt; "no map");
+    };
+    Home { host, callers }
 }
 
 /// A map with no keys.
-const NO_KEYS: [Row; 6] = [
+const NO_KEYS: &[Row] = &[
     (0, Ask::Begin, Told::Done),
     (0, Ask::Len, Told::Number(0)),
     (0, Ask::Do(Op::Get(0)), NEW),
@@ -90,20 +90,20 @@ const NO_KEYS: [Row; 6] = [
 ];
 
 /// Puts a thousand rising keys, each in a transaction of its own, and half as many again in one.
-fn put_a_thousand<R: Abort>(rt: &R, callers: &mut [Caller]) {
+fn put_a_thousand<R: Abort>(rt: &R, home: &mut Home) {
     for key in 0..1_000u64 {
         let rows = [
             (0, Ask::Begin, Told::Done),
             (0, Ask::Do(Op::Put(key, key)), NEW),
             (0, Ask::Commit, Told::Number(key + 1)),
         ];
-        play(rt, callers, rows.as_slice());
+        play(rt, home, rows.as_slice());
     }
-    play(rt, callers, &[(0, Ask::Begin, Told::Done)]);
+    play(rt, home, &[(0, Ask::Begin, Told::Done)]);
     for key in 1_000..1_500u64 {
-        play(rt, callers, &[(0, Ask::Do(Op::Put(key, key)), NEW)]);
+        play(rt, home, &[(0, Ask::Do(Op::Put(key, key)), NEW)]);
     }
-    play(rt, callers, &[(0, Ask::Commit, Told::Number(1_001))]);
+    play(rt, home, &[(0, Ask::Commit, Told::Number(1_001))]);
 }
 
 /// Each of these keys with itself as its value.
@@ -115,16 +115,21 @@ fn selves(alloc: Global, keys: u64) -> Result<Vec<(u64, u64)>, AllocError> {
     Ok(pairs)
 }
 
+/// Plays in a map with room for a thousand keys.
+fn play_roomy<R: Abort>(rt: &R, home: &mut Home, wanted: &[(u64, u64)]) {
+    play(rt, home, NO_KEYS);
+    put_a_thousand(rt, home);
+    has_left(rt, &mut home.host, wanted);
+}
+
 /// A map with room for a thousand keys is one with no keys, and takes them and more, on a stripe for
 /// all and on stripes for few or none of them.
 #[test]
 fn a_roomy_map(rt: HostRuntime) -> Result<(), Fail> {
     let wanted = selves(rt.alloc(), 1_500)?;
     for stripes in [1, 7, 4096usize] {
-        let (mut host, mut callers) = open_roomy(rt.alloc(), stripes)?;
-        play(&rt, callers.as_mut_slice(), NO_KEYS.as_slice());
-        put_a_thousand(&rt, callers.as_mut_slice());
-        has_left(&rt, &mut host, wanted.as_slice());
+        let home = &mut open_roomy(&rt, rt.alloc(), stripes);
+        play_roomy(&rt, home, wanted.as_slice());
     }
     Ok(())
 }
@@ -146,8 +151,8 @@ static LAST_CALLER: Worked<'static> = Worked {
 };
 
 #[test]
-fn last_caller(rt: HostRuntime) -> Result<(), Fail> {
-    play_worked(&rt, rt.alloc(), &LAST_CALLER)
+fn last_caller(rt: HostRuntime) {
+    play_worked(&rt, rt.alloc(), &LAST_CALLER);
 }
 
 /// Each operation on a key, which at last has the value 0, with the values 0 and 2^64 - 1.
@@ -169,41 +174,53 @@ fn each_operation(key: u64) -> [Row; 11] {
 }
 
 /// Each operation on these keys, in one transaction.
-fn play_keys<R: Abort>(rt: &R, callers: &mut [Caller], keys: &[u64]) {
-    play(rt, callers, &[(0, Ask::Begin, Told::Done)]);
+fn play_keys<R: Abort>(rt: &R, home: &mut Home, keys: &[u64]) {
+    play(rt, home, &[(0, Ask::Begin, Told::Done)]);
     for key in keys {
-        play(rt, callers, &each_operation(*key));
+        play(rt, home, &each_operation(*key));
     }
-    play(rt, callers, &[(0, Ask::Commit, Told::Number(1))]);
+    play(rt, home, &[(0, Ask::Commit, Told::Number(1))]);
 }
 
-/// The keys 0, 2^63 and 2^64 - 1, with their neighbours, on 1, 3 and 4,096 stripes.
+/// The keys 0, 2^63 and 2^64 - 1, with their neighbours.
+const WIDEST: [u64; 7] = [
+    0,
+    1,
+    9_223_372_036_854_775_807,
+    9_223_372_036_854_775_808,
+    9_223_372_036_854_775_809,
+    18_446_744_073_709_551_614,
+    18_446_744_073_709_551_615,
+];
+
+/// Plays those keys.
+fn play_widest<R: Abort>(rt: &R, home: &mut Home) {
+    play_keys(rt, home, WIDEST.as_slice());
+    leaves(rt, home, &WIDEST.map(|key| (key, 0)));
+}
+
+/// Those keys on 1, 3 and 4,096 stripes.
 #[test]
-fn widest_keys(rt: HostRuntime) -> Result<(), Fail> {
-    let half = 9_223_372_036_854_775_808;
+fn widest_keys(rt: HostRuntime) {
     for stripes in [1, 3, 4096usize] {
-        let (mut host, mut callers) = open(rt.alloc(), stripes, 1)?;
-        let keys = [0, 1, half - 1, half, half + 1, u64::MAX - 1, u64::MAX];
-        play_keys(&rt, callers.as_mut_slice(), &keys);
-        has_left(&rt, &mut host, &keys.map(|key| (key, 0)));
+        play_widest(&rt, &mut open(&rt, rt.alloc(), stripes, 1));
     }
-    Ok(())
 }
 
 /// Sets a thousand savepoints, each after key 1 was given the level that comes next.
-fn save_a_thousand<R: Abort>(rt: &R, callers: &mut [Caller]) {
+fn save_a_thousand<R: Abort>(rt: &R, home: &mut Home) {
     for level in 1..1001u64 {
         let had = (level > 1).then_some(level - 1);
         let rows = [
             (0, Ask::Do(Op::Put(1, level)), Told::Replied(had)),
             (0, Ask::Save, Told::Number(level)),
         ];
-        play(rt, callers, rows.as_slice());
+        play(rt, home, rows.as_slice());
     }
 }
 
 /// Returns to levels, and what key 1 has there.
-const LEVELS: [Row; 13] = [
+const LEVELS: &[Row] = &[
     (0, Ask::Back(1001), Told::Refused(Refusal::NoSuchLevel)),
     (0, Ask::Back(u64::MAX), Told::Refused(Refusal::NoSuchLevel)),
     (0, Ask::Back(1000), Told::Done),
@@ -219,17 +236,20 @@ const LEVELS: [Row; 13] = [
     (0, Ask::Save, Told::Number(1)),
 ];
 
+/// Sets the savepoints, and returns.
+fn play_savepoints<R: Abort>(rt: &R, home: &mut Home) {
+    play(rt, home, &[(0, Ask::Begin, Told::Done)]);
+    save_a_thousand(rt, home);
+    play(rt, home, LEVELS);
+}
+
 #[test]
-fn a_thousand_savepoints(rt: HostRuntime) -> Result<(), Fail> {
-    let (_host, mut callers) = open(rt.alloc(), 1, 1)?;
-    play(&rt, callers.as_mut_slice(), &[(0, Ask::Begin, Told::Done)]);
-    save_a_thousand(&rt, callers.as_mut_slice());
-    play(&rt, callers.as_mut_slice(), LEVELS.as_slice());
-    Ok(())
+fn a_thousand_savepoints(rt: HostRuntime) {
+    play_savepoints(&rt, &mut open(&rt, rt.alloc(), 1, 1));
 }
 
 /// The pairs that are there before a hundred thousand keys are put, two of which are among them.
-const FEW: [Row; 5] = [
+const FEW: &[Row] = &[
     (0, Ask::Begin, Told::Done),
     (0, Ask::Do(Op::Put(7, 70)), NEW),
     (0, Ask::Do(Op::Put(99_999, 9)), NEW),
@@ -238,8 +258,8 @@ const FEW: [Row; 5] = [
 ];
 
 /// Begins, and puts the next number at each key below 100,000.
-fn put_100_000<R: Abort>(rt: &R, callers: &mut [Caller]) {
-    play(rt, callers, &[(0, Ask::Begin, Told::Done)]);
+fn put_100_000<R: Abort>(rt: &R, home: &mut Home) {
+    play(rt, home, &[(0, Ask::Begin, Told::Done)]);
     for key in 0..100_000u64 {
         let had = match key {
             7 => Some(70),
@@ -247,12 +267,12 @@ fn put_100_000<R: Abort>(rt: &R, callers: &mut [Caller]) {
             _ => None,
         };
         let row = (0, Ask::Do(Op::Put(key, key + 1)), Told::Replied(had));
-        play(rt, callers, &[row]);
+        play(rt, home, &[row]);
     }
 }
 
 /// An abort of all these puts, after which only the first pairs are there.
-const PUTS_TAKEN_BACK: [Row; 8] = [
+const PUTS_TAKEN_BACK: &[Row] = &[
     (0, Ask::Len, Told::Number(100_000)),
     (0, Ask::Abort, Told::Done),
     (0, Ask::Begin, Told::Done),
@@ -264,7 +284,7 @@ const PUTS_TAKEN_BACK: [Row; 8] = [
 ];
 
 /// A commit of all of them.
-const PUTS_COMMITTED: [Row; 9] = [
+const PUTS_COMMITTED: &[Row] = &[
     (0, Ask::Commit, Told::Number(2)),
     (0, Ask::Begin, Told::Done),
     (0, Ask::Len, Told::Number(100_000)),
@@ -276,33 +296,36 @@ const PUTS_COMMITTED: [Row; 9] = [
     (0, Ask::Commit, Told::Number(3)),
 ];
 
+/// Puts all, takes that back, and puts all once more.
+fn play_puts<R: Abort>(rt: &R, home: &mut Home) {
+    play(rt, home, FEW);
+    put_100_000(rt, home);
+    play(rt, home, PUTS_TAKEN_BACK);
+    has_left(rt, &mut home.host, &[(7, 70), (99_999, 9)]);
+    put_100_000(rt, home);
+    play(rt, home, PUTS_COMMITTED);
+}
+
 /// A hundred thousand puts of one transaction, on 1 and 4,096 stripes: taken back, and then made
 /// once more.
 #[test]
-fn a_hundred_thousand_puts(rt: HostRuntime) -> Result<(), Fail> {
+fn a_hundred_thousand_puts(rt: HostRuntime) {
     for stripes in [1, 4096usize] {
-        let (mut host, mut callers) = open(rt.alloc(), stripes, 1)?;
-        play(&rt, callers.as_mut_slice(), FEW.as_slice());
-        put_100_000(&rt, callers.as_mut_slice());
-        play(&rt, callers.as_mut_slice(), PUTS_TAKEN_BACK.as_slice());
-        has_left(&rt, &mut host, &[(7, 70), (99_999, 9)]);
-        put_100_000(&rt, callers.as_mut_slice());
-        play(&rt, callers.as_mut_slice(), PUTS_COMMITTED.as_slice());
+        play_puts(&rt, &mut open(&rt, rt.alloc(), stripes, 1));
     }
-    Ok(())
 }
 
 /// Puts 202 keys in an order that looks random: the lowest and the highest 101, each low one with
 /// its double.
-fn put_scattered<R: Abort>(rt: &R, callers: &mut [Caller]) {
-    play(rt, callers, &[(0, Ask::Begin, Told::Done)]);
+fn put_scattered<R: Abort>(rt: &R, home: &mut Home) {
+    play(rt, home, &[(0, Ask::Begin, Told::Done)]);
     for place in 0..101u64 {
         let key = place * 37 % 101;
         let rows = [
             (0, Ask::Do(Op::Put(u64::MAX - key, key)), NEW),
             (0, Ask::Do(Op::Put(key, 2 * key)), NEW),
         ];
-        play(rt, callers, rows.as_slice());
+        play(rt, home, rows.as_slice());
     }
 }
 
@@ -318,31 +341,31 @@ fn rising(alloc: Global) -> Result<Vec<(u64, u64)>, AllocError> {
     Ok(pairs)
 }
 
-/// The caller of a place sees these pairs, in this order.
-fn sees<R: Abort>(rt: &R, callers: &mut [Caller], place: usize, wanted: &[(u64, u64)]) {
-    assert!(rt; place < callers.len());
-    let is_seen = match callers[place].pairs() {
+/// The first caller sees these pairs, in this order.
+fn sees<R: Abort>(rt: &R, home: &mut Home, wanted: &[(u64, u64)]) {
+    assert!(rt; 0 < home.callers.len());
+    let is_seen = match home.callers[0].pairs() {
         Ok(pairs) => pairs.as_slice() == wanted,
         Err(_) => false,
     };
     assert!(rt; is_seen);
 }
 
-/// Pairs are in the order of their keys, whatever the stripes: before the commit to the caller, and
-/// after it to the host.
+/// Puts the pairs, which are there before the commit to the caller and after it to the host.
+fn play_scattered<R: Abort>(rt: &R, home: &mut Home, wanted: &[(u64, u64)]) {
+    put_scattered(rt, home);
+    sees(rt, home, wanted);
+    play(rt, home, &[(0, Ask::Commit, Told::Number(1))]);
+    has_left(rt, &mut home.host, wanted);
+}
+
+/// Pairs are in the order of their keys, whatever the stripes.
 #[test]
 fn pairs_rise(rt: HostRuntime) -> Result<(), Fail> {
     let wanted = rising(rt.alloc())?;
     for stripes in [1, 7, 64, 4096usize] {
-        let (mut host, mut callers) = open(rt.alloc(), stripes, 1)?;
-        put_scattered(&rt, callers.as_mut_slice());
-        sees(&rt, callers.as_mut_slice(), 0, wanted.as_slice());
-        play(
-            &rt,
-            callers.as_mut_slice(),
-            &[(0, Ask::Commit, Told::Number(1))],
-        );
-        has_left(&rt, &mut host, wanted.as_slice());
+        let home = &mut open(&rt, rt.alloc(), stripes, 1);
+        play_scattered(&rt, home, wanted.as_slice());
     }
     Ok(())
 }

@@ -1,34 +1,29 @@
 //! Callers that catch up with one another.
-ghost use Rattle.std.specs.Prelude.{◌≡◌, IfOk};
+ghost use Rattle.std.specs.Prelude.{◌≡◌};
 
-use crate::calls::{has_left, play};
+use crate::calls::{Home, leaves, play};
 use crate::transfers::FILLED;
 use accounts::transfer;
-use std::alloc::{AllocError, Global};
-use std::test::Fail;
+use std::alloc::Global;
+use std::process::Abort;
 use std::thread;
 use std::thread::Threads;
-use striped_map::{Caller, Host, Stop, open_map};
-use txn_words::Refusal;
+use striped_map::{Caller, Stop, open_map};
 
-/// A new map of three callers: its host, the first caller, and the two others.
-pub(crate) type Made = (Host, Vec<Caller>, (Caller, Caller));
-
-pub(crate) fn three(alloc: Global) -> Result<Made, Fail>
-    ensures same_map { IfOk result (λ made. made.2.0.map.value ≡ made.2.1.map.value) }
+/// A new map with its first caller, and two other callers of it.
+pub(crate) fn three<R: Abort>(rt: &R, alloc: Global) -> (Home, Caller, Caller)
+    ensures same_map { result.1.map.value ≡ result.2.map.value }
 {
-    let (host, mut callers) = match open_map(alloc, 4, 3) {
-        Ok(made) => made,
-        Err(Refusal::NoMemory) => return Err(AllocError)?,
-        Err(_) => return Err("limits".into()),
+    let Ok((host, mut callers)) = open_map(alloc, 4, 3) else {
+        panic!(rt; "no map");
     };
     let Some(third) = callers.pop() else {
-        return Err("a caller".into());
+        panic!(rt; "a caller");
     };
     let Some(second) = callers.pop() else {
-        return Err("a caller".into());
+        panic!(rt; "a caller");
     };
-    Ok((host, callers, (second, third)))
+    (Home { host, callers }, second, third)
 }
 
 /// One caller moves 10 from account 1 to account 2; the other catches up, and moves 4 back.
@@ -41,17 +36,20 @@ fn there_and_back(one: &mut Caller, other: &mut Caller) -> Result<(bool, bool), 
     Ok((is_there, is_back))
 }
 
+/// Does that with callers that are then dropped.
+fn move_and_drop(mut one: Caller, mut other: Caller) -> Result<(bool, bool), Stop>
+    requires same_map { one.map.value ≡ other.map.value }
+{
+    there_and_back(&mut one, &mut other)
+}
+
 #[test]
-fn a_commit_is_seen(rt: HostRuntime) -> Result<(), Fail> {
-    let (mut host, mut first, (mut second, mut third)) = three(rt.alloc())?;
-    play(&rt, first.as_mut_slice(), FILLED.as_slice());
-    let told = there_and_back(&mut second, &mut third);
+fn a_commit_is_seen(rt: HostRuntime) {
+    let (mut home, second, third) = three(&rt, rt.alloc());
+    play(&rt, &mut home, FILLED);
+    let told = move_and_drop(second, third);
     assert!(rt; told == Ok((true, true)));
-    drop(first);
-    drop(second);
-    drop(third);
-    has_left(&rt, &mut host, &[(1, 4), (2, 6), (3, u64::MAX)]);
-    Ok(())
+    leaves(&rt, &mut home, &[(1, 4), (2, 6), (3, u64::MAX)]);
 }
 
 /// Moves 3 from account 1 to account 2, with as many tries as it takes, and hands the caller back.
@@ -78,27 +76,28 @@ fn from_threads<R: Threads>(rt: &R, one: Caller, other: Caller) -> (Caller, Call
     )
 }
 
-/// Two callers catch up with each other, once each way.
-fn meet(one: &mut Caller, other: &mut Caller)
+/// Two callers catch up with each other, once each way, and each moves 1 back.
+fn meet(one: &mut Caller, other: &mut Caller) -> Result<(bool, bool), Stop>
     requires same_map { one.old.map.value ≡ other.old.map.value }
 {
     one.catch_up(other);
     other.catch_up(one);
+    Ok((transfer(one, 0, 2, 1, 1)?, transfer(other, 0, 2, 1, 1)?))
+}
+
+/// Two callers move in threads, then meet, and are dropped.
+fn move_and_meet<R: Threads>(rt: &R, one: Caller, other: Caller) -> Result<(bool, bool), Stop>
+    requires same_map { one.map.value ≡ other.map.value }
+{
+    let (mut one, mut other) = from_threads(rt, one, other);
+    meet(&mut one, &mut other)
 }
 
 #[test]
-fn callers_from_threads_meet(rt: HostRuntime) -> Result<(), Fail> {
-    let (mut host, mut first, (second, third)) = three(rt.alloc())?;
-    play(&rt, first.as_mut_slice(), FILLED.as_slice());
-    let (mut one, mut other) = from_threads(&rt, second, third);
-    meet(&mut one, &mut other);
-    let is_back = transfer(&mut one, 0, 2, 1, 1);
-    assert!(rt; is_back == Ok(true));
-    let is_back = transfer(&mut other, 0, 2, 1, 1);
-    assert!(rt; is_back == Ok(true));
-    drop(first);
-    drop(one);
-    drop(other);
-    has_left(&rt, &mut host, &[(1, 6), (2, 4), (3, u64::MAX)]);
-    Ok(())
+fn callers_from_threads_meet(rt: HostRuntime) {
+    let (mut home, second, third) = three(&rt, rt.alloc());
+    play(&rt, &mut home, FILLED);
+    let told = move_and_meet(&rt, second, third);
+    assert!(rt; told == Ok((true, true)));
+    leaves(&rt, &mut home, &[(1, 6), (2, 4), (3, u64::MAX)]);
 }

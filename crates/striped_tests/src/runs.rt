@@ -1,6 +1,5 @@
 //! Worked runs of callers of a striped map, whose values were worked out by hand.
 use crate::calls::{Ask, NEW, Told, Worked, play_worked};
-use std::test::Fail;
 use txn_words::{Op, Refusal};
 
 /// A key that had 10.
@@ -216,51 +215,51 @@ static REFUSALS_IN_ORDER: Worked<'static> = Worked {
 };
 
 #[test]
-fn first_commit(rt: HostRuntime) -> Result<(), Fail> {
+fn first_commit(rt: HostRuntime) {
     play_worked(&rt, rt.alloc(), &FIRST_COMMIT)
 }
 
 #[test]
-fn abort_takes_back(rt: HostRuntime) -> Result<(), Fail> {
+fn abort_takes_back(rt: HostRuntime) {
     play_worked(&rt, rt.alloc(), &ABORT_TAKES_BACK)
 }
 
 #[test]
-fn aborted_take_restores(rt: HostRuntime) -> Result<(), Fail> {
+fn aborted_take_restores(rt: HostRuntime) {
     play_worked(&rt, rt.alloc(), &ABORTED_TAKE_RESTORES)
 }
 
 #[test]
-fn busy_between_callers(rt: HostRuntime) -> Result<(), Fail> {
+fn busy_between_callers(rt: HostRuntime) {
     play_worked(&rt, rt.alloc(), &BUSY_BETWEEN_CALLERS)
 }
 
 #[test]
-fn keys_of_64_bits(rt: HostRuntime) -> Result<(), Fail> {
+fn keys_of_64_bits(rt: HostRuntime) {
     play_worked(&rt, rt.alloc(), &KEYS_OF_64_BITS)
 }
 
 #[test]
-fn rights_come_back(rt: HostRuntime) -> Result<(), Fail> {
+fn rights_come_back(rt: HostRuntime) {
     play_worked(&rt, rt.alloc(), &RIGHTS_COME_BACK)
 }
 
 #[test]
-fn step_between(rt: HostRuntime) -> Result<(), Fail> {
+fn step_between(rt: HostRuntime) {
     play_worked(&rt, rt.alloc(), &STEP_BETWEEN)
 }
 
 #[test]
-fn savepoints(rt: HostRuntime) -> Result<(), Fail> {
+fn savepoints(rt: HostRuntime) {
     play_worked(&rt, rt.alloc(), &SAVEPOINTS)
 }
 
 #[test]
-fn nine_undone_newest_first(rt: HostRuntime) -> Result<(), Fail> {
+fn nine_undone_newest_first(rt: HostRuntime) {
     play_worked(&rt, rt.alloc(), &NINE_UNDONE)
 }
 
 #[test]
-fn refusals_in_order(rt: HostRuntime) -> Result<(), Fail> {
+fn refusals_in_order(rt: HostRuntime) {
     play_worked(&rt, rt.alloc(), &REFUSALS_IN_ORDER)
 }

@@ -1,13 +1,12 @@
 //! Callers with a side value: each call, and what becomes of the side value with it.
-ghost use Rattle.std.specs.Prelude.{◌≡◌, IfOk, OnOk};
+ghost use Rattle.std.specs.Prelude.{◌≡◌, OnOk};
 
-use crate::calls::{Ask, NEW, Told, answer as answer_of, has_left, open};
+use crate::calls::{self, Ask, Home, NEW, Told, has_left, open};
 use crate::meets::three;
 use sided_caller::SidedCaller;
 use std::alloc::Global;
 use std::process::Abort;
-use std::test::Fail;
-use striped_map::{Caller, Host, Stop};
+use striped_map::{Caller, Host, Stop, open_map};
 use txn_words::{Op, Refusal};
 use undo_log::{Side, SideJob};
 
@@ -61,7 +60,7 @@ fn of_count(count: u64) -> [u64; 4] {
 pub(crate) type Sided = SidedCaller<Register>;
 
 /// What a caller is asked for.
-#[derive(Clone, Copy, Debug)]
+#[derive(Clone, Copy)]
 pub(crate) enum Call {
     Begin,
     Do(Op),
@@ -128,46 +127,66 @@ pub(crate) fn has_count(caller: &Sided, count: u64) -> bool {
     caller.words() == of_count(count)
 }
 
+/// A map: its host, and those of its callers that are not dropped yet, each with a side value.
+#[derive(Drop)]
+pub(crate) struct SidedHome {
+    pub(crate) host: Host,
+    pub(crate) callers: Vec<Sided>,
+}
+
 /// Asks the callers as the table says. Each must answer as it says, and have that side value then.
-pub(crate) fn play<R: Abort>(rt: &R, callers: &mut [Sided], rows: &[Row]) {
+pub(crate) fn play<R: Abort>(rt: &R, home: &mut SidedHome, rows: &[Row]) {
     for (row, &(place, what, wanted, count)) in rows.iter().enumerate() {
-        assert!(rt; place < callers.len());
-        let told = answer(&mut callers[place], what);
-        assert_eq!(rt; told, wanted, "row {row}: {what:?}");
-        assert!(rt; has_count(&callers[place], count), "row {row}: {what:?}");
+        assert!(rt; place < home.callers.len());
+        let told = answer(&mut home.callers[place], what);
+        assert!(rt; told == wanted, "row {row}");
+        assert!(rt; has_count(&home.callers[place], count), "row {row}");
     }
+}
+
+/// All callers are dropped, and these pairs are left.
+pub(crate) fn leaves<R: Abort>(rt: &R, home: &mut SidedHome, left: &[(u64, u64)]) {
+    home.callers.clear();
+    has_left(rt, &mut home.host, left);
 }
 
 /// A caller with the side value 0.
-fn with_side(alloc: Global, caller: Caller) -> Result<Sided, Fail>
-    ensures caller { IfOk result (λ made. made.caller ≡ caller) }
+fn with_side<R: Abort>(rt: &R, alloc: Global, caller: Caller) -> Sided
+    ensures caller { result.caller ≡ caller }
 {
-    match SidedCaller::new(alloc, caller, a_register(of_count(0))) {
-        Ok(made) => Ok(made),
-        Err(_) => Err("it is in a transaction".into()),
-    }
+    let Ok(made) = SidedCaller::new(alloc, caller, a_register(of_count(0))) else {
+        panic!(rt; "it is in a transaction");
+    };
+    made
 }
 
 /// The callers, each with the side value 0.
-fn with_sides(alloc: Global, callers: Vec<Caller>) -> Result<Vec<Sided>, Fail> {
+fn with_sides<R: Abort>(rt: &R, alloc: Global, callers: Vec<Caller>) -> Vec<Sided> {
     let mut all = Vec::new(alloc);
     for caller in callers {
-        all.push(with_side(alloc, caller)?)?;
+        add(rt, &mut all, with_side(rt, alloc, caller));
     }
-    Ok(all)
+    all
 }
 
-/// A map and its callers, each with the side value 0.
-pub(crate) fn open_sided(
+/// Adds a caller to a list.
+fn add<R: Abort>(rt: &R, all: &mut Vec<Sided>, caller: Sided) {
+    let added = all.push(caller);
+    assert!(rt; added.is_ok());
+}
+
+/// A new map, whose callers each have the side value 0.
+pub(crate) fn open_sided<R: Abort>(
+    rt: &R,
     alloc: Global,
     stripes: usize,
     callers: usize,
-) -> Result<(Host, Vec<Sided>), Fail> {
-    let (host, made) = open(alloc, stripes, callers)?;
-    match with_sides(alloc, made) {
-        Ok(sided) => Ok((host, sided)),
-        Err(fail) => Err(fail),
-    }
+) -> SidedHome {
+    let Ok((host, callers)) = open_map(alloc, stripes, callers) else {
+        panic!(rt; "no map");
+    };
+    let callers = with_sides(rt, alloc, callers);
+    SidedHome { host, callers }
 }
 
 /// A run of callers of a new map of four stripes: the calls, and the pairs that are left when the
@@ -179,13 +198,15 @@ struct Worked<'a> {
     left: &'a [(u64, u64)],
 }
 
+/// Plays the run in a map.
+fn play_in<R: Abort>(rt: &R, home: &mut SidedHome, run: &Worked) {
+    play(rt, home, run.rows);
+    leaves(rt, home, run.left);
+}
+
 /// Plays the run.
-fn play_worked<R: Abort>(rt: &R, alloc: Global, run: &Worked) -> Result<(), Fail> {
-    let (mut host, mut callers) = open_sided(alloc, 4, run.callers)?;
-    play(rt, callers.as_mut_slice(), run.rows);
-    drop(callers);
-    has_left(rt, &mut host, run.left);
-    Ok(())
+fn play_worked<R: Abort>(rt: &R, alloc: Global, run: &Worked) {
+    play_in(rt, &mut open_sided(rt, alloc, 4, run.callers), run);
 }
 
 /// A key that had 10, and one that had 11.
@@ -284,13 +305,13 @@ static REFUSALS: Worked<'static> = Worked {
 };
 
 #[test]
-fn each_call(rt: HostRuntime) -> Result<(), Fail> {
-    play_worked(&rt, rt.alloc(), &EACH_CALL)
+fn each_call(rt: HostRuntime) {
+    play_worked(&rt, rt.alloc(), &EACH_CALL);
 }
 
 #[test]
-fn refusals(rt: HostRuntime) -> Result<(), Fail> {
-    play_worked(&rt, rt.alloc(), &REFUSALS)
+fn refusals(rt: HostRuntime) {
+    play_worked(&rt, rt.alloc(), &REFUSALS);
 }
 
 /// Caller 2 puts key 2 and sets its side value from 20 to 21 and 22. Then it finds the stripe of
@@ -311,26 +332,31 @@ fn finds_busy(op: Op) -> [Row; 11] {
     ]
 }
 
+/// Each kind of operation on the stripe of key 1.
+const OPS: &[Op] = &[
+    Op::Get(1),
+    Op::Put(1, 11),
+    Op::Take(1),
+    Op::PutIf(1, Some(10), 11),
+    Op::PutIf(5, None, 50),
+];
+
+/// Each of these operations is busy.
+fn play_busy<R: Abort>(rt: &R, home: &mut SidedHome) {
+    for &op in OPS {
+        play(rt, home, &finds_busy(op));
+    }
+    has_left(rt, &mut home.host, &[]);
+}
+
 /// A busy operation, whichever it is, takes the side value back to the beginning.
 #[test]
-fn busy(rt: HostRuntime) -> Result<(), Fail> {
-    let (mut host, mut callers) = open_sided(rt.alloc(), 4, 2)?;
-    let ops = [
-        Op::Get(1),
-        Op::Put(1, 11),
-        Op::Take(1),
-        Op::PutIf(1, Some(10), 11),
-        Op::PutIf(5, None, 50),
-    ];
-    for op in ops {
-        play(&rt, callers.as_mut_slice(), &finds_busy(op));
-    }
-    has_left(&rt, &mut host, &[]);
-    Ok(())
+fn busy(rt: HostRuntime) {
+    play_busy(&rt, &mut open_sided(&rt, rt.alloc(), 4, 2));
 }
 
 /// Caller 2 leaves a pair, and caller 1 a side value.
-const BEFORE: [Row; 4] = [
+const BEFORE: &[Row] = &[
     (1, Call::Begin, Told::Done, 0),
     (1, Call::Do(Op::Put(1, 5)), NEW, 0),
     (1, Call::Commit, Told::Number(1), 0),
@@ -338,7 +364,7 @@ const BEFORE: [Row; 4] = [
 ];
 
 /// A transaction of caller 1 with each kind of call.
-const CALLS: [Row; 10] = [
+const CALLS: &[Row] = &[
     (0, Call::Begin, Told::Done, 1),
     (0, Call::Do(Op::Get(1)), Told::Replied(Some(5)), 1),
     (0, Call::Set(2), Told::Done, 2),
@@ -353,7 +379,7 @@ const CALLS: [Row; 10] = [
 
 /// Caller 2, which has the first place now, finds no stripe held and the pair, and its own side
 /// value.
-const AFTER: [Row; 5] = [
+const AFTER: &[Row] = &[
     (0, Call::Begin, Told::Done, 0),
     (0, Call::Do(Op::Get(1)), Told::Replied(Some(5)), 0),
     (0, Call::Do(Op::Get(2)), NEW, 0),
@@ -361,72 +387,86 @@ const AFTER: [Row; 5] = [
     (0, Call::Commit, Told::Number(2), 0),
 ];
 
+/// Drops the first caller.
+fn drop_first<R: Abort>(rt: &R, home: &mut SidedHome) {
+    assert!(rt; 0 < home.callers.len());
+    drop(home.callers.remove(0));
+}
+
 /// Drops caller 1 after so many calls.
-fn drop_after<R: Abort>(rt: &R, alloc: Global, calls: usize) -> Result<(), Fail> {
-    let (mut host, mut callers) = open_sided(alloc, 4, 2)?;
-    play(rt, callers.as_mut_slice(), BEFORE.as_slice());
+fn drop_after<R: Abort>(rt: &R, home: &mut SidedHome, calls: usize) {
+    play(rt, home, BEFORE);
     assert!(rt; calls <= CALLS.len());
-    play(rt, callers.as_mut_slice(), &CALLS[..calls]);
-    assert!(rt; 0 < callers.len());
-    drop(callers.remove(0));
-    play(rt, callers.as_mut_slice(), AFTER.as_slice());
-    has_left(rt, &mut host, &[(1, 5)]);
-    Ok(())
+    play(rt, home, &CALLS[..calls]);
+    drop_first(rt, home);
+    play(rt, home, AFTER);
+    has_left(rt, &mut home.host, &[(1, 5)]);
 }
 
 #[test]
-fn dropped_at_every_point(rt: HostRuntime) -> Result<(), Fail> {
+fn dropped_at_every_point(rt: HostRuntime) {
     for calls in 0..11usize {
-        drop_after(&rt, rt.alloc(), calls)?;
-    }
-    Ok(())
-}
-
-/// Asks a caller without a side value.
-fn asks<R: Abort>(rt: &R, caller: &mut Caller, rows: &[(Ask, Told)]) {
-    for &(what, wanted) in rows {
-        let told = answer_of(caller, what);
-        assert_eq!(rt; told, wanted, "{what:?}");
+        drop_after(&rt, &mut open_sided(&rt, rt.alloc(), 4, 2), calls);
     }
 }
 
-/// What `new` hands back of a caller in a transaction, if the side value is handed back with it.
-fn handed_back(alloc: Global, caller: Caller, count: u64) -> Option<Caller> {
-    match SidedCaller::new(alloc, caller, a_register(of_count(count))) {
-        Ok(_) => None,
-        Err((caller, value)) => (value.words() == of_count(count)).then_some(caller),
-    }
+/// What `new` hands back of a caller in a transaction, with the side value.
+fn handed_back<R: Abort>(rt: &R, alloc: Global, caller: Caller) -> Caller {
+    let Err((caller, value)) = SidedCaller::new(alloc, caller, a_register(of_count(7))) else {
+        panic!(rt; "it was taken");
+    };
+    assert!(rt; value.words() == of_count(7));
+    caller
 }
 
-/// The caller without its side value, after it has put 20 at key 2 in an open transaction.
-fn without_side<R: Abort>(rt: &R, mut sided: Sided) -> Caller {
-    let begun = answer(&mut sided, Call::Begin);
-    let told = answer(&mut sided, Call::Do(Op::Put(2, 20)));
+/// Puts 20 at key 2 in an open transaction.
+fn put_second<R: Abort>(rt: &R, sided: &mut Sided) {
+    let begun = answer(sided, Call::Begin);
+    let told = answer(sided, Call::Do(Op::Put(2, 20)));
     assert!(rt; begun == Told::Done && told == NEW);
+}
+
+/// The caller without its side value, with which it has put so.
+fn without_side<R: Abort>(rt: &R, alloc: Global, caller: Caller) -> Caller {
+    let mut sided = with_side(rt, alloc, caller);
+    put_second(rt, &mut sided);
     sided.into_caller()
+}
+
+/// The last caller of a map.
+fn take_out<R: Abort>(rt: &R, home: &mut Home) -> Caller {
+    let Some(caller) = home.callers.pop() else {
+        panic!(rt; "a caller");
+    };
+    caller
+}
+
+/// Puts a caller back.
+fn put_back<R: Abort>(rt: &R, home: &mut Home, caller: Caller) {
+    let added = home.callers.push(caller);
+    assert!(rt; added.is_ok());
 }
 
 /// A caller that has just put key 1 is handed back, and its transaction goes on. Out of one it gets
 /// a side value, and without it again goes on too.
-fn there_and_back<R: Abort>(rt: &R, alloc: Global, caller: Caller) -> Result<(), Fail> {
-    let mut caller = handed_back(alloc, caller, 7).ok_or("it was taken")?;
-    asks(rt, &mut caller, &[(Ask::Commit, Told::Number(1))]);
-    let sided = with_side(alloc, caller)?;
-    let mut caller = without_side(rt, sided);
-    asks(rt, &mut caller, &[(Ask::Commit, Told::Number(2))]);
-    Ok(())
+fn play_handed_back<R: Abort>(rt: &R, alloc: Global, home: &mut Home) {
+    let begins = [
+        (0, Ask::Begin, Told::Done),
+        (0, Ask::Do(Op::Put(1, 10)), NEW),
+    ];
+    calls::play(rt, home, begins.as_slice());
+    let caller = take_out(rt, home);
+    put_back(rt, home, handed_back(rt, alloc, caller));
+    calls::play(rt, home, &[(0, Ask::Commit, Told::Number(1))]);
+    let caller = take_out(rt, home);
+    put_back(rt, home, without_side(rt, alloc, caller));
+    calls::play(rt, home, &[(0, Ask::Commit, Told::Number(2))]);
+    calls::leaves(rt, home, &[(1, 10), (2, 20)]);
 }
 
 #[test]
-fn handed_back_in_a_transaction(rt: HostRuntime) -> Result<(), Fail> {
-    let (mut host, callers) = open(rt.alloc(), 4, 1)?;
-    for mut caller in callers {
-        let begins = [(Ask::Begin, Told::Done), (Ask::Do(Op::Put(1, 10)), NEW)];
-        asks(&rt, &mut caller, begins.as_slice());
-        there_and_back(&rt, rt.alloc(), caller)?;
-    }
-    has_left(&rt, &mut host, &[(1, 10), (2, 20)]);
-    Ok(())
+fn handed_back_in_a_transaction(rt: HostRuntime) {
+    play_handed_back(&rt, rt.alloc(), &mut open(&rt, rt.alloc(), 4, 1));
 }
 
 /// Begins, and puts the key at itself and in the side value.
@@ -452,27 +492,26 @@ fn meet(one: &mut Sided, other: &mut Sided) -> Result<(), Stop>
 }
 
 /// A list of two callers.
-fn listed(alloc: Global, one: Sided, other: Sided) -> Result<Vec<Sided>, Fail> {
+fn listed<R: Abort>(rt: &R, alloc: Global, one: Sided, other: Sided) -> Vec<Sided> {
     let mut all = Vec::new(alloc);
-    all.push(one)?;
-    all.push(other)?;
-    Ok(all)
+    add(rt, &mut all, one);
+    add(rt, &mut all, other);
+    all
 }
 
 /// The callers with side values, which have met.
-fn met(alloc: Global, one: Caller, other: Caller) -> Result<Vec<Sided>, Fail>
+fn met<R: Abort>(rt: &R, alloc: Global, one: Caller, other: Caller) -> Vec<Sided>
     requires same_map { one.map.value ≡ other.map.value }
 {
-    let mut one = with_side(alloc, one)?;
-    let mut other = with_side(alloc, other)?;
-    match meet(&mut one, &mut other) {
-        Ok(()) => listed(alloc, one, other),
-        Err(_) => Err("busy".into()),
-    }
+    let mut one = with_side(rt, alloc, one);
+    let mut other = with_side(rt, alloc, other);
+    let met = meet(&mut one, &mut other);
+    assert!(rt; met == Ok(()));
+    listed(rt, alloc, one, other)
 }
 
 /// The side values of callers 2 and 3 and the transaction of caller 3 are as before they met.
-const MET: [Row; 8] = [
+const MET: &[Row] = &[
     (0, Call::Begin, Told::Done, 1),
     (0, Call::Do(Op::Get(2)), Told::Busy(3), 1),
     (1, Call::Do(Op::Get(1)), Told::Replied(Some(1)), 2),
@@ -483,12 +522,19 @@ const MET: [Row; 8] = [
     (0, Call::Commit, Told::Number(2), 3),
 ];
 
+/// Plays them.
+fn play_met<R: Abort>(rt: &R, home: &mut SidedHome) {
+    play(rt, home, MET);
+    leaves(rt, home, &[(1, 1)]);
+}
+
 #[test]
-fn callers_meet(rt: HostRuntime) -> Result<(), Fail> {
-    let (mut host, _first, (second, third)) = three(rt.alloc())?;
-    let mut callers = met(rt.alloc(), second, third)?;
-    play(&rt, callers.as_mut_slice(), MET.as_slice());
-    drop(callers);
-    has_left(&rt, &mut host, &[(1, 1)]);
-    Ok(())
+fn callers_meet(rt: HostRuntime) {
+    let (home, second, third) = three(&rt, rt.alloc());
+    let Home {
+        host,
+        callers: _first,
+    } = home;
+    let callers = met(&rt, rt.alloc(), second, third);
+    play_met(&rt, &mut SidedHome { host, callers });
 }

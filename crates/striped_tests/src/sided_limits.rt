@@ -1,10 +1,10 @@
 //! Callers with a side value at the limits: keys, values, changes of the side value, savepoints,
 //! and two of them in threads.
 use crate::calls::{NEW, Told, has_left};
-use crate::sided::{Call, Row, Sided, answer, has_count, open_sided, play};
+use crate::sided::{Call, Row, Sided, SidedHome, answer, has_count, leaves, open_sided, play};
+use crate::threads::must_start;
 use std::process::Abort;
 use std::sync::Wait;
-use std::test::Fail;
 use std::thread;
 use std::thread::Threads;
 use txn_words::{Op, Refusal};
@@ -26,34 +26,36 @@ fn each_operation(key: u64, before: u64) -> [Row; 9] {
     ]
 }
 
-/// The keys 0, 2^63 - 1, 2^63 and 2^64 - 1, on 1 and 4,096 stripes.
-#[test]
-fn widest_keys(rt: HostRuntime) -> Result<(), Fail> {
-    let half = 9_223_372_036_854_775_808;
-    for stripes in [1, 4096usize] {
-        let (mut host, mut callers) = open_sided(rt.alloc(), stripes, 1)?;
-        let mut before = 0;
-        play(
-            &rt,
-            callers.as_mut_slice(),
-            &[(0, Call::Begin, Told::Done, 0)],
-        );
-        for key in [0, half - 1, half, u64::MAX] {
-            play(&rt, callers.as_mut_slice(), &each_operation(key, before));
-            before = key;
-        }
-        let commits = [(0, Call::Commit, Told::Number(1), u64::MAX)];
-        play(&rt, callers.as_mut_slice(), commits.as_slice());
-        let left = [(0, 0), (half - 1, 0), (half, 0), (u64::MAX, 0)];
-        has_left(&rt, &mut host, left.as_slice());
+/// Each key with the side value before it: the keys 0, 2^63 - 1, 2^63 and 2^64 - 1.
+const WIDEST: [(u64, u64); 4] = [
+    (0, 0),
+    (9_223_372_036_854_775_807, 0),
+    (9_223_372_036_854_775_808, 9_223_372_036_854_775_807),
+    (18_446_744_073_709_551_615, 9_223_372_036_854_775_808),
+];
+
+/// Each operation on these keys, in one transaction.
+fn play_widest<R: Abort>(rt: &R, home: &mut SidedHome) {
+    play(rt, home, &[(0, Call::Begin, Told::Done, 0)]);
+    for (key, before) in WIDEST {
+        play(rt, home, &each_operation(key, before));
     }
-    Ok(())
+    play(rt, home, &[(0, Call::Commit, Told::Number(1), u64::MAX)]);
+    leaves(rt, home, &WIDEST.map(|pair| (pair.0, 0)));
+}
+
+/// Those keys on 1 and 4,096 stripes.
+#[test]
+fn widest_keys(rt: HostRuntime) {
+    for stripes in [1, 4096usize] {
+        play_widest(&rt, &mut open_sided(&rt, rt.alloc(), stripes, 1));
+    }
 }
 
 /// Begins where the side value is 7 and key 1 has 10, and changes the side value and a key of the
 /// map a thousand times each.
-fn change_a_thousand<R: Abort>(rt: &R, callers: &mut [Sided]) {
-    play(rt, callers, &[(0, Call::Begin, Told::Done, 7)]);
+fn change_a_thousand<R: Abort>(rt: &R, home: &mut SidedHome) {
+    play(rt, home, &[(0, Call::Begin, Told::Done, 7)]);
     for count in 0..1000u64 {
         let had = (count == 1).then_some(10);
         let rows = [
@@ -65,12 +67,12 @@ fn change_a_thousand<R: Abort>(rt: &R, callers: &mut [Sided]) {
                 count,
             ),
         ];
-        play(rt, callers, rows.as_slice());
+        play(rt, home, rows.as_slice());
     }
 }
 
 /// Puts 10 at key 1 and 7 in the side value.
-const FIRST: [Row; 4] = [
+const FIRST: &[Row] = &[
     (0, Call::Begin, Told::Done, 0),
     (0, Call::Do(Op::Put(1, 10)), NEW, 0),
     (0, Call::Set(7), Told::Done, 7),
@@ -79,7 +81,7 @@ const FIRST: [Row; 4] = [
 
 /// Goes on after a commit of the thousand changes: an abort takes back no more than what came after
 /// it.
-const KEPT: [Row; 8] = [
+const KEPT: &[Row] = &[
     (0, Call::Commit, Told::Number(2), 999),
     (0, Call::Begin, Told::Done, 999),
     (0, Call::Do(Op::Get(0)), Told::Replied(Some(0)), 999),
@@ -90,25 +92,24 @@ const KEPT: [Row; 8] = [
     (0, Call::Abort, Told::Done, 999),
 ];
 
+/// The thousand changes are aborted, and then committed.
+fn play_changes<R: Abort>(rt: &R, home: &mut SidedHome) {
+    play(rt, home, FIRST);
+    change_a_thousand(rt, home);
+    play(rt, home, &[(0, Call::Abort, Told::Done, 7)]);
+    has_left(rt, &mut home.host, &[(1, 10)]);
+    change_a_thousand(rt, home);
+    play(rt, home, KEPT);
+}
+
 #[test]
-fn a_thousand_changes(rt: HostRuntime) -> Result<(), Fail> {
-    let (mut host, mut callers) = open_sided(rt.alloc(), 16, 1)?;
-    play(&rt, callers.as_mut_slice(), FIRST.as_slice());
-    change_a_thousand(&rt, callers.as_mut_slice());
-    play(
-        &rt,
-        callers.as_mut_slice(),
-        &[(0, Call::Abort, Told::Done, 7)],
-    );
-    has_left(&rt, &mut host, &[(1, 10)]);
-    change_a_thousand(&rt, callers.as_mut_slice());
-    play(&rt, callers.as_mut_slice(), KEPT.as_slice());
-    Ok(())
+fn a_thousand_changes(rt: HostRuntime) {
+    play_changes(&rt, &mut open_sided(&rt, rt.alloc(), 16, 1));
 }
 
 /// Sets a hundred savepoints, each after key 1 and the side value were given the level that comes
 /// next.
-fn save_a_hundred<R: Abort>(rt: &R, callers: &mut [Sided]) {
+fn save_a_hundred<R: Abort>(rt: &R, home: &mut SidedHome) {
     for level in 1..101u64 {
         let had = (level > 1).then_some(level - 1);
         let rows = [
@@ -116,13 +117,13 @@ fn save_a_hundred<R: Abort>(rt: &R, callers: &mut [Sided]) {
             (0, Call::Do(Op::Put(1, level)), Told::Replied(had), level),
             (0, Call::Save, Told::Number(level), level),
         ];
-        play(rt, callers, rows.as_slice());
+        play(rt, home, rows.as_slice());
     }
 }
 
 /// Returns to levels, and what key 1 and the side value have there. The side value was 7 before the
 /// transaction.
-const LEVELS: [Row; 19] = [
+const LEVELS: &[Row] = &[
     (0, Call::Set(500), Told::Done, 500),
     (0, Call::Do(Op::Take(1)), Told::Replied(Some(100)), 500),
     (0, Call::Back(101), Told::Refused(Refusal::NoSuchLevel), 500),
@@ -144,24 +145,27 @@ const LEVELS: [Row; 19] = [
     (0, Call::Commit, Told::Number(1), 7),
 ];
 
-#[test]
-fn a_hundred_savepoints(rt: HostRuntime) -> Result<(), Fail> {
-    let (mut host, mut callers) = open_sided(rt.alloc(), 4, 1)?;
+/// Sets the savepoints, and returns.
+fn play_savepoints<R: Abort>(rt: &R, home: &mut SidedHome) {
     let begins = [
         (0, Call::Set(7), Told::Done, 7),
         (0, Call::Begin, Told::Done, 7),
     ];
-    play(&rt, callers.as_mut_slice(), begins.as_slice());
-    save_a_hundred(&rt, callers.as_mut_slice());
-    play(&rt, callers.as_mut_slice(), LEVELS.as_slice());
-    has_left(&rt, &mut host, &[]);
-    Ok(())
+    play(rt, home, begins.as_slice());
+    save_a_hundred(rt, home);
+    play(rt, home, LEVELS);
+    has_left(rt, &mut home.host, &[]);
+}
+
+#[test]
+fn a_hundred_savepoints(rt: HostRuntime) {
+    play_savepoints(&rt, &mut open_sided(&rt, rt.alloc(), 4, 1));
 }
 
 /// Makes a call, which must not be refused; whether it was not busy.
 fn is_made<R: Abort>(rt: &R, caller: &mut Sided, what: Call) -> bool {
     let told = answer(caller, what);
-    assert!(rt; !matches!(told, Told::Refused(_)), "{what:?}");
+    assert!(rt; !matches!(told, Told::Refused(_)));
     !matches!(told, Told::Busy(_))
 }
 
@@ -210,20 +214,27 @@ fn count_all<R: Threads + Wait + Abort + Sync>(rt: &R, callers: &mut [Sided]) {
         for (place, caller) in callers.iter_mut().enumerate() {
             let own = (place as u64).wrapping_add(2);
             let started = scope.spawn(move || count_to_300(rt, caller, own));
-            assert!(rt; started.is_ok(), "a thread");
+            must_start(rt, started.is_ok());
         }
     });
 }
 
+/// Each caller has this count.
+fn have_count<R: Abort>(rt: &R, callers: &[Sided], count: u64) {
+    for caller in callers {
+        assert!(rt; has_count(caller, count));
+    }
+}
+
 /// What two threads have counted in their side values is what they have committed: their own keys
 /// have it, and the key that they share has both.
+fn play_counts<R: Threads + Wait + Abort + Sync>(rt: &R, home: &mut SidedHome) {
+    count_all(rt, home.callers.as_mut_slice());
+    have_count(rt, home.callers.as_slice(), 300);
+    has_left(rt, &mut home.host, &[(1, 600), (2, 300), (3, 300)]);
+}
+
 #[test]
-fn two_threads_count(rt: HostRuntime) -> Result<(), Fail> {
-    let (mut host, mut callers) = open_sided(rt.alloc(), 4, 2)?;
-    count_all(&rt, callers.as_mut_slice());
-    for caller in callers.iter() {
-        assert!(rt; has_count(caller, 300));
-    }
-    has_left(&rt, &mut host, &[(1, 600), (2, 300), (3, 300)]);
-    Ok(())
+fn two_threads_count(rt: HostRuntime) {
+    play_counts(&rt, &mut open_sided(&rt, rt.alloc(), 4, 2));
 }

@@ -1,9 +1,9 @@
 //! Transfers between the accounts of a striped map, by one caller and by several in their threads.
-use crate::calls::{Ask, NEW, Row, Told, answer, has_left, open, play};
+use crate::calls::{Ask, Home, NEW, Row, Told, answer, leaves, open, play};
+use crate::threads::{Work, in_threads};
 use accounts::transfer;
 use std::process::Abort;
 use std::sync::Wait;
-use std::test::Fail;
 use std::thread;
 use std::thread::Threads;
 use striped_map::{Caller, Host, Stop};
@@ -24,15 +24,15 @@ fn must_move<R: Abort>(rt: &R, caller: &mut Caller, row: (u64, u64, u64, bool)) 
     assert!(rt; is_moved == Ok(wanted), "{sum} from {from} to {to}");
 }
 
-/// The caller of a place tries once to move 10 from account 1 to account 2: it must answer so.
-fn asks<R: Abort>(rt: &R, callers: &mut [Caller], place: usize, wanted: Result<bool, Stop>) {
-    assert!(rt; place < callers.len());
-    let is_moved = moved(&mut callers[place], 0, 1, 2, 10);
+/// The first caller tries once to move 10 from account 1 to account 2: it must answer so.
+fn asks<R: Abort>(rt: &R, home: &mut Home, wanted: Result<bool, Stop>) {
+    assert!(rt; 0 < home.callers.len());
+    let is_moved = moved(&mut home.callers[0], 0, 1, 2, 10);
     assert!(rt; is_moved == wanted);
 }
 
 /// Account 1 has 10, and account 3 all that an account can have.
-pub(crate) const FILLED: [Row; 4] = [
+pub(crate) const FILLED: &[Row] = &[
     (0, Ask::Begin, Told::Done),
     (0, Ask::Do(Op::Put(1, 10)), NEW),
     (0, Ask::Do(Op::Put(3, u64::MAX)), NEW),
@@ -41,7 +41,7 @@ pub(crate) const FILLED: [Row; 4] = [
 
 /// Transfers, and whether they are made: not if the first account has too little, or the second
 /// would have 2^64. An account without a key has 0.
-const TRANSFERS: [(u64, u64, u64, bool); 8] = [
+const TRANSFERS: &[(u64, u64, u64, bool)] = &[
     (1, 2, 11, false),
     (1, 2, 10, true),
     (1, 2, 1, false),
@@ -52,52 +52,54 @@ const TRANSFERS: [(u64, u64, u64, bool); 8] = [
     (5, 2, 0, true),
 ];
 
-#[test]
-fn too_little_and_too_much(rt: HostRuntime) -> Result<(), Fail> {
-    let (mut host, mut callers) = open(rt.alloc(), 4, 1)?;
-    play(&rt, callers.as_mut_slice(), FILLED.as_slice());
-    for caller in callers.iter_mut() {
-        for row in TRANSFERS {
-            must_move(&rt, caller, row);
-        }
+/// The first caller makes these transfers.
+fn transfer_all<R: Abort>(rt: &R, home: &mut Home) {
+    assert!(rt; 0 < home.callers.len());
+    for &row in TRANSFERS {
+        must_move(rt, &mut home.callers[0], row);
     }
-    drop(callers);
-    has_left(
-        &rt,
-        &mut host,
-        &[(1, 5), (2, 10), (3, u64::MAX - 5), (5, 0)],
+}
+
+/// Makes them, and looks at what is left.
+fn play_transfers<R: Abort>(rt: &R, home: &mut Home) {
+    play(rt, home, FILLED);
+    transfer_all(rt, home);
+    leaves(rt, home, &[(1, 5), (2, 10), (3, u64::MAX - 5), (5, 0)]);
+}
+
+#[test]
+fn too_little_and_too_much(rt: HostRuntime) {
+    play_transfers(&rt, &mut open(&rt, rt.alloc(), 4, 1));
+}
+
+/// A caller puts 15 in account 1, and holds its stripe.
+fn holds<R: Abort>(rt: &R, home: &mut Home, place: usize) {
+    play(
+        rt,
+        home,
+        &[
+            (place, Ask::Begin, Told::Done),
+            (place, Ask::Do(Op::Put(1, 15)), NEW),
+        ],
     );
-    Ok(())
 }
 
 /// Caller 2 holds the stripe of account 1 until it commits.
+fn play_busy<R: Abort>(rt: &R, home: &mut Home) {
+    holds(rt, home, 1);
+    asks(rt, home, Err(Stop::Busy { holder: 2 }));
+    play(rt, home, &[(1, Ask::Commit, Told::Number(1))]);
+    asks(rt, home, Ok(true));
+    leaves(rt, home, &[(1, 5), (2, 10)]);
+}
+
 #[test]
-fn busy_to_the_end_of_the_holder(rt: HostRuntime) -> Result<(), Fail> {
-    let (mut host, mut callers) = open(rt.alloc(), 4, 2)?;
-    let holds = [
-        (1, Ask::Begin, Told::Done),
-        (1, Ask::Do(Op::Put(1, 15)), NEW),
-    ];
-    play(&rt, callers.as_mut_slice(), holds.as_slice());
-    asks(
-        &rt,
-        callers.as_mut_slice(),
-        0,
-        Err(Stop::Busy { holder: 2 }),
-    );
-    play(
-        &rt,
-        callers.as_mut_slice(),
-        &[(1, Ask::Commit, Told::Number(1))],
-    );
-    asks(&rt, callers.as_mut_slice(), 0, Ok(true));
-    drop(callers);
-    has_left(&rt, &mut host, &[(1, 5), (2, 10)]);
-    Ok(())
+fn busy_to_the_end_of_the_holder(rt: HostRuntime) {
+    play_busy(&rt, &mut open(&rt, rt.alloc(), 4, 2));
 }
 
 /// The caller of place 0 commits after a while; the other moves 10 meanwhile.
-fn take_part<R: Abort>(rt: &R, caller: &mut Caller, place: usize) {
+pub(crate) fn take_part<R: Abort>(rt: &R, caller: &mut Caller, place: usize) {
     if place > 0 {
         return must_move(rt, caller, (1, 2, 10, true));
     }
@@ -105,32 +107,20 @@ fn take_part<R: Abort>(rt: &R, caller: &mut Caller, place: usize) {
         thread::yield_now();
     }
     let told = answer(caller, Ask::Commit);
-    assert_eq!(rt; told, Told::Number(1));
+    assert!(rt; told == Told::Number(1));
 }
 
-/// Each caller takes part in a thread of its own.
-fn take_parts<R: Threads + Wait + Abort + Sync>(rt: &R, callers: &mut [Caller]) {
-    thread::scope(thread::scope_env(), rt, |scope| {
-        for (place, caller) in callers.iter_mut().enumerate() {
-            let started = scope.spawn(move || take_part(rt, caller, place));
-            assert!(rt; started.is_ok(), "a thread");
-        }
-    });
+/// Caller 1 holds the stripe of account 1 when both take part.
+fn play_waiting<R: Threads + Wait + Abort + Sync>(rt: &R, home: &mut Home) {
+    holds(rt, home, 0);
+    in_threads(rt, home.callers.as_mut_slice(), Work::TakesPart);
+    leaves(rt, home, &[(1, 5), (2, 10)]);
 }
 
 /// A transfer that is busy gives way and begins anew until the stripe is free.
 #[test]
-fn busy_tries_again(rt: HostRuntime) -> Result<(), Fail> {
-    let (mut host, mut callers) = open(rt.alloc(), 4, 2)?;
-    let holds = [
-        (0, Ask::Begin, Told::Done),
-        (0, Ask::Do(Op::Put(1, 15)), NEW),
-    ];
-    play(&rt, callers.as_mut_slice(), holds.as_slice());
-    take_parts(&rt, callers.as_mut_slice());
-    drop(callers);
-    has_left(&rt, &mut host, &[(1, 5), (2, 10)]);
-    Ok(())
+fn busy_tries_again(rt: HostRuntime) {
+    play_waiting(&rt, &mut open(&rt, rt.alloc(), 4, 2));
 }
 
 /// How many accounts the threads share, and what each has at first.
@@ -139,16 +129,16 @@ const ACCOUNTS: u64 = 8;
 const FIRST: u64 = 100;
 
 /// Gives each account what it has at first.
-fn fill<R: Abort>(rt: &R, callers: &mut [Caller]) {
-    play(rt, callers, &[(0, Ask::Begin, Told::Done)]);
+fn fill<R: Abort>(rt: &R, home: &mut Home) {
+    play(rt, home, &[(0, Ask::Begin, Told::Done)]);
     for account in 0..ACCOUNTS {
-        play(rt, callers, &[(0, Ask::Do(Op::Put(account, FIRST)), NEW)]);
+        play(rt, home, &[(0, Ask::Do(Op::Put(account, FIRST)), NEW)]);
     }
-    play(rt, callers, &[(0, Ask::Commit, Told::Number(1))]);
+    play(rt, home, &[(0, Ask::Commit, Told::Number(1))]);
 }
 
 /// Moves sums between accounts that look random. Each transfer must be made or refused for its sum.
-fn move_many<R: Abort>(rt: &R, caller: &mut Caller, seed: u64) {
+pub(crate) fn move_many<R: Abort>(rt: &R, caller: &mut Caller, seed: u64) {
     let mut dice = seed;
     for _ in 0..1000u64 {
         dice = dice.wrapping_mul(6_364_136_223_846_793_005).wrapping_add(1);
@@ -156,16 +146,6 @@ fn move_many<R: Abort>(rt: &R, caller: &mut Caller, seed: u64) {
         let is_moved = moved(caller, u64::MAX, from, to, dice >> 50 & 31);
         assert!(rt; is_moved.is_ok());
     }
-}
-
-/// Each caller moves sums in a thread of its own.
-fn move_all<R: Threads + Wait + Abort + Sync>(rt: &R, callers: &mut [Caller]) {
-    thread::scope(thread::scope_env(), rt, |scope| {
-        for (place, caller) in callers.iter_mut().enumerate() {
-            let started = scope.spawn(move || move_many(rt, caller, place as u64));
-            assert!(rt; started.is_ok(), "a thread");
-        }
-    });
 }
 
 /// What all accounts have together, if it can be read and added up.
@@ -177,13 +157,16 @@ fn total(host: &mut Host) -> Option<u64> {
     Some(sum)
 }
 
+/// Fills the accounts, and moves sums.
+fn play_sums<R: Threads + Wait + Abort + Sync>(rt: &R, home: &mut Home) {
+    fill(rt, home);
+    in_threads(rt, home.callers.as_mut_slice(), Work::Moves);
+    home.callers.clear();
+    assert!(rt; total(&mut home.host) == Some(800));
+}
+
 /// Whatever four threads move, all accounts together have what they had.
 #[test]
-fn sum_stays(rt: HostRuntime) -> Result<(), Fail> {
-    let (mut host, mut callers) = open(rt.alloc(), 16, 4)?;
-    fill(&rt, callers.as_mut_slice());
-    move_all(&rt, callers.as_mut_slice());
-    drop(callers);
-    assert_eq!(rt; total(&mut host), Some(800));
-    Ok(())
+fn sum_stays(rt: HostRuntime) {
+    play_sums(&rt, &mut open(&rt, rt.alloc(), 16, 4));
 }

@@ -1,13 +1,11 @@
 //! Transactions as values, on the calls that `Ask` has not: each call, and a drop at every point.
-use crate::calls::{Ask, NEW, Row, Told, has_left, open, play};
-use std::alloc::Global;
+use crate::calls::{Ask, Home, NEW, Row, Told, leaves, open, play};
 use std::process::Abort;
-use std::test::Fail;
 use striped_map::{Caller, Stop, Transaction};
 use txn_words::{Op, Refusal, Reply};
 
 /// What a transaction is asked for.
-#[derive(Clone, Copy, Debug)]
+#[derive(Clone, Copy)]
 enum Call {
     Do(Op),
     Has(u64),
@@ -20,7 +18,7 @@ enum Call {
 }
 
 /// What it answers: that, a reply, a number, or yes or no; of `Pairs`, how many there are.
-#[derive(Clone, Copy, Debug, PartialEq, Eq)]
+#[derive(Clone, Copy, PartialEq, Eq)]
 enum Answer {
     Done,
     Replied(Reply),
@@ -63,7 +61,7 @@ type Line = (Call, Answer);
 const NONE: Answer = Answer::Replied(None);
 
 /// Each kind of call, over the pair (1, 5) that was there; the last takes every stripe.
-const CALLS: [Line; 19] = [
+const CALLS: &[Line] = &[
     (Call::Do(Op::Get(1)), Answer::Replied(Some(5))),
     (Call::Has(1), Answer::Is(true)),
     (Call::Has(2), Answer::Is(false)),
@@ -96,29 +94,51 @@ enum End {
     IsDropped,
 }
 
+/// What a transaction answers.
+fn told_by(t: &mut Transaction<'_>, what: Call) -> Answer {
+    match make_call(t, what) {
+        Ok(told) => told,
+        Err(stop) => Answer::Stopped(stop),
+    }
+}
+
+/// Asks a transaction as the table says.
+fn ask_all<R: Abort>(rt: &R, t: &mut Transaction<'_>, lines: &[Line]) {
+    for (line, &(what, wanted)) in lines.iter().enumerate() {
+        let told = told_by(t, what);
+        assert!(rt; told == wanted, "line {line}");
+    }
+}
+
+/// Ends a transaction; the place of its commit, or 0.
+fn end_so(t: Transaction<'_>, end: End) -> Result<u64, Stop> {
+    match end {
+        End::Commits => return t.commit(),
+        End::Aborts => t.abort(),
+        End::IsDropped => drop(t),
+    }
+    Ok(0)
+}
+
 /// Asks a transaction as the table says, and ends it.
+fn ask_and_end<R: Abort>(
+    rt: &R,
+    mut t: Transaction<'_>,
+    lines: &[Line],
+    end: End,
+) -> Result<u64, Stop> {
+    ask_all(rt, &mut t, lines);
+    end_so(t, end)
+}
+
+/// Begins a transaction, and does so.
 fn play_value<R: Abort>(
     rt: &R,
     caller: &mut Caller,
     lines: &[Line],
     end: End,
 ) -> Result<u64, Stop> {
-    let mut t = Transaction::begin(caller)?;
-    for &(what, wanted) in lines {
-        let told = match make_call(&mut t, what) {
-            Ok(told) => told,
-            Err(stop) => Answer::Stopped(stop),
-        };
-        assert_eq!(rt; told, wanted, "{what:?}");
-    }
-    match end {
-        End::Commits => t.commit(),
-        End::Aborts => {
-            t.abort();
-            Ok(0)
-        }
-        End::IsDropped => Ok(0),
-    }
+    ask_and_end(rt, Transaction::begin(caller)?, lines, end)
 }
 
 /// Caller 2 leaves the pair (1, 5).
@@ -129,7 +149,7 @@ const BEFORE: [Row; 3] = [
 ];
 
 /// Caller 2 then finds no stripe held, and the pair alone.
-const AFTER: [Row; 4] = [
+const AFTER: &[Row] = &[
     (1, Ask::Begin, Told::Done),
     (1, Ask::Len, Told::Number(1)),
     (1, Ask::Do(Op::Get(1)), Told::Replied(Some(5))),
@@ -139,60 +159,52 @@ const AFTER: [Row; 4] = [
 /// Plays a transaction of caller 1, which must end so.
 fn play_first<R: Abort>(
     rt: &R,
-    callers: &mut [Caller],
+    home: &mut Home,
     lines: &[Line],
     end: End,
     wanted: Result<u64, Stop>,
 ) {
-    assert!(rt; 0 < callers.len());
-    let ended = play_value(rt, &mut callers[0], lines, end);
+    assert!(rt; 0 < home.callers.len());
+    let ended = play_value(rt, &mut home.callers[0], lines, end);
     assert!(rt; ended == wanted);
 }
 
 /// So many calls of caller 1 are taken back.
-fn taken_back<R: Abort>(rt: &R, alloc: Global, calls: usize, end: End) -> Result<(), Fail> {
-    let (mut host, mut callers) = open(alloc, 4, 2)?;
-    play(rt, callers.as_mut_slice(), BEFORE.as_slice());
+fn taken_back<R: Abort>(rt: &R, home: &mut Home, calls: usize, end: End) {
+    play(rt, home, BEFORE.as_slice());
     assert!(rt; calls <= CALLS.len());
-    play_first(rt, callers.as_mut_slice(), &CALLS[..calls], end, Ok(0));
-    play(rt, callers.as_mut_slice(), AFTER.as_slice());
-    drop(callers);
-    has_left(rt, &mut host, &[(1, 5)]);
-    Ok(())
+    play_first(rt, home, &CALLS[..calls], end, Ok(0));
+    play(rt, home, AFTER);
+    leaves(rt, home, &[(1, 5)]);
 }
 
 #[test]
-fn dropped_at_every_point(rt: HostRuntime) -> Result<(), Fail> {
+fn dropped_at_every_point(rt: HostRuntime) {
     for calls in 0..20usize {
-        taken_back(&rt, rt.alloc(), calls, End::IsDropped)?;
+        taken_back(&rt, &mut open(&rt, rt.alloc(), 4, 2), calls, End::IsDropped);
     }
-    Ok(())
 }
 
 #[test]
-fn aborted(rt: HostRuntime) -> Result<(), Fail> {
-    taken_back(&rt, rt.alloc(), 19, End::Aborts)
+fn aborted(rt: HostRuntime) {
+    taken_back(&rt, &mut open(&rt, rt.alloc(), 4, 2), 19, End::Aborts);
+}
+
+/// All calls of caller 1 are committed.
+fn play_committed<R: Abort>(rt: &R, home: &mut Home) {
+    play(rt, home, BEFORE.as_slice());
+    play_first(rt, home, CALLS, End::Commits, Ok(2));
+    leaves(rt, home, &[(1, 8), (2, 20), (3, 30)]);
 }
 
 #[test]
-fn committed(rt: HostRuntime) -> Result<(), Fail> {
-    let (mut host, mut callers) = open(rt.alloc(), 4, 2)?;
-    play(&rt, callers.as_mut_slice(), BEFORE.as_slice());
-    play_first(
-        &rt,
-        callers.as_mut_slice(),
-        CALLS.as_slice(),
-        End::Commits,
-        Ok(2),
-    );
-    drop(callers);
-    has_left(&rt, &mut host, &[(1, 8), (2, 20), (3, 30)]);
-    Ok(())
+fn committed(rt: HostRuntime) {
+    play_committed(&rt, &mut open(&rt, rt.alloc(), 4, 2));
 }
 
 /// Caller 1 finds the stripe of key 1 held: its transaction is over, and all that is left is to end
 /// the value.
-const BUSY: [Line; 3] = [
+const BUSY: &[Line] = &[
     (Call::Do(Op::Put(2, 20)), NONE),
     (Call::Has(1), Answer::Stopped(Stop::Busy { holder: 2 })),
     (
@@ -201,55 +213,38 @@ const BUSY: [Line; 3] = [
     ),
 ];
 
+/// Caller 2 holds the stripe meanwhile, and then commits.
+fn play_busy<R: Abort>(rt: &R, home: &mut Home) {
+    let not_open = Err(Stop::Refused(Refusal::NotOpen));
+    play(rt, home, &BEFORE[..2]);
+    play_first(rt, home, BUSY, End::Commits, not_open);
+    play_first(rt, home, BUSY, End::Aborts, Ok(0));
+    play(rt, home, &BEFORE[2..]);
+    play(rt, home, AFTER);
+    leaves(rt, home, &[(1, 5)]);
+}
+
 #[test]
-fn over_once_busy(rt: HostRuntime) -> Result<(), Fail> {
-    let (mut host, mut callers) = open(rt.alloc(), 4, 2)?;
-    play(&rt, callers.as_mut_slice(), &BEFORE[..2]);
-    play_first(
-        &rt,
-        callers.as_mut_slice(),
-        BUSY.as_slice(),
-        End::Commits,
-        Err(Stop::Refused(Refusal::NotOpen)),
-    );
-    play_first(
-        &rt,
-        callers.as_mut_slice(),
-        BUSY.as_slice(),
-        End::Aborts,
-        Ok(0),
-    );
-    play(&rt, callers.as_mut_slice(), &BEFORE[2..]);
-    play(&rt, callers.as_mut_slice(), AFTER.as_slice());
-    drop(callers);
-    has_left(&rt, &mut host, &[(1, 5)]);
-    Ok(())
+fn over_once_busy(rt: HostRuntime) {
+    play_busy(&rt, &mut open(&rt, rt.alloc(), 4, 2));
 }
 
 /// A transaction is begun by the caller itself, so none is begun as a value, and it goes on.
-#[test]
-fn begun_already(rt: HostRuntime) -> Result<(), Fail> {
-    let (mut host, mut callers) = open(rt.alloc(), 4, 1)?;
+fn play_begun<R: Abort>(rt: &R, home: &mut Home) {
+    let already_open = Err(Stop::Refused(Refusal::AlreadyOpen));
     let begins = [
         (0, Ask::Begin, Told::Done),
         (0, Ask::Do(Op::Put(1, 5)), NEW),
     ];
-    play(&rt, callers.as_mut_slice(), begins.as_slice());
-    play_first(
-        &rt,
-        callers.as_mut_slice(),
-        &[],
-        End::IsDropped,
-        Err(Stop::Refused(Refusal::AlreadyOpen)),
-    );
-    play(
-        &rt,
-        callers.as_mut_slice(),
-        &[(0, Ask::Commit, Told::Number(1))],
-    );
-    drop(callers);
-    has_left(&rt, &mut host, &[(1, 5)]);
-    Ok(())
+    play(rt, home, begins.as_slice());
+    play_first(rt, home, &[], End::IsDropped, already_open);
+    play(rt, home, &[(0, Ask::Commit, Told::Number(1))]);
+    leaves(rt, home, &[(1, 5)]);
+}
+
+#[test]
+fn begun_already(rt: HostRuntime) {
+    play_begun(&rt, &mut open(&rt, rt.alloc(), 4, 1));
 }
 
 /// Puts 10 at key 1, and returns early at a level that is not there.
@@ -260,19 +255,25 @@ fn goes_too_far(caller: &mut Caller) -> Result<u64, Stop> {
     t.commit()
 }
 
-/// An early return takes the put back.
-#[test]
-fn returned_early(rt: HostRuntime) -> Result<(), Fail> {
-    let (mut host, mut callers) = open(rt.alloc(), 4, 2)?;
-    play(&rt, callers.as_mut_slice(), BEFORE.as_slice());
-    for caller in callers.iter_mut() {
+/// An early return of each caller.
+fn go_too_far<R: Abort>(rt: &R, home: &mut Home) {
+    for caller in home.callers.iter_mut() {
         let went = goes_too_far(caller);
         assert!(rt; went == Err(Stop::Refused(Refusal::NoSuchLevel)));
     }
-    play(&rt, callers.as_mut_slice(), AFTER.as_slice());
-    drop(callers);
-    has_left(&rt, &mut host, &[(1, 5)]);
-    Ok(())
+}
+
+/// An early return takes the put back.
+fn play_returned<R: Abort>(rt: &R, home: &mut Home) {
+    play(rt, home, BEFORE.as_slice());
+    go_too_far(rt, home);
+    play(rt, home, AFTER);
+    leaves(rt, home, &[(1, 5)]);
+}
+
+#[test]
+fn returned_early(rt: HostRuntime) {
+    play_returned(&rt, &mut open(&rt, rt.alloc(), 4, 2));
 }
 
 /// The calls that a caller has besides those of `Ask`: whether the map is empty, whether key 1 is
@@ -287,14 +288,17 @@ fn looks(caller: &mut Caller) -> Result<(bool, bool, bool, bool), Stop> {
     Ok((is_empty, is_there, is_swapped, is_swapped_again))
 }
 
+/// The first caller makes these calls in two transactions.
+fn play_looks<R: Abort>(rt: &R, home: &mut Home) {
+    assert!(rt; 0 < home.callers.len());
+    let looked = looks(&mut home.callers[0]);
+    assert!(rt; looked == Ok((true, false, true, false)));
+    let looked = looks(&mut home.callers[0]);
+    assert!(rt; looked == Ok((false, true, false, false)));
+    leaves(rt, home, &[(1, 6)]);
+}
+
 #[test]
-fn calls_of_a_caller(rt: HostRuntime) -> Result<(), Fail> {
-    let (mut host, mut callers) = open(rt.alloc(), 4, 1)?;
-    for caller in callers.iter_mut() {
-        assert!(rt; looks(caller) == Ok((true, false, true, false)));
-        assert!(rt; looks(caller) == Ok((false, true, false, false)));
-    }
-    drop(callers);
-    has_left(&rt, &mut host, &[(1, 6)]);
-    Ok(())
+fn calls_of_a_caller(rt: HostRuntime) {
+    play_looks(&rt, &mut open(&rt, rt.alloc(), 4, 1));
 }

@@ -1,0 +1,54 @@
+//! Callers in threads of their own.
+use crate::calls::{Row, ask_row};
+use crate::transfers::{move_many, take_part};
+use std::process::Abort;
+use std::sync::Wait;
+use std::thread;
+use std::thread::Threads;
+use striped_map::Caller;
+
+/// What each caller does in its thread.
+#[derive(Clone, Copy)]
+pub(crate) enum Work<'a> {
+    /// Makes these calls.
+    Calls(&'a [Row]),
+    /// Moves many sums between accounts.
+    Moves,
+    /// The caller of place 0 commits after a while, and each other makes a transfer meanwhile.
+    TakesPart,
+}
+
+/// Makes these calls, whatever their places. Each must be answered as the table says.
+fn ask_all<R: Abort>(rt: &R, caller: &mut Caller, rows: &[Row]) {
+    for (row, &(_, what, wanted)) in rows.iter().enumerate() {
+        ask_row(rt, caller, row, what, wanted);
+    }
+}
+
+/// Does the work of the caller of a place.
+fn do_work<R: Abort>(rt: &R, caller: &mut Caller, place: usize, what: Work) {
+    match what {
+        Work::Calls(rows) => ask_all(rt, caller, rows),
+        Work::Moves => move_many(rt, caller, place as u64),
+        Work::TakesPart => take_part(rt, caller, place),
+    }
+}
+
+/// A thread must have started.
+pub(crate) fn must_start<R: Abort>(rt: &R, has_started: bool) {
+    assert!(rt; has_started, "a thread");
+}
+
+/// Each caller works in a thread of its own.
+pub(crate) fn in_threads<R: Threads + Wait + Abort + Sync>(
+    rt: &R,
+    callers: &mut [Caller],
+    what: Work,
+) {
+    thread::scope(thread::scope_env(), rt, |scope| {
+        for (place, caller) in callers.iter_mut().enumerate() {
+            let started = scope.spawn(move || do_work(rt, caller, place, what));
+            must_start(rt, started.is_ok());
+        }
+    });
+}
