@@ -81,9 +81,15 @@ pub(crate) fn open<R: Abort>(rt: &R, alloc: Global, stripes: usize, callers: usi
     Home { host, callers }
 }
 
+/// What the row of this number says must be so. It stands apart, since a message is dear to prove
+/// in a function that has much else.
+pub(crate) fn must<R: Abort>(rt: &R, row: usize, is_so: bool) {
+    assert!(rt; is_so, "row {row}");
+}
+
 /// Asks a caller, as the row of this number says. It must answer as wanted.
 pub(crate) fn ask_row<R: Abort>(rt: &R, caller: &mut Caller, row: usize, what: Ask, wanted: Told) {
-    assert!(rt; answer(caller, what) == wanted, "row {row}");
+    must(rt, row, answer(caller, what) == wanted);
 }
 
 /// Asks the callers as the table says. Each must answer as it says.

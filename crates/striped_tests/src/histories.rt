@@ -305,7 +305,26 @@ impl Merge {
     /// The stamp of a commit.
     fn stamp_of(&self, place: u64) -> u64 {
         let index = place.wrapping_sub(1) as usize;
-        self.commits.get(index).map_or(u64::MAX, |commit| commit.1)
+        match self.commits.get(index) {
+            Some(commit) => commit.1,
+            None => u64::MAX,
+        }
+    }
+
+    /// Puts the entry of a beginning.
+    fn put_begin(&mut self, noted: &Noted) -> Result<(), AllocError> {
+        self.standing = 0;
+        self.levels.clear();
+        self.put(noted.after, 0, Entry::Began(self.caller, 0))
+    }
+
+    /// Puts the entry of a commit.
+    fn put_commit(&mut self, noted: &Noted) -> Result<(), AllocError> {
+        let Told::Number(place) = noted.told else {
+            return Ok(());
+        };
+        let stamp = self.stamp_of(place);
+        self.put(stamp, place, Entry::Committed(self.caller, place))
     }
 
     /// Puts the entries of a call, unless it was refused.
@@ -315,22 +334,12 @@ impl Merge {
             return Ok(());
         }
         match noted.what {
-            Ask::Begin => {
-                self.standing = 0;
-                self.levels.clear();
-                self.put(noted.after, 0, Entry::Began(caller, 0))
-            }
+            Ask::Begin => self.put_begin(noted),
             Ask::Do(op) => self.put_op(noted, op),
             Ask::Save => self.put_level(noted, None),
             Ask::Back(level) => self.put_level(noted, Some(level)),
             Ask::Len => Ok(()),
-            Ask::Commit => {
-                let Told::Number(place) = noted.told else {
-                    return Ok(());
-                };
-                let stamp = self.stamp_of(place);
-                self.put(stamp, place, Entry::Committed(caller, place))
-            }
+            Ask::Commit => self.put_commit(noted),
             Ask::Abort => {
                 let leave = Entry::Leave(caller, None);
                 self.put_undone(noted.before, leave, 0, Entry::Aborted(caller))
@@ -340,7 +349,10 @@ impl Merge {
 
     /// Notes when a caller began first, and its commits.
     fn note(&mut self, one: &Recorder) -> Result<(), AllocError> {
-        let first = one.log.first().map_or(u64::MAX, |noted| noted.after);
+        let first = match one.log.first() {
+            Some(noted) => noted.after,
+            None => u64::MAX,
+        };
         self.firsts.push(first)?;
         note_commits(&mut self.commits, one)
     }

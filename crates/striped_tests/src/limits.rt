@@ -1,6 +1,8 @@
 //! Callers at the limits of the map: stripes, callers, keys, values, savepoints, changes, and the
 //! order of the pairs.
-use crate::calls::{Ask, Home, NEW, Row, Told, Worked, has_left, leaves, open, play, play_worked};
+use crate::calls::{
+    Ask, Home, NEW, Row, Told, Worked, has_left, leaves, must, open, play, play_worked,
+};
 use std::alloc::{AllocError, Global};
 use std::process::Abort;
 use std::test::Fail;
@@ -35,9 +37,9 @@ const MAPS: &[(usize, usize, bool)] = &[
 
 #[test]
 fn stripes_and_callers(rt: HostRuntime) -> Result<(), Fail> {
-    for &(stripes, callers, is_there) in MAPS {
+    for (row, &(stripes, callers, is_there)) in MAPS.iter().enumerate() {
         let made = callers_in(rt.alloc(), stripes, callers)?;
-        assert!(rt; made == is_there.then_some(callers), "{stripes} {callers}");
+        must(&rt, row, made == is_there.then_some(callers));
     }
     Ok(())
 }
@@ -63,12 +65,11 @@ const ROOMS: &[(usize, usize, usize, Option<Refusal>)] = &[
 ];
 
 #[test]
-fn room_for_keys(rt: HostRuntime) -> Result<(), Fail> {
-    for &(stripes, callers, keys, wanted) in ROOMS {
+fn room_for_keys(rt: HostRuntime) {
+    for (row, &(stripes, callers, keys, wanted)) in ROOMS.iter().enumerate() {
         let found = why_not(rt.alloc(), stripes, callers, keys);
-        assert!(rt; found == wanted, "{stripes} {callers} {keys}");
+        must(&rt, row, found == wanted);
     }
-    Ok(())
 }
 
 /// A map of one caller that has room for a thousand keys.
@@ -127,7 +128,7 @@ fn play_roomy<R: Abort>(rt: &R, home: &mut Home, wanted: &[(u64, u64)]) {
 #[test]
 fn a_roomy_map(rt: HostRuntime) -> Result<(), Fail> {
     let wanted = selves(rt.alloc(), 1_500)?;
-    for stripes in [1, 7, 4096usize] {
+    for &stripes in &[1, 7, 4096usize] {
         let home = &mut open_roomy(&rt, rt.alloc(), stripes);
         play_roomy(&rt, home, wanted.as_slice());
     }
@@ -202,7 +203,7 @@ fn play_widest<R: Abort>(rt: &R, home: &mut Home) {
 /// Those keys on 1, 3 and 4,096 stripes.
 #[test]
 fn widest_keys(rt: HostRuntime) {
-    for stripes in [1, 3, 4096usize] {
+    for &stripes in &[1, 3, 4096usize] {
         play_widest(&rt, &mut open(&rt, rt.alloc(), stripes, 1));
     }
 }
@@ -310,7 +311,7 @@ fn play_puts<R: Abort>(rt: &R, home: &mut Home) {
 /// once more.
 #[test]
 fn a_hundred_thousand_puts(rt: HostRuntime) {
-    for stripes in [1, 4096usize] {
+    for &stripes in &[1, 4096usize] {
         play_puts(&rt, &mut open(&rt, rt.alloc(), stripes, 1));
     }
 }
@@ -363,7 +364,7 @@ fn play_scattered<R: Abort>(rt: &R, home: &mut Home, wanted: &[(u64, u64)]) {
 #[test]
 fn pairs_rise(rt: HostRuntime) -> Result<(), Fail> {
     let wanted = rising(rt.alloc())?;
-    for stripes in [1, 7, 64, 4096usize] {
+    for &stripes in &[1, 7, 64, 4096usize] {
         let home = &mut open(&rt, rt.alloc(), stripes, 1);
         play_scattered(&rt, home, wanted.as_slice());
     }

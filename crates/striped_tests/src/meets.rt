@@ -26,6 +26,11 @@ pub(crate) fn three<R: Abort>(rt: &R, alloc: Global) -> (Home, Caller, Caller)
     (Home { host, callers }, second, third)
 }
 
+/// Two transfers must be made.
+fn both_moved<R: Abort>(rt: &R, told: Result<(bool, bool), Stop>) {
+    assert!(rt; told == Ok((true, true)));
+}
+
 /// One caller moves 10 from account 1 to account 2; the other catches up, and moves 4 back.
 fn there_and_back(one: &mut Caller, other: &mut Caller) -> Result<(bool, bool), Stop>
     requires same_map { one.old.map.value ≡ other.old.map.value }
@@ -47,8 +52,7 @@ fn move_and_drop(mut one: Caller, mut other: Caller) -> Result<(bool, bool), Sto
 fn a_commit_is_seen(rt: HostRuntime) {
     let (mut home, second, third) = three(&rt, rt.alloc());
     play(&rt, &mut home, FILLED);
-    let told = move_and_drop(second, third);
-    assert!(rt; told == Ok((true, true)));
+    both_moved(&rt, move_and_drop(second, third));
     leaves(&rt, &mut home, &[(1, 4), (2, 6), (3, u64::MAX)]);
 }
 
@@ -97,7 +101,6 @@ fn move_and_meet<R: Threads>(rt: &R, one: Caller, other: Caller) -> Result<(bool
 fn callers_from_threads_meet(rt: HostRuntime) {
     let (mut home, second, third) = three(&rt, rt.alloc());
     play(&rt, &mut home, FILLED);
-    let told = move_and_meet(&rt, second, third);
-    assert!(rt; told == Ok((true, true)));
+    both_moved(&rt, move_and_meet(&rt, second, third));
     leaves(&rt, &mut home, &[(1, 6), (2, 4), (3, u64::MAX)]);
 }

@@ -1,5 +1,5 @@
 //! What calls leave that are refused memory. `docs/tests/refused.sh` refuses it to them.
-use crate::calls::{Ask, Home, NEW, Row, Told, answer, reads};
+use crate::calls::{Ask, Home, NEW, Row, Told, answer, must, reads};
 use std::alloc::Global;
 use std::process::Abort;
 use std::test::Fail;
@@ -35,7 +35,7 @@ fn play_again<R: Abort>(rt: &R, home: &mut Home, rows: &[Row]) -> Result<(), Ref
     for (row, &(place, what, wanted)) in rows.iter().enumerate() {
         assert!(rt; place < home.callers.len());
         let told = answer_again(&mut home.callers[place], what)?;
-        assert!(rt; told == wanted, "row {row}");
+        must(rt, row, told == wanted);
     }
     Ok(())
 }

@@ -1,7 +1,7 @@
 //! Callers with a side value: each call, and what becomes of the side value with it.
 ghost use Rattle.std.specs.Prelude.{◌≡◌, OnOk};
 
-use crate::calls::{self, Ask, Home, NEW, Told, has_left, open};
+use crate::calls::{self, Ask, Home, NEW, Told, has_left, must, open};
 use crate::meets::three;
 use sided_caller::SidedCaller;
 use std::alloc::Global;
@@ -139,8 +139,8 @@ pub(crate) fn play<R: Abort>(rt: &R, home: &mut SidedHome, rows: &[Row]) {
     for (row, &(place, what, wanted, count)) in rows.iter().enumerate() {
         assert!(rt; place < home.callers.len());
         let told = answer(&mut home.callers[place], what);
-        assert!(rt; told == wanted, "row {row}");
-        assert!(rt; has_count(&home.callers[place], count), "row {row}");
+        let has_count = has_count(&home.callers[place], count);
+        must(rt, row, told == wanted && has_count);
     }
 }
 

@@ -47,7 +47,7 @@ fn play_widest<R: Abort>(rt: &R, home: &mut SidedHome) {
 /// Those keys on 1 and 4,096 stripes.
 #[test]
 fn widest_keys(rt: HostRuntime) {
-    for stripes in [1, 4096usize] {
+    for &stripes in &[1, 4096usize] {
         play_widest(&rt, &mut open_sided(&rt, rt.alloc(), stripes, 1));
     }
 }

@@ -1,5 +1,5 @@
 //! Transfers between the accounts of a striped map, by one caller and by several in their threads.
-use crate::calls::{Ask, Home, NEW, Row, Told, answer, leaves, open, play};
+use crate::calls::{Ask, Home, NEW, Row, Told, answer, leaves, must, open, play};
 use crate::threads::{Work, in_threads};
 use accounts::transfer;
 use std::process::Abort;
@@ -17,11 +17,11 @@ fn moved(caller: &mut Caller, tries: u64, from: u64, to: u64, sum: u64) -> Resul
     transfer(caller, tries, from, to, sum)
 }
 
-/// Asks for a transfer, with as many tries as it takes: it must be made or not, as wanted.
-fn must_move<R: Abort>(rt: &R, caller: &mut Caller, row: (u64, u64, u64, bool)) {
-    let (from, to, sum, wanted) = row;
+/// Asks for a transfer, with as many tries as it takes: it must be made or not, as the row says.
+fn must_move<R: Abort>(rt: &R, caller: &mut Caller, row: usize, what: (u64, u64, u64, bool)) {
+    let (from, to, sum, wanted) = what;
     let is_moved = moved(caller, u64::MAX, from, to, sum);
-    assert!(rt; is_moved == Ok(wanted), "{sum} from {from} to {to}");
+    must(rt, row, is_moved == Ok(wanted));
 }
 
 /// The first caller tries once to move 10 from account 1 to account 2: it must answer so.
@@ -55,8 +55,8 @@ const TRANSFERS: &[(u64, u64, u64, bool)] = &[
 /// The first caller makes these transfers.
 fn transfer_all<R: Abort>(rt: &R, home: &mut Home) {
     assert!(rt; 0 < home.callers.len());
-    for &row in TRANSFERS {
-        must_move(rt, &mut home.callers[0], row);
+    for (row, &what) in TRANSFERS.iter().enumerate() {
+        must_move(rt, &mut home.callers[0], row, what);
     }
 }
 
@@ -101,7 +101,7 @@ fn busy_to_the_end_of_the_holder(rt: HostRuntime) {
 /// The caller of place 0 commits after a while; the other moves 10 meanwhile.
 pub(crate) fn take_part<R: Abort>(rt: &R, caller: &mut Caller, place: usize) {
     if place > 0 {
-        return must_move(rt, caller, (1, 2, 10, true));
+        return must_move(rt, caller, 0, (1, 2, 10, true));
     }
     for _ in 0..1000u64 {
         thread::yield_now();

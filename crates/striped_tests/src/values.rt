@@ -1,5 +1,5 @@
 //! Transactions as values, on the calls that `Ask` has not: each call, and a drop at every point.
-use crate::calls::{Ask, Home, NEW, Row, Told, leaves, open, play};
+use crate::calls::{Ask, Home, NEW, Row, Told, leaves, must, open, play};
 use std::process::Abort;
 use striped_map::{Caller, Stop, Transaction};
 use txn_words::{Op, Refusal, Reply};
@@ -105,8 +105,7 @@ fn told_by(t: &mut Transaction<'_>, what: Call) -> Answer {
 /// Asks a transaction as the table says.
 fn ask_all<R: Abort>(rt: &R, t: &mut Transaction<'_>, lines: &[Line]) {
     for (line, &(what, wanted)) in lines.iter().enumerate() {
-        let told = told_by(t, what);
-        assert!(rt; told == wanted, "line {line}");
+        must(rt, line, told_by(t, what) == wanted);
     }
 }
 
@@ -141,12 +140,14 @@ fn play_value<R: Abort>(
     ask_and_end(rt, Transaction::begin(caller)?, lines, end)
 }
 
-/// Caller 2 leaves the pair (1, 5).
-const BEFORE: [Row; 3] = [
+/// Caller 2 puts the pair (1, 5), and holds its stripe.
+const HOLDS: &[Row] = &[
     (1, Ask::Begin, Told::Done),
     (1, Ask::Do(Op::Put(1, 5)), NEW),
-    (1, Ask::Commit, Told::Number(1)),
 ];
+
+/// It leaves the pair.
+const LETS_GO: &[Row] = &[(1, Ask::Commit, Told::Number(1))];
 
 /// Caller 2 then finds no stripe held, and the pair alone.
 const AFTER: &[Row] = &[
@@ -171,7 +172,8 @@ fn play_first<R: Abort>(
 
 /// So many calls of caller 1 are taken back.
 fn taken_back<R: Abort>(rt: &R, home: &mut Home, calls: usize, end: End) {
-    play(rt, home, BEFORE.as_slice());
+    play(rt, home, HOLDS);
+    play(rt, home, LETS_GO);
     assert!(rt; calls <= CALLS.len());
     play_first(rt, home, &CALLS[..calls], end, Ok(0));
     play(rt, home, AFTER);
@@ -192,7 +194,8 @@ fn aborted(rt: HostRuntime) {
 
 /// All calls of caller 1 are committed.
 fn play_committed<R: Abort>(rt: &R, home: &mut Home) {
-    play(rt, home, BEFORE.as_slice());
+    play(rt, home, HOLDS);
+    play(rt, home, LETS_GO);
     play_first(rt, home, CALLS, End::Commits, Ok(2));
     leaves(rt, home, &[(1, 8), (2, 20), (3, 30)]);
 }
@@ -216,10 +219,10 @@ const BUSY: &[Line] = &[
 /// Caller 2 holds the stripe meanwhile, and then commits.
 fn play_busy<R: Abort>(rt: &R, home: &mut Home) {
     let not_open = Err(Stop::Refused(Refusal::NotOpen));
-    play(rt, home, &BEFORE[..2]);
+    play(rt, home, HOLDS);
     play_first(rt, home, BUSY, End::Commits, not_open);
     play_first(rt, home, BUSY, End::Aborts, Ok(0));
-    play(rt, home, &BEFORE[2..]);
+    play(rt, home, LETS_GO);
     play(rt, home, AFTER);
     leaves(rt, home, &[(1, 5)]);
 }
@@ -229,16 +232,21 @@ fn over_once_busy(rt: HostRuntime) {
     play_busy(&rt, &mut open(&rt, rt.alloc(), 4, 2));
 }
 
-/// A transaction is begun by the caller itself, so none is begun as a value, and it goes on.
+/// Caller 1 begins by itself.
+const BEGINS: &[Row] = &[
+    (0, Ask::Begin, Told::Done),
+    (0, Ask::Do(Op::Put(1, 5)), NEW),
+];
+
+/// It goes on, since no transaction was begun as a value.
+const GOES_ON: &[Row] = &[(0, Ask::Commit, Told::Number(1))];
+
+/// A transaction is begun by the caller itself, so none is begun as a value.
 fn play_begun<R: Abort>(rt: &R, home: &mut Home) {
     let already_open = Err(Stop::Refused(Refusal::AlreadyOpen));
-    let begins = [
-        (0, Ask::Begin, Told::Done),
-        (0, Ask::Do(Op::Put(1, 5)), NEW),
-    ];
-    play(rt, home, begins.as_slice());
+    play(rt, home, BEGINS);
     play_first(rt, home, &[], End::IsDropped, already_open);
-    play(rt, home, &[(0, Ask::Commit, Told::Number(1))]);
+    play(rt, home, GOES_ON);
     leaves(rt, home, &[(1, 5)]);
 }
 
@@ -255,17 +263,18 @@ fn goes_too_far(caller: &mut Caller) -> Result<u64, Stop> {
     t.commit()
 }
 
-/// An early return of each caller.
+/// Each caller returns early.
 fn go_too_far<R: Abort>(rt: &R, home: &mut Home) {
-    for caller in home.callers.iter_mut() {
-        let went = goes_too_far(caller);
-        assert!(rt; went == Err(Stop::Refused(Refusal::NoSuchLevel)));
+    for (place, caller) in home.callers.iter_mut().enumerate() {
+        let too_far = Err(Stop::Refused(Refusal::NoSuchLevel));
+        must(rt, place, goes_too_far(caller) == too_far);
     }
 }
 
 /// An early return takes the put back.
 fn play_returned<R: Abort>(rt: &R, home: &mut Home) {
-    play(rt, home, BEFORE.as_slice());
+    play(rt, home, HOLDS);
+    play(rt, home, LETS_GO);
     go_too_far(rt, home);
     play(rt, home, AFTER);
     leaves(rt, home, &[(1, 5)]);
@@ -277,24 +286,28 @@ fn returned_early(rt: HostRuntime) {
 }
 
 /// The calls that a caller has besides those of `Ask`: whether the map is empty, whether key 1 is
-/// there, and two swaps.
-fn looks(caller: &mut Caller) -> Result<(bool, bool, bool, bool), Stop> {
+/// there, and two swaps, of which the second is never made.
+fn looks(caller: &mut Caller) -> Result<[bool; 4], Stop> {
     caller.begin()?;
     let is_empty = caller.is_empty()?;
     let is_there = caller.contains_key(1)?;
     let is_swapped = caller.swap(1, None, 6)?.0;
     let is_swapped_again = caller.swap(1, None, 7)?.0;
     caller.commit()?;
-    Ok((is_empty, is_there, is_swapped, is_swapped_again))
+    Ok([is_empty, is_there, is_swapped, is_swapped_again])
 }
 
-/// The first caller makes these calls in two transactions.
-fn play_looks<R: Abort>(rt: &R, home: &mut Home) {
+/// The first caller makes these calls.
+fn look<R: Abort>(rt: &R, home: &mut Home, wanted: [bool; 4]) {
     assert!(rt; 0 < home.callers.len());
     let looked = looks(&mut home.callers[0]);
-    assert!(rt; looked == Ok((true, false, true, false)));
-    let looked = looks(&mut home.callers[0]);
-    assert!(rt; looked == Ok((false, true, false, false)));
+    assert!(rt; looked == Ok(wanted));
+}
+
+/// It makes them in two transactions.
+fn play_looks<R: Abort>(rt: &R, home: &mut Home) {
+    look(rt, home, [true, false, true, false]);
+    look(rt, home, [false, true, false, false]);
     leaves(rt, home, &[(1, 6)]);
 }
 
