@@ -75,9 +75,7 @@ pub(crate) struct Home {
 
 /// A new map.
 pub(crate) fn open<R: Abort>(rt: &R, alloc: Global, stripes: usize, callers: usize) -> Home {
-    let Ok((host, callers)) = open_map(alloc, stripes, callers) else {
-        panic!(rt; "no map");
-    };
+    let (host, callers) = open_map(alloc, stripes, callers).expect(rt, "a map");
     Home { host, callers }
 }
 
@@ -107,8 +105,7 @@ pub(crate) fn reads(host: &mut Host, left: &[(u64, u64)]) -> Result<bool, Stop> 
 
 /// What is committed is just these pairs, in this order, and nobody holds a stripe.
 pub(crate) fn has_left<R: Abort>(rt: &R, host: &mut Host, left: &[(u64, u64)]) {
-    let is_left = reads(host, left);
-    assert!(rt; is_left == Ok(true));
+    assert!(rt; matches!(reads(host, left), Ok(true)));
 }
 
 /// All callers are dropped, and these pairs are left.

@@ -209,9 +209,9 @@ fn raise_stamps(commits: &mut Vec<(u64, u64)>) {
     }
 }
 
-/// Entries with their places in the history: a stamp, then an order among those of one stamp, then
-/// the line.
-type Lines = Vec<((u64, u64, usize), Entry)>;
+/// An entry with its place in the history: a stamp, then an order among those of one stamp, then the
+/// line.
+type Line = ((u64, u64, usize), Entry);
 
 /// Makes entries of the calls of one caller after the other.
 #[derive(Drop)]
@@ -219,7 +219,7 @@ struct Merge {
     /// The places of the commits, with their stamps.
     commits: Vec<(u64, u64)>,
     firsts: Vec<u64>,
-    lines: Lines,
+    lines: Vec<Line>,
     caller: u64,
     standing: u64,
     levels: Vec<u64>,
@@ -357,6 +357,15 @@ impl Merge {
         note_commits(&mut self.commits, one)
     }
 
+    /// Does that for all callers, and raises the stamps of their commits.
+    fn note_all(&mut self, all: &[Recorder]) -> Result<(), AllocError> {
+        for one in all {
+            self.note(one)?;
+        }
+        raise_stamps(&mut self.commits);
+        Ok(())
+    }
+
     /// Puts the entries of a caller.
     fn put_all(&mut self, one: &Recorder) -> Result<(), AllocError> {
         self.caller = one.number;
@@ -368,10 +377,7 @@ impl Merge {
 
     /// Merges the entries of all callers, in the order of their places.
     fn merge(&mut self, all: &[Recorder]) -> Result<(), AllocError> {
-        for one in all {
-            self.note(one)?;
-        }
-        raise_stamps(&mut self.commits);
+        self.note_all(all)?;
         for one in all {
             self.put_all(one)?;
         }
@@ -381,10 +387,7 @@ impl Merge {
 }
 
 /// Feeds entries of callers below 64; whether all are. Transactions are numbered here.
-fn feed_all(
-    checker: &mut Checker,
-    lines: &[((u64, u64, usize), Entry)],
-) -> Result<bool, AllocError> {
+fn feed_all(checker: &mut Checker, lines: &[Line]) -> Result<bool, AllocError> {
     let mut begun = 0u64;
     for line in lines {
         let mut entry = line.1;
@@ -402,10 +405,7 @@ fn feed_all(
 
 /// How many transactions a history commits, if it is legal, of callers below 64, and nobody is in a
 /// transaction at its end.
-fn commits_fed(
-    checker: &mut Checker,
-    lines: &[((u64, u64, usize), Entry)],
-) -> Result<Option<u64>, AllocError> {
+fn commits_fed(checker: &mut Checker, lines: &[Line]) -> Result<Option<u64>, AllocError> {
     if !feed_all(checker, lines)? {
         return Ok(None);
     }
@@ -418,19 +418,24 @@ fn commits_fed(
     }
 }
 
+/// How many transactions a history commits, by a checker of its own.
+fn commits_in(alloc: Global, stripes: u64, lines: &[Line]) -> Result<Option<u64>, AllocError> {
+    if stripes == 0 {
+        return Ok(None);
+    }
+    let mut checker = Checker::new(alloc, stripes, Holder::Begun)?;
+    commits_fed(&mut checker, lines)
+}
+
 /// How many transactions the history of these callers commits, if it is legal.
-fn commits_in(
+fn commits_by(
     alloc: Global,
     stripes: u64,
     merge: &mut Merge,
     all: &[Recorder],
 ) -> Result<Option<u64>, AllocError> {
-    if stripes == 0 {
-        return Ok(None);
-    }
     merge.merge(all)?;
-    let mut checker = Checker::new(alloc, stripes, Holder::Begun)?;
-    commits_fed(&mut checker, merge.lines.as_slice())
+    commits_in(alloc, stripes, merge.lines.as_slice())
 }
 
 /// The callers run. Answers how many transactions their history commits, if it is legal.
@@ -441,9 +446,8 @@ fn run_and_judge<R: Threads + Wait + Abort + Sync>(
     all: &mut [Recorder],
     plan: Plan,
 ) -> Option<u64> {
-    let clock = AtomicU64::new(1);
-    run_all(rt, all, &clock, plan);
-    let commits = commits_in(alloc, stripes as u64, &mut Merge::new(alloc), all);
+    run_all(rt, all, &AtomicU64::new(1), plan);
+    let commits = commits_by(alloc, stripes as u64, &mut Merge::new(alloc), all);
     commits.expect(rt, "memory")
 }
 

@@ -74,9 +74,7 @@ fn room_for_keys(rt: HostRuntime) {
 
 /// A map of one caller that has room for a thousand keys.
 fn open_roomy<R: Abort>(rt: &R, alloc: Global, stripes: usize) -> Home {
-    let Ok((host, callers)) = open_map_with_capacity(alloc, stripes, 1, 1_000) else {
-        panic!(rt; "no map");
-    };
+    let (host, callers) = open_map_with_capacity(alloc, stripes, 1, 1_000).expect(rt, "a map");
     Home { host, callers }
 }
 

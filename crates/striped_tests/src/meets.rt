@@ -14,21 +14,15 @@ use striped_map::{Caller, Stop, open_map};
 pub(crate) fn three<R: Abort>(rt: &R, alloc: Global) -> (Home, Caller, Caller)
     ensures same_map { result.1.map.value ≡ result.2.map.value }
 {
-    let Ok((host, mut callers)) = open_map(alloc, 4, 3) else {
-        panic!(rt; "no map");
-    };
-    let Some(third) = callers.pop() else {
-        panic!(rt; "a caller");
-    };
-    let Some(second) = callers.pop() else {
-        panic!(rt; "a caller");
-    };
+    let (host, mut callers) = open_map(alloc, 4, 3).expect(rt, "a map");
+    let third = callers.pop().expect(rt, "a caller");
+    let second = callers.pop().expect(rt, "a caller");
     (Home { host, callers }, second, third)
 }
 
 /// Two transfers must be made.
 fn both_moved<R: Abort>(rt: &R, told: Result<(bool, bool), Stop>) {
-    assert!(rt; told == Ok((true, true)));
+    assert!(rt; matches!(told, Ok((true, true))));
 }
 
 /// One caller moves 10 from account 1 to account 2; the other catches up, and moves 4 back.

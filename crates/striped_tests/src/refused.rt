@@ -68,23 +68,46 @@ const CALLS: &[Row] = &[
     (0, Ask::Commit, Told::Number(1)),
 ];
 
-/// Puts twenty keys, within which the part doubles three times, and takes half of them.
-fn grow<R: Abort>(rt: &R, home: &mut Home) -> Result<(), Refusal> {
-    play_again(rt, home, &[(0, Ask::Begin, Told::Done)])?;
-    for key in 10..30u64 {
-        play_again(rt, home, &[(0, Ask::Do(Op::Put(key, key)), NEW)])?;
-    }
-    for key in 20..30u64 {
-        let told = Told::Replied(Some(key));
-        play_again(rt, home, &[(0, Ask::Do(Op::Take(key)), told)])?;
-    }
-    play_again(rt, home, &[(0, Ask::Len, Told::Number(11))])
-}
+/// Puts twenty keys, within which the part grows, and takes half of them.
+const GROWS: &[Row] = &[
+    (0, Ask::Begin, Told::Done),
+    (0, Ask::Do(Op::Put(10, 10)), NEW),
+    (0, Ask::Do(Op::Put(11, 11)), NEW),
+    (0, Ask::Do(Op::Put(12, 12)), NEW),
+    (0, Ask::Do(Op::Put(13, 13)), NEW),
+    (0, Ask::Do(Op::Put(14, 14)), NEW),
+    (0, Ask::Do(Op::Put(15, 15)), NEW),
+    (0, Ask::Do(Op::Put(16, 16)), NEW),
+    (0, Ask::Do(Op::Put(17, 17)), NEW),
+    (0, Ask::Do(Op::Put(18, 18)), NEW),
+    (0, Ask::Do(Op::Put(19, 19)), NEW),
+    (0, Ask::Do(Op::Put(20, 20)), NEW),
+    (0, Ask::Do(Op::Put(21, 21)), NEW),
+    (0, Ask::Do(Op::Put(22, 22)), NEW),
+    (0, Ask::Do(Op::Put(23, 23)), NEW),
+    (0, Ask::Do(Op::Put(24, 24)), NEW),
+    (0, Ask::Do(Op::Put(25, 25)), NEW),
+    (0, Ask::Do(Op::Put(26, 26)), NEW),
+    (0, Ask::Do(Op::Put(27, 27)), NEW),
+    (0, Ask::Do(Op::Put(28, 28)), NEW),
+    (0, Ask::Do(Op::Put(29, 29)), NEW),
+    (0, Ask::Do(Op::Take(20)), Told::Replied(Some(20))),
+    (0, Ask::Do(Op::Take(21)), Told::Replied(Some(21))),
+    (0, Ask::Do(Op::Take(22)), Told::Replied(Some(22))),
+    (0, Ask::Do(Op::Take(23)), Told::Replied(Some(23))),
+    (0, Ask::Do(Op::Take(24)), Told::Replied(Some(24))),
+    (0, Ask::Do(Op::Take(25)), Told::Replied(Some(25))),
+    (0, Ask::Do(Op::Take(26)), Told::Replied(Some(26))),
+    (0, Ask::Do(Op::Take(27)), Told::Replied(Some(27))),
+    (0, Ask::Do(Op::Take(28)), Told::Replied(Some(28))),
+    (0, Ask::Do(Op::Take(29)), Told::Replied(Some(29))),
+    (0, Ask::Len, Told::Number(11)),
+];
 
 /// Makes these calls. The second transaction is taken back by the caller's drop.
 fn call_and_grow<R: Abort>(rt: &R, home: &mut Home) -> Result<(), Refusal> {
     play_again(rt, home, CALLS)?;
-    grow(rt, home)?;
+    play_again(rt, home, GROWS)?;
     home.callers.clear();
     has_left_again(rt, &mut home.host, &[(1, 10)])
 }

@@ -6,7 +6,7 @@ use crate::meets::three;
 use sided_caller::SidedCaller;
 use std::alloc::Global;
 use std::process::Abort;
-use striped_map::{Caller, Host, Stop, open_map};
+use striped_map::{Caller, Host, Stop};
 use txn_words::{Op, Refusal};
 use undo_log::{Side, SideJob};
 
@@ -134,13 +134,20 @@ pub(crate) struct SidedHome {
     pub(crate) callers: Vec<Sided>,
 }
 
+/// Asks a caller; whether it answers as wanted, and has that side value then.
+fn is_so(caller: &mut Sided, what: Call, wanted: Told, count: u64) -> bool {
+    answer(caller, what) == wanted && has_count(caller, count)
+}
+
 /// Asks the callers as the table says. Each must answer as it says, and have that side value then.
 pub(crate) fn play<R: Abort>(rt: &R, home: &mut SidedHome, rows: &[Row]) {
     for (row, &(place, what, wanted, count)) in rows.iter().enumerate() {
         assert!(rt; place < home.callers.len());
-        let told = answer(&mut home.callers[place], what);
-        let has_count = has_count(&home.callers[place], count);
-        must(rt, row, told == wanted && has_count);
+        must(
+            rt,
+            row,
+            is_so(&mut home.callers[place], what, wanted, count),
+        );
     }
 }
 
@@ -154,10 +161,8 @@ pub(crate) fn leaves<R: Abort>(rt: &R, home: &mut SidedHome, left: &[(u64, u64)]
 fn with_side<R: Abort>(rt: &R, alloc: Global, caller: Caller) -> Sided
     ensures caller { result.caller ≡ caller }
 {
-    let Ok(made) = SidedCaller::new(alloc, caller, a_register(of_count(0))) else {
-        panic!(rt; "it is in a transaction");
-    };
-    made
+    let made = SidedCaller::new(alloc, caller, a_register(of_count(0)));
+    made.ok().expect(rt, "a caller that is in no transaction")
 }
 
 /// The callers, each with the side value 0.
@@ -182,9 +187,7 @@ pub(crate) fn open_sided<R: Abort>(
     stripes: usize,
     callers: usize,
 ) -> SidedHome {
-    let Ok((host, callers)) = open_map(alloc, stripes, callers) else {
-        panic!(rt; "no map");
-    };
+    let Home { host, callers } = open(rt, alloc, stripes, callers);
     let callers = with_sides(rt, alloc, callers);
     SidedHome { host, callers }
 }
@@ -412,9 +415,8 @@ fn dropped_at_every_point(rt: HostRuntime) {
 
 /// What `new` hands back of a caller in a transaction, with the side value.
 fn handed_back<R: Abort>(rt: &R, alloc: Global, caller: Caller) -> Caller {
-    let Err((caller, value)) = SidedCaller::new(alloc, caller, a_register(of_count(7))) else {
-        panic!(rt; "it was taken");
-    };
+    let made = SidedCaller::new(alloc, caller, a_register(of_count(7)));
+    let (caller, value) = made.err().expect(rt, "a caller that is handed back");
     assert!(rt; value.words() == of_count(7));
     caller
 }
@@ -435,10 +437,7 @@ fn without_side<R: Abort>(rt: &R, alloc: Global, caller: Caller) -> Caller {
 
 /// The last caller of a map.
 fn take_out<R: Abort>(rt: &R, home: &mut Home) -> Caller {
-    let Some(caller) = home.callers.pop() else {
-        panic!(rt; "a caller");
-    };
-    caller
+    home.callers.pop().expect(rt, "a caller")
 }
 
 /// Puts a caller back.
