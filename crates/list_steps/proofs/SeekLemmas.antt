@@ -5,30 +5,36 @@ use Rattle.std.proofs.lemmas.Bool.Decides.{eqb_tells}
 use Rattle.std.specs.List.{AllByRecursion}
 use Rattle.split_key.specs.declared.sort.SortKey.{SortKey}
 use Rattle.split_key.proofs.SortLemmas.{cases_before}
-use Rattle.node_list.specs.Nodes.{NodeAt, Listing, IsLinked, node_of, next_of, first, without_first, unlinked_after, one_more, changes_after}
+use Rattle.node_list.specs.Nodes.{NodeAt, Listing, node_of, next_of, place_of, first, without_first, unlinked_after, one_more, changes_after}
 use Rattle.node_list.specs.Order.{AbsentFrom, IsSpread}
 use Rattle.node_list.specs.Follow.{Follows}
 use Rattle.node_list.specs.declared.node.Kind.TheVariants.{Dummy}
-use Rattle.node_list.specs.Sound.{AllPlain}
+use Rattle.node_list.specs.Sound.{AllPlain, IsSound}
 use Rattle.node_list.proofs.OrderLemmas.{each_found}
 use Rattle.list_steps.specs.Seek.{cleaned, sought, IsBelow, IsNotBelow, IsPred, IsStart, KeepsRest}
-use Rattle.list_steps.proofs.NodeLemmas.{IsAt, found_at, node_at, next_at, at_unlinked, at_next, first_is, first_none, same_test, apart_test}
+use Rattle.list_steps.proofs.NodeLemmas.{IsAt, found_at, node_at, next_at, at_unlinked, at_next, first_is, first_none, next_node, same_test, apart_test}
 
 -- The nodes behind a place.
 unfoldable pub nodes_behind : List NodeAt → ℕ → List NodeAt
 nodes_behind [] place = []
 nodes_behind (n ∷ rest) place = if n.place == place then rest else nodes_behind rest place
 
--- The seek is at a node before the position sought, and the rest of it has the same result as the
--- whole.
-pub record IsSeeking (old now : Listing) (from place : ℕ) (sort : SortKey) : Type 0 where
-  pub linked : IsLinked now.nodes place
-  pub pred : AllPlain now.nodes → IsPred now.nodes place sort
+-- The seek is at a node before the position sought, it has the place of the node behind that, and
+-- the rest of it has the same result as the whole.
+pub record IsSeeking (old now : Listing) (from place : ℕ) (after : Option ℕ) (sort : SortKey) : Type 0 where
+  pub sound : IsSound now
+  pub pred : IsPred now.nodes place sort
+  pub next : place_of (next_of now.nodes place) ≡ after
   pub rest : sought now.nodes place sort ≡ sought old.nodes from sort
   pub kept : KeepsRest old now
   pub fewer : length now.nodes ≤ length old.nodes
   pub changes : now.changes ≡ changes_after old.changes (length old.nodes - length now.nodes)
   pub follows : Follows old now
+
+-- The node at the next place of a seek is the next one.
+pub seeking_next : {old now : Listing} {from place : ℕ} {after : Option ℕ} {sort : SortKey} → IsSeeking old now from place after sort → (there : ℕ) → after ≡ Some there → (m : NodeAt) → node_of now.nodes there ≡ Some m → next_of now.nodes place ≡ Some m
+seeking_next {now = now} {place = place} seeking there is m found =
+    next_node now.nodes place there seeking.sound.spread (seeking.next ∙ is) m found
 
 -- A seek begins at an unmarked node.
 pub pred_from_start : (nodes : List NodeAt) (place : ℕ) (sort : SortKey) → IsStart nodes place sort → AllPlain nodes → IsPred nodes place sort

@@ -2,7 +2,7 @@
 //! still fits. A stamp is never used again, so a new node at an old place is not mistaken for the
 //! old node.
 ghost use Rattle.std.specs.Prelude.{◌≡◌, Some, true, ◌==◌, ◌&&◌, not};
-ghost use Rattle.node_list.specs.Nodes.{IsLinked, next_of, node_of};
+ghost use Rattle.node_list.specs.Nodes.{IsLinked, next_of, node_of, place_of};
 ghost use Rattle.node_list.specs.Sound.{IsSound};
 ghost use Rattle.list_steps.specs.Text.{again_text};
 
@@ -51,21 +51,13 @@ impl Noted {
     /// The node that is linked at a place.
     fn of(list: &NodeList, place: NodeRef) -> Noted
         requires { IsLinked list.now.nodes place }
-        ensures { noted (node_of list.now.nodes place) ≡ Some result }
+        ensures noted { noted (node_of list.now.nodes place) ≡ Some result }
+        ensures sound { IsSound list.now }
     {
         Noted {
             place,
             stamp: list.node(place).stamp,
         }
-    }
-
-    /// The node behind a linked node, if there is one.
-    fn behind(list: &NodeList, place: NodeRef) -> Option<Noted>
-        requires { IsLinked list.now.nodes place }
-        ensures { result ≡ noted (next_of list.now.nodes place) }
-    {
-        let next = list.node(place).next()?;
-        Some(Noted::of(list, next))
     }
 }
 
@@ -80,9 +72,16 @@ impl Cursor {
     ghost use Rattle.list_steps.specs.Seek.{IsPred};
     ghost use Rattle.list_steps.specs.Found.{IsBeyond, IsFound, IsPlaced, behind, fits, is_next_noted, pred_of, at_of};
 
-    /// The cursor of a sort key whose position is right behind this node.
-    pub(crate) fn behind(list: &NodeList, place: NodeRef, at: SortKey) -> Cursor
+    /// The cursor of a sort key whose position is between this node and the next one, if there is
+    /// one.
+    pub(crate) fn between(
+        list: &NodeList,
+        place: NodeRef,
+        next: Option<NodeRef>,
+        at: SortKey,
+    ) -> Cursor
         requires pred { IsPred list.now.nodes place at }
+        requires next { place_of (next_of list.now.nodes place) ≡ next }
         requires beyond { IsBeyond (next_of list.now.nodes place) at }
         ensures found { IsFound list.now result }
         ensures placed { IsPlaced list.now result }
@@ -91,7 +90,10 @@ impl Cursor {
     {
         Cursor {
             pred: Noted::of(list, place),
-            cur: Noted::behind(list, place),
+            cur: match next {
+                Some(next) => Some(Noted::of(list, next)),
+                None => None,
+            },
             at,
             changes: list.changes(),
         }

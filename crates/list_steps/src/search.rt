@@ -36,15 +36,18 @@ pub fn seek(list: &mut NodeList, from: NodeRef, at: SortKey) -> Cursor
     ensures follows { Follows list.old list.new }
 {
     let mut place = from;
-    'search: while let Some(next) = list.node(place).next() {
-        let node = list.node(next);
+    let mut next = list.node(from).next();
+    'search: while let Some(there) = next {
+        let node = list.node(there);
         if node.marked {
             list.unlink_after(place);
+            next = list.node(place).next();
         } else if node.at.is_before(at) {
-            place = next;
+            place = there;
+            next = node.next();
         } else {
-            return Cursor::behind(list, place, at);
+            return Cursor::between(list, place, next, at);
         }
     }
-    Cursor::behind(list, place, at)
+    Cursor::between(list, place, next, at)
 }
