@@ -28,6 +28,7 @@ fn leading_put_if_in<'v, 'a>(key: u64, values: &'v [Plain<'a>]) -> Option<(Op, &
 /// # Cost
 ///
 /// Constant time; takes no memory.
+#[inline(always)]
 #[tactic(auto, unfolding(crate::specs::Operations::op_at))]
 pub fn leading_op_in<'v, 'a>(values: &'v [Plain<'a>]) -> Option<(Op, &'v [Plain<'a>])>
     ensures { option_map (λ x. (x.0, map data_of x.1.now)) result ≡ op_at (map data_of values.now) }
@@ -53,6 +54,7 @@ pub fn leading_op_in<'v, 'a>(values: &'v [Plain<'a>]) -> Option<(Op, &'v [Plain<
 /// # Cost
 ///
 /// Constant time; takes no memory.
+#[inline(always)]
 #[tactic(auto, unfolding(crate::specs::Operations::op_of))]
 pub fn op_in(values: &[Plain<'_>]) -> Option<Op>
     ensures { result ≡ op_of (map data_of values.now) }
@@ -73,6 +75,7 @@ pub fn is_old_op(op: Op) -> bool
 }
 
 /// Puts the elements of an operation before a line's text, with a comma between each two.
+#[inline(always)]
 pub(crate) fn put_op(line: &mut Line, op: Op)
     requires { 80 + length line.old ≤ 160 }
     ensures text { line.new ≡ join_with_byte comma (elements_of_op op) ++ line.old }

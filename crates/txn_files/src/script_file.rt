@@ -35,6 +35,7 @@ const MAX_ACTIONS: usize = 10_000;
 /// The number of elements of the longest action: `["put_if",1,10,12]`.
 const MAX_ELEMENTS: usize = 4;
 
+#[inline(always)]
 #[tactic(auto, unfolding(crate::specs::Actions::action_of))]
 fn action_in(values: &[Plain<'_>]) -> Option<Action>
     ensures { result ≡ action_of (map data_of values.now) }
@@ -56,6 +57,7 @@ fn action_in(values: &[Plain<'_>]) -> Option<Action>
 }
 
 /// The action that has these elements, packed.
+#[inline(always)]
 fn packed_action_in(values: &[Plain<'_>]) -> Option<PackedAction>
     ensures { result ≡ action_of (map data_of values.now) }
 {
