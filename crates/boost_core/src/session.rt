@@ -40,6 +40,7 @@ impl Session {
     }
 
     /// Whether a step of this caller lacks the cursor that it acts on.
+    #[inline(always)]
     pub(crate) fn lacks_cursor(&self, step: Step) -> bool
         ensures { result ≡ lacks_in self.now.seat.seat (is_some self.now.cursor) step }
     {

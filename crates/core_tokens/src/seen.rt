@@ -152,6 +152,7 @@ impl<L: Ledger> Seen<L> {
 }
 
 /// A small entry, packed.
+#[inline(always)]
 fn packed(entry: Entry) -> SmallEntry
     requires { is_small entry ≡ true }
     ensures { result ≡ entry }

@@ -38,28 +38,11 @@ pub(crate) fn take_turn<L: Ledger>(
             Step::Ask(caller, op) => take_one(seen, claims, booked, drive, Step::Ask(caller, op)),
             Step::Seek(caller) => take_one(seen, claims, booked, drive, Step::Seek(caller)),
             Step::Act(caller) => take_one(seen, claims, booked, drive, Step::Act(caller)),
-            _ => take_other(seen, claims, booked, drive, step),
+            _ => take_one(seen, claims, booked, drive, step),
         },
         Turn::Two(first, second) => take_two(seen, claims, booked, drive, first, second),
         Turn::Ended(_) => true,
     }
-}
-
-/// Takes a turn of one step; compiled once.
-#[inline(never)]
-fn take_other<L: Ledger>(
-    seen: &mut Seen<L>,
-    claims: &Claims,
-    booked: &mut Booked<L>,
-    drive: &mut Drive,
-    step: Step,
-) -> bool
-    requires turn { Turn.One step ≡ turn_of drive.old }
-    requires may { MayTake claims.now booked.old.core seen.old.entries drive.old }
-    ensures { TurnTaken claims.now.tried booked.old.core seen.old.entries drive.old
-        (Turn.One step) result booked.new.core seen.new.entries drive.new }
-{
-    take_one(seen, claims, booked, drive, step)
 }
 
 /// Takes a turn of one step; compiled for each kind of step that it is called with.

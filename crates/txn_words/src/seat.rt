@@ -110,6 +110,7 @@ impl Seat {
     }
 
     /// Whether there is something to seek: an operation that waits, or a change to take back.
+    #[inline(always)]
     pub fn has_target(&self) -> bool
         ensures { result ≡ has_target self.now.seat }
     {

@@ -78,6 +78,7 @@ pub enum Step {
 impl Step {
     /// The number of entries for which a core reserves room in its history before it takes the
     /// step.
+    #[inline(always)]
     pub fn entry_room(self) -> u64
         ensures { result ≡ reserved self }
     {
