@@ -135,18 +135,11 @@ fn is_own(trace: &[SmallEntry], caller: u64, seen: &[SmallEntry]) -> bool
             let Some((first, more)) = rest.split_first() else {
                 return false;
             };
-            if !is_same(first, entry) {
+            if !first.is_same(entry) {
                 return false;
             }
             rest = more;
         }
     }
     rest.is_empty()
-}
-
-/// Whether two entries are the same.
-fn is_same(one: &SmallEntry, other: &SmallEntry) -> bool
-    ensures { IsTrue result ↔ (one.now ≡ other.now) }
-{
-    one.entry() == other.entry()
 }

@@ -9,7 +9,7 @@ use std::marker::Model;
 use std::mem::size_of;
 
 /// The kind of an operation, and whether a put may expect a value.
-#[derive(Clone, Copy, Debug)]
+#[derive(Clone, Copy, Debug, PartialEq, Eq)]
 pub(crate) enum OpKind {
     Put,
     Take,
@@ -19,7 +19,7 @@ pub(crate) enum OpKind {
 }
 
 /// The kind of an entry, and whether a reply or a level is there.
-#[derive(Clone, Copy, Debug)]
+#[derive(Clone, Copy, Debug, PartialEq, Eq)]
 pub(crate) enum Kind {
     Began,
     Asked,

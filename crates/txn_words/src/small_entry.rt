@@ -1,6 +1,6 @@
 //! An entry of a history in 32 bytes, half of an `Entry`, if its callers are below 65,536. Its model
 //! is the entry, so a contract reads a list of small entries as a history.
-ghost use Rattle.std.specs.Prelude.{◌≡◌};
+ghost use Rattle.std.specs.Prelude.{◌≡◌, ◌↔◌, true, IsTrue};
 ghost use Rattle.txn_words.specs.Kinds.{caller_of};
 ghost use Rattle.txn_words.specs.Packed.{holder_part, packed_entry, small_entry};
 
@@ -81,6 +81,38 @@ impl SmallEntry {
         ensures { result ≡ caller_of self.now }
     {
         u64::from(self.caller)
+    }
+
+    /// Whether another small entry is the same entry.
+    #[inline(always)]
+    pub fn is_same(&self, other: &SmallEntry) -> bool
+        ensures { IsTrue result ↔ (self.now ≡ other.now) }
+    {
+        self.has_fields_of(other) || self.is_same_unpacked(other)
+    }
+
+    /// Whether another small entry has the same in each field, so that it is the same entry. A field
+    /// that the kind does not use can differ between two that are the same.
+    #[inline(always)]
+    fn has_fields_of(&self, other: &SmallEntry) -> bool
+        ensures { result ≡ true → self.now ≡ other.now }
+    {
+        self.kind == other.kind
+            && self.op == other.op
+            && self.caller == other.caller
+            && self.holder == other.holder
+            && self.number == other.number
+            && self.value == other.value
+            && self.expected == other.expected
+    }
+
+    /// Whether another small entry is the same entry, whatever the fields have that are not used.
+    #[cold]
+    #[inline(never)]
+    fn is_same_unpacked(&self, other: &SmallEntry) -> bool
+        ensures { IsTrue result ↔ (self.now ≡ other.now) }
+    {
+        self.entry() == other.entry()
     }
 }
 
