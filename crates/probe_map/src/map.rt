@@ -11,8 +11,9 @@ use crate::slot::Slot;
 use std::alloc::{AllocError, Global};
 use std::marker::Model;
 
-/// A map of fewer keys than this grows by four, which moves a third as many keys as growth by two. A
-/// larger one grows by two, since an array of four times the size would leave too much memory unused.
+/// A map of fewer keys than this grows by four, which moves a third as many keys as growth by two.
+/// A larger one grows by two, since an array of four times the size would leave too much memory
+/// unused.
 const FEW: usize = 1024;
 
 /// A map from whole numbers to whole numbers.

@@ -209,8 +209,8 @@ fn raise_stamps(commits: &mut Vec<(u64, u64)>) {
     }
 }
 
-/// An entry with its place in the history: a stamp, then an order among those of one stamp, then the
-/// line.
+/// An entry with its place in the history: a stamp, then an order among those of one stamp, then
+/// the line.
 type Line = ((u64, u64, usize), Entry);
 
 /// Makes entries of the calls of one caller after the other.
@@ -465,7 +465,8 @@ fn commits_of<R: Threads + Wait + Abort + Sync>(
     run_and_judge(rt, alloc, stripes, all.as_mut_slice(), plan)
 }
 
-/// A quarter of a thousand runs of 2 to 16 callers, by the seed, on 8 stripes: each history is legal.
+/// A quarter of a thousand runs of 2 to 16 callers, by the seed, on 8 stripes: each history is
+/// legal.
 fn run_quarter<R: Threads + Wait + Abort + Sync>(rt: &R, alloc: Global, quarter: u64) {
     for run in 0..250u64 {
         let seed = quarter.wrapping_mul(250).wrapping_add(run);

@@ -91,8 +91,8 @@ impl SmallEntry {
         self.has_fields_of(other) || self.is_same_unpacked(other)
     }
 
-    /// Whether another small entry has the same in each field, so that it is the same entry. A field
-    /// that the kind does not use can differ between two that are the same.
+    /// Whether another small entry has the same in each field, so that it is the same entry. A
+    /// field that the kind does not use can differ between two that are the same.
     #[inline(always)]
     fn has_fields_of(&self, other: &SmallEntry) -> bool
         ensures { result ≡ true → self.now ≡ other.now }
