@@ -28,18 +28,19 @@ costs() {
 
 TIMEFORMAT='%U %S'
 rustc -O -o "$work/core_steps" docs/speed/core_steps.rs 2>/dev/null
-printf '%-7s %8s %9s %9s %9s %6s %7s %7s %6s' command pieces bytes proved plain ratio MB plain ratio
+printf '%-8s %8s %9s %9s %9s %6s %7s %7s %6s' command pieces bytes proved plain ratio MB plain ratio
 [ -z "${BEFORE:-}" ] || printf ' %9s %6s %7s %6s' before ratio before ratio
 echo
 for size in ${SIZES:-1000 10000 100000 0}; do
   write_whole_files "$size"
-  for command in replay check mix run; do
-    file=$work/$command.json
-    words=("$command")
-    [ $command = mix ] && words+=(--seed 7)
+  for command in replay check mix run run_kept; do
+    file=$work/${command%_kept}.json
     rm -f "$work"/*.costs
     for _ in $(seq "$rounds"); do
       for program in "${programs[@]}"; do
+        words=("${command%_kept}")
+        [ "$program" != plain ] || words=("$command")
+        [ $command != mix ] || words+=(--seed 7)
         costs "$program" $((1 + 20000 / (size + 1000) + (size == 0 ? -20 : 0))) "${words[@]}" "$file" >>"$work/$program.costs"
       done
     done
@@ -49,7 +50,7 @@ for size in ${SIZES:-1000 10000 100000 0}; do
       echo "$(sort -n "$work/$program.costs" | sed -n "${middle}p") "
     done | tr -d '\n' | awk -v command=$command -v bytes="$(wc -c <"$file")" \
       -v pieces="$(($(tr -cd '[' <"$file" | wc -c) - 1))" '{
-        printf "%-7s %8d %9d %9.2f %9.2f %6.2f %7.1f %7.1f %6.2f", command, pieces, bytes, $1, $3, $1 / $3, $2 / 1024, $4 / 1024,
+        printf "%-8s %8d %9d %9.2f %9.2f %6.2f %7.1f %7.1f %6.2f", command, pieces, bytes, $1, $3, $1 / $3, $2 / 1024, $4 / 1024,
           $2 / $4
         if (NF > 4) printf " %9.2f %6.2f %7.1f %6.2f", $5, $1 / $5, $6 / 1024, $2 / $6
         print "" }'
