@@ -9,12 +9,16 @@
 # and have defined `is_call`, which says whether arguments are a call of the program, and `usage`, which
 # prints its usage.
 #
-# If the program is not built yet, or one of its sources is newer, `rt ci` proves and builds it first,
-# in a folder of the system's with only the crates that it stands on: as many crates at the same time
-# as there are processors, and first those for which the build waits longest. That keeps nothing but
-# the program. If `rt run` has built the program before, as it is told to people who change sources,
-# then `rt run` builds it again, over what it has kept. Standard error shows the progress. If the build
-# fails, the status is 125, which no other call returns. RT names a command to run instead of rt.
+# If the program is not built yet, or one of its sources is newer, its crates are proved and it is built
+# first, with nothing kept but the program. If `rt run` has built the program before, as it is told to
+# people who change sources, then `rt run` builds it again, over what it has kept. Standard error shows
+# the progress. If the build fails, the status is 125, which no other call returns. RT names a command to
+# run instead of rt.
+#
+# A crate is proved as soon as those below it are, by the prover that `rt` calls. The crate for which the
+# most others wait gets all processors. Beside it, other crates that are ready get one process each, at a
+# lower priority: they take what it leaves. `rt ci` would prove the same with the same words, but gives
+# the last crates, each of which waits for the one before, one process.
 # shellcheck shell=bash disable=SC2154
 
 out=$root/crates/$program/out
@@ -57,73 +61,150 @@ needs_build() {
         \( -name '*.rt' -o -name '*.antt' \) -newer "$built" -print -quit)" ]
 }
 
-# Lays out the program's crates in a folder, without their wrong bodies and what was built of them.
-lay_out() {
-    local folder=$1 name part
+# Prints the libraries that a crate names, of the repository and of the kit, on one line.
+libraries_of() {
+    awk -v name="$1" -F ': *' '{ split($1, head, " "); if (head[1] == name) print $2 }' "$root/crates.txt"
+}
+
+# Prints how many lines of source a crate has.
+lines_of() {
+    find "$root/crates/$1" \( -name out -o -name must-fail \) -prune -o \
+        \( -name '*.rt' -o -name '*.antt' \) -exec cat {} + | wc -l
+}
+
+# Prints a line for each of the program's crates: its name and the libraries that it names. First stands
+# the crate with the most lines of source in the longest chain of crates that wait for each other, from
+# itself on.
+schedule() {
+    local name
     for name in $(crates); do
-        mkdir -p -- "$folder/crates/$name" || return 1
-        for part in "$root/crates/$name"/*; do
-            case ${part##*/} in
-                out | must-fail) ;;
-                *) cp -r -- "$part" "$folder/crates/$name" || return 1 ;;
-            esac
-        done
-    done
-    cp -- "$root/HANDLES" "$folder"
-    awk -v names=" $(crates | tr '\n' ' ')" '
-        { name = $1; sub(/:$/, "", name) }
-        index(names, " " name " ")' "$root/crates.txt" >"$folder/crates.txt"
+        echo "$name $(lines_of "$name") $(libraries_of "$name")"
+    done | awk '
+        { names[NR] = $1; lines[$1] = $2; $2 = ""; line[$1] = $0 }
+        END {
+            for (i = NR; i > 0; i--) {
+                chain = lines[names[i]] + behind[names[i]]
+                count = split(line[names[i]], words)
+                for (j = 2; j <= count; j++) if (behind[words[j]] < chain) behind[words[j]] = chain
+                print chain, line[names[i]]
+            }
+        }' | sort -s -k1,1nr | cut -d ' ' -f 2-
 }
 
 # Says how long a build takes.
 say_how_long() {
-    local minutes='a quarter of an hour or more'
-    [ "$(nproc)" -ge 4 ] || minutes='half an hour or more'
-    [ "$(nproc)" -ge 2 ] || minutes='an hour or more'
+    local minutes='ten minutes or more'
+    [ "$(nproc)" -ge 4 ] || minutes='twenty minutes or more'
+    [ "$(nproc)" -ge 2 ] || minutes='forty minutes or more'
     echo "$program: building. This proves $1 crates; with $(nproc) processors it takes $minutes." \
         "For a first look: $look" >&2
 }
 
-# Passes on what `rt ci` writes, and says on standard error how many of the crates are proved.
-show_progress() {
-    local count=$1 number=0 line
-    while IFS= read -r line; do
-        printf '%s\n' "$line"
-        [[ $line =~ ^rt:\ ([a-z0-9_]+)\ proved$ ]] || continue
-        number=$((number + 1))
-        printf '%s: proved %s, %d of %d, %d:%02d\n' "$program" "${BASH_REMATCH[1]}" "$number" \
-            "$count" $((SECONDS / 60)) $((SECONDS % 60)) >&2
+# Proves a crate over the libraries that it names, by this many processes that are this much nicer than
+# the caller's, and builds it in $work. It takes over the process that calls it.
+prove() {
+    local name=$1 jobs=$2 niceness=$3 library kit
+    local -a words
+    shift 3
+    kit=$(dirname -- "$("${RT:-rt}" doc)") || return 1
+    words=(--crate-name "$name" --links "$name=" --jobs "$jobs" --extern "std=$kit/rlibs/std.rlib"
+        -L "dependency=$work" -L "dependency=$kit/rlibs" --logic-built "$kit/logic_built"
+        --antt-project "$kit/rattle/logic/antt-project.json")
+    for library; do
+        if [ -d "$root/crates/$library" ]; then
+            words+=(--extern "$library=$work/$library.rlib")
+        else
+            words+=(--extern "$library=$kit/rlibs/$library.rlib")
+        fi
+    done
+    cd -- "$root/crates/$name" || return 1
+    if [ "$name" != "$program" ]; then
+        exec nice -n "$niceness" "$kit/bin/rattle" build src/lib.rt "${words[@]}" --statements -o "$work/$name.rlib"
+    fi
+    "$kit/bin/rattle" build src/main.rt "${words[@]}" --toolchain "$kit/toolchain" --backend llvm \
+        -o "$work/$name.o" &&
+        "$kit/bin/rattle-link" --target x86_64-unknown-linux-gnu --toolchain "$kit/toolchain" \
+            -o "$work/$name" "$work/$name.o" "$kit/c/libos_c.a" "$kit/c/liblibc_c.a"
+}
+
+# Whether all libraries of the repository that a crate names are proved.
+is_ready() {
+    local library
+    for library in ${needs[$1]}; do
+        [ -n "${proved[$library]+set}" ] || [ ! -d "$root/crates/$library" ] || return 1
     done
 }
 
-# Proves and builds the program from nothing, in a folder.
+# Begins the crates that are ready, as many as may run.
+begin_ready() {
+    local name first=yes
+    local -a how
+    for name in $order; do
+        [ -z "${proved[$name]+set}" ] || continue
+        if [ -z "${begun[$name]+set}" ] && [ ${#running[@]} -lt "$most" ] && is_ready "$name"; then
+            begun[$name]=
+            how=(1 10)
+            [ -z "$first" ] || how=("$(nproc)" 0)
+            # The libraries are several words.
+            # shellcheck disable=SC2086
+            prove "$name" "${how[@]}" ${needs[$name]} >"$work/$name.log" 2>&1 </dev/null &
+            running[$!]=$name
+        fi
+        first=
+    done
+}
+
+# Waits for a crate that runs, and says on standard error how many of them are proved, or why it is not.
+await_one() {
+    local process status=0 name
+    wait -n -p process "${!running[@]}" || status=$?
+    name=${running[$process]}
+    unset "running[$process]"
+    if [ $status != 0 ] || ! grep -q '^logic=proved' "$work/$name.log"; then
+        cat -- "$work/$name.log" >&2
+        return 1
+    fi
+    proved[$name]=
+    printf '%s: proved %s, %d of %d, %d:%02d\n' "$program" "$name" ${#proved[@]} ${#needs[@]} \
+        $((SECONDS / 60)) $((SECONDS % 60)) >&2
+}
+
+# Proves the program's crates from nothing, and builds it.
 build_from_nothing() {
-    local folder=$1 count
-    count=$(crates | wc -l)
-    say_how_long "$count"
-    lay_out "$folder" || return 1
-    (set -o pipefail
-        cd -- "$folder" && "${RT:-rt}" ci 2>&1 </dev/null | show_progress "$count" >"$folder/log") &&
-        mv -- "$folder/crates/$program/out/$program" "$built"
+    local order='' name libraries most
+    local -A needs=() begun=() running=() proved=()
+    while read -r name libraries; do
+        order+=" $name"
+        needs[$name]=$libraries
+    done < <(schedule)
+    say_how_long ${#needs[@]}
+    # A prover takes up to 4 GB.
+    most=$(awk -v most="$(nproc)" '/^MemAvailable/ { m = int($2 / 4e6); print m < 1 ? 1 : m < most ? m : most }' \
+        /proc/meminfo)
+    begin_ready
+    while [ ${#running[@]} -gt 0 ]; do
+        await_one || return 1
+        begin_ready
+    done
+    mv -- "$work/$program" "$built"
 }
 
 # Proves what has changed since `rt run` has built the program, and builds it again.
 build_again() {
     echo "$program: building again: its sources have changed" >&2
-    (cd -- "$root/crates/$program" && "${RT:-rt}" run -- "${trial[@]}") >"$1/log" 2>&1 </dev/null
+    if ! (cd -- "$root/crates/$program" && "${RT:-rt}" run -- "${trial[@]}") >"$work/log" 2>&1 </dev/null; then
+        cat -- "$work/log" >&2
+        return 1
+    fi
 }
 
-# Builds the program, with a folder to work in. If that fails, shows the messages.
+# Builds the program.
 build() {
     local how=build_from_nothing
     [ ! -d "$out/incremental" ] || how=build_again
-    if $how "$1"; then
-        crates >"$built.crates"
-        touch -- "$built"
-    else
-        cat -- "$1/log" >&2
-        return 1
-    fi
+    $how || return 1
+    crates >"$built.crates"
+    touch -- "$built"
 }
 
 if needs_build; then
@@ -136,8 +217,8 @@ if needs_build; then
     exec 9>"$out/lock" && flock 9 || exit 125
     if needs_build; then
         work=$(mktemp -d) || exit 125
-        trap 'rm -rf -- "$work"' EXIT
-        build "$work" || exit 125
+        trap 'kill $(jobs -p) 2>/dev/null; wait; rm -rf -- "$work"' EXIT
+        build || exit 125
         rm -rf -- "$work"
     fi
     exec 9>&-
