@@ -1,7 +1,6 @@
 -- Standard output after a run of the program.
 use Rattle.std.proofs.Common.{◌≡◌, ◌⊎◌, inl, inr, ℕ, List, Option, Some, None, Ok, Err, refl, sym, ap, subst, true}
 use Rattle.std.specs.Prelude.{IfSome, is_some}
-use Rattle.std.specs.Result.{IsErrAnd}
 use Rattle.std.specs.declared.io.ErrorKind.{ErrorKind}
 use Rattle.std.specs.declared.io.ErrorKind.TheVariants.{OutOfMemory}
 use Rattle.std.specs.Io.KnownBytes.{Keeps}
@@ -13,8 +12,10 @@ use Rattle.boostmap_engine.specs.Mixture.{IsNoScriptFile}
 use Rattle.boostmap_program.specs.Threaded.{IsThreadedOf, LeavesThreaded}
 use Rattle.command_line.specs.declared.words.Call.{Call}
 use Rattle.command_line.specs.declared.words.Call.TheVariants.{Replay, Run, Mix, Check}
+use Rattle.command_line.specs.declared.no_call.NoCall.{NoCall}
+use Rattle.command_line.specs.declared.no_call.NoCall.TheVariants as reasons
 use Rattle.command_line.specs.Words.{asked, asked_of, file_of}
-use Rattle.boostmap_program.specs.Runs.{Outcome, Does, Runs, RunsNone, memory_or}
+use Rattle.boostmap_program.specs.Runs.{Outcome, Does, Runs, RunsNone, memory_or, of_words}
 
 Keeps-same : (known : Option (List ℕ)) → Keeps known known
 Keeps-same None = tt
@@ -42,12 +43,11 @@ no_words None bytes_of known kind is = runs_none None bytes_of known _ faults.Us
 no_words (Some words) bytes_of known kind is =
     subst (λ k. Runs (Some words) bytes_of known known (Err (memory_or k faults.Usage))) (sym is) (inr (Keeps-same known))
 
-pub no_call : (spoken : Option (List (List ℕ))) (words : List (List ℕ)) (bytes_of : List ℕ → Option (List ℕ)) (known : Option (List ℕ)) (outcome : Outcome) (fault : Fault) → IfSome spoken (λ known. words ≡ known)
-    → (fault ≡ faults.NoMemory) ⊎ ((fault ≡ faults.Usage) × (asked words ≡ None)) → IsErrAnd outcome (λ e. e ≡ fault) → Runs spoken bytes_of known known outcome
-no_call spoken words bytes_of known (Ok well) fault same which err = absurd err
-no_call spoken words bytes_of known (Err e) fault same (inl memory) err = rw (err, memory) (inr (Keeps-same known))
-no_call spoken words bytes_of known (Err e) fault same (inr (usage, none)) err =
-    rw (err, usage) (inr (Keeps-same known, of_known spoken words (λ given. asked given ≡ None) same none))
+pub no_call : (spoken : Option (List (List ℕ))) (words : List (List ℕ)) (bytes_of : List ℕ → Option (List ℕ)) (known : Option (List ℕ)) (reason : NoCall) → IfSome spoken (λ known. words ≡ known)
+    → (reason ≡ reasons.NoMemory) ⊎ ((reason ≡ reasons.Usage) × (asked words ≡ None)) → Runs spoken bytes_of known known (Err (of_words reason))
+no_call spoken words bytes_of known reason same (inl memory) = rw memory (inr (Keeps-same known))
+no_call spoken words bytes_of known reason same (inr (usage, none)) =
+    rw usage (inr (Keeps-same known, of_known spoken words (λ given. asked given ≡ None) same none))
 
 pub not_opened : (spoken : Option (List (List ℕ))) (words : List (List ℕ)) (call : Call) (bytes_of : List ℕ → Option (List ℕ)) (known : Option (List ℕ)) (kind : ErrorKind) → IfSome spoken (λ known. words ≡ known)
     → asked words ≡ Some (asked_of call) → Runs spoken bytes_of known known (Err (memory_or kind faults.Read))

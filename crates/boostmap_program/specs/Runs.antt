@@ -13,6 +13,8 @@ use Rattle.boostmap_program.specs.Threaded.{IsThreadedOf, LeavesThreaded}
 use Rattle.boostmap_engine.specs.Judgement.{IsJudgement, IsJudgementOf, IsNoHistoryFile}
 use Rattle.command_line.specs.declared.words.Call.{Call}
 use Rattle.command_line.specs.declared.words.Call.TheVariants.{Replay, Run, Mix, Check}
+use Rattle.command_line.specs.declared.no_call.NoCall.{NoCall}
+use Rattle.command_line.specs.declared.no_call.NoCall.TheVariants as reasons
 use Rattle.command_line.specs.Words.{asked, asked_of, file_of}
 
 -- The outcome of a run: whether all is well, or a fault.
@@ -64,6 +66,11 @@ Runs spoken bytes_of old new outcome =
 abbrev pub memory_or : ErrorKind → Fault → Fault
 memory_or OutOfMemory other = faults.NoMemory
 memory_or kind other = other
+
+-- The fault of words that give no call.
+abbrev pub of_words : NoCall → Fault
+of_words reasons.Usage = faults.Usage
+of_words reasons.NoMemory = faults.NoMemory
 
 -- The exit status.
 abbrev pub status_after : Outcome → ℕ

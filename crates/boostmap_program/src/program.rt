@@ -3,12 +3,12 @@
 ghost use Rattle.std.specs.Prelude.{◌≡◌, Bool, Result};
 ghost use Rattle.boostmap_engine.specs.declared.fault.Fault.{Fault};
 ghost use Rattle.std.specs.IoError.{error_kind};
-ghost use Rattle.boostmap_program.specs.Runs.{Does, Runs, Tells, memory_or, status_after};
+ghost use Rattle.boostmap_program.specs.Runs.{Does, Runs, Tells, memory_or, of_words, status_after};
 
 use crate::threaded;
 use boostmap_engine as engine;
 use boostmap_engine::Fault;
-use command_line::{Call, call_in};
+use command_line::{Call, NoCall, call_in};
 use program_host::System;
 use std::alloc::Global;
 use std::io;
@@ -32,6 +32,16 @@ fn memory_or(error: &io::Error, other: Fault) -> Fault
     match error.kind() {
         io::ErrorKind::OutOfMemory => Fault::NoMemory,
         _ => other,
+    }
+}
+
+/// The fault of words that give no call, for this reason.
+fn fault_of(reason: NoCall) -> Fault
+    ensures { result ≡ of_words reason }
+{
+    match reason {
+        NoCall::Usage => Fault::Usage,
+        NoCall::NoMemory => Fault::NoMemory,
     }
 }
 
@@ -78,7 +88,10 @@ fn run_words<T: Threads + Wait + Sync, S: System, W: Write>(
         Ok(words) => words,
         Err(error) => return Err(memory_or(&error, Fault::Usage)),
     };
-    let call = call_in(alloc, &words)?;
+    let call = match call_in(alloc, &words) {
+        Ok(call) => call,
+        Err(reason) => return Err(fault_of(reason)),
+    };
     let mut input = match system.open(call.file()) {
         Ok(input) => input,
         Err(error) => return Err(memory_or(&error, Fault::Read)),

@@ -7,7 +7,7 @@ use Rattle.clap.specs.declared.error.kind.ErrorKind.{ErrorKind}
 use Rattle.clap.specs.declared.error.kind.ErrorKind.TheVariants.{OutOfMemory}
 use Rattle.clap.specs.Words.{App, HasKind, IsAmong, Kinds, Row, Text, fault_of, is_simple, is_simple_and_free, kind_of, subcommand_of}
 use Rattle.clap.proofs.OnLiterals.{clap_on_literals}
-use Rattle.boostmap_engine.specs.declared.fault.Fault.TheVariants.{Usage, NoMemory}
+use Rattle.command_line.specs.declared.no_call.NoCall.TheVariants.{Usage, NoMemory}
 use Rattle.command_line.specs.declared.words.Call.{Call}
 use Rattle.command_line.specs.Words.{Asked, asked, asked_in, asked_of, command_line, unless}
 
@@ -54,6 +54,6 @@ together name_of rows_in (Some b) name rows named is =
 
 -- The answer for a call that was looked for.
 pub answered : (words : List Text) (looked : Option Call) → asked words ≡ option_map asked_of looked
-    → IfOk (ok_or looked Usage) (λ call. asked words ≡ Some (asked_of call)) × IfErr (ok_or looked Usage) (λ fault. (fault ≡ NoMemory) ⊎ ((fault ≡ Usage) × (asked words ≡ None)))
+    → IfOk (ok_or looked Usage) (λ call. asked words ≡ Some (asked_of call)) × IfErr (ok_or looked Usage) (λ reason. (reason ≡ NoMemory) ⊎ ((reason ≡ Usage) × (asked words ≡ None)))
 answered words (Some call) is = (is, tt)
 answered words None is = (tt, inr (refl, is))

@@ -8,6 +8,8 @@
 //! words need none of the proofs about threads.
 #![tactic(auto)]
 
+mod no_call;
 mod words;
 
+pub use no_call::NoCall;
 pub use words::{Call, call_in};

@@ -1,14 +1,14 @@
 //! The command line, by the rules of `clap`: the call that the words ask for, or that they ask for
 //! none. Each command is made and added separately, which keeps the proof of `command` cheap.
-ghost use Rattle.std.specs.Prelude.{◌≡◌, ◌⊎◌, Some, None, IfOk, IfErr, map, option_map};
+ghost use Rattle.std.specs.Prelude.{◌≡◌, ◌⊎◌, Some, None, false, IfOk, IfErr, map, option_map};
 ghost use Rattle.std.specs.String.{string_bytes};
-ghost use Rattle.clap.specs.Words.{found_of, rows_of};
+ghost use Rattle.clap.specs.Words.{found_of, rows_of, rule_of};
 ghost use Rattle.program_host.specs.Words.{Has};
 ghost use Rattle.command_line.specs.Words.{asked, asked_in, asked_of, file_of, seed_of};
-ghost use Rattle.command_line.specs.Words.{command_line, over_file, seeded};
-ghost use Rattle.boostmap_engine.specs.declared.fault.Fault.TheVariants as faults;
+ghost use Rattle.command_line.specs.Words.{command_line, file_word, over_file, seed_word, seeded};
+ghost use Rattle.command_line.specs.declared.no_call.NoCall.TheVariants as reasons;
 
-use boostmap_engine::Fault;
+use crate::no_call::NoCall;
 use clap::error::ErrorKind;
 use clap::{Arg, ArgAction, ArgMatches, Command};
 use std::alloc::{AllocError, Global};
@@ -53,25 +53,39 @@ impl<'a> Call<'a> {
     }
 }
 
+/// The name of a file, which may not be left out.
+fn file_name<'a>(alloc: Global) -> Arg<'a>
+    ensures rule { rule_of result ≡ file_word }
+    ensures local { result.global ≡ false }
+{
+    Arg::new(alloc, "FILE")
+        .required(true)
+        .action(ArgAction::Set)
+}
+
+/// The option for a seed, which may not be left out.
+fn seed_option<'a>(alloc: Global) -> Arg<'a>
+    ensures rule { rule_of result ≡ seed_word }
+    ensures local { result.global ≡ false }
+{
+    Arg::new(alloc, "seed")
+        .long("seed")
+        .required(true)
+        .action(ArgAction::Set)
+}
+
 /// A command of this name over one file.
 fn command_on_file<'a>(alloc: Global, name: &'a str) -> Result<Command<'a>, AllocError>
     ensures { IfOk result (λ command. Has command (over_file name.entry.now)) }
 {
-    let file = Arg::new(alloc, "FILE")
-        .required(true)
-        .action(ArgAction::Set);
-    Command::new(alloc, name).arg(file)
+    Command::new(alloc, name).arg(file_name(alloc))
 }
 
 /// The command `mix`, which also has a seed.
 fn mix_command<'a>(alloc: Global) -> Result<Command<'a>, AllocError>
     ensures { IfOk result (λ command. Has command seeded) }
 {
-    let seed = Arg::new(alloc, "seed")
-        .long("seed")
-        .required(true)
-        .action(ArgAction::Set);
-    command_on_file(alloc, "mix")?.arg(seed)
+    command_on_file(alloc, "mix")?.arg(seed_option(alloc))
 }
 
 /// The command line of the program. Each command is added as soon as it is made, so that little has
@@ -124,24 +138,24 @@ fn call_named<'a>(name: &str, found: &ArgMatches<'a>) -> Option<Call<'a>>
 /// # Cost
 ///
 /// Time and memory in proportion to the words.
-pub fn call_in<'a>(alloc: Global, words: &'a [String]) -> Result<Call<'a>, Fault>
+pub fn call_in<'a>(alloc: Global, words: &'a [String]) -> Result<Call<'a>, NoCall>
     ensures call { IfOk result (λ call.
         asked (map string_bytes words.entry.now) ≡ Some (asked_of call)) }
-    ensures err { IfErr result (λ fault. (fault ≡ faults.NoMemory)
-        ⊎ ((fault ≡ faults.Usage) × (asked (map string_bytes words.entry.now) ≡ None))) }
+    ensures err { IfErr result (λ reason. (reason ≡ reasons.NoMemory)
+        ⊎ ((reason ≡ reasons.Usage) × (asked (map string_bytes words.entry.now) ≡ None))) }
 {
     let command = command(alloc)?;
     let matches = match command.try_get_matches_from(words) {
         Ok(matches) => matches,
         Err(error) => {
             return Err(match error.kind() {
-                ErrorKind::OutOfMemory => Fault::NoMemory,
-                _ => Fault::Usage,
+                ErrorKind::OutOfMemory => NoCall::NoMemory,
+                _ => NoCall::Usage,
             });
         }
     };
     let Some((name, found)) = matches.subcommand() else {
-        return Err(Fault::Usage);
+        return Err(NoCall::Usage);
     };
-    call_named(name, found).ok_or(Fault::Usage)
+    call_named(name, found).ok_or(NoCall::Usage)
 }

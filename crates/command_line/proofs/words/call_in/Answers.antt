@@ -2,7 +2,7 @@ use Rattle.std.proofs.Common.{◌≡◌, ◌⊎◌, List, Some, None, inl, inr, 
 use Rattle.std.specs.Prelude.{IfOk, IfErr, option_map, option_and_then}
 use Rattle.std.specs.Box.{box_value}
 use Rattle.std.specs.String.{string_bytes}
-use Rattle.boostmap_engine.specs.declared.fault.Fault.TheVariants.{NoMemory, Usage}
+use Rattle.command_line.specs.declared.no_call.NoCall.TheVariants.{NoMemory, Usage}
 use Rattle.clap.specs.declared.parser.matches.ArgMatches.TheViews.{out-ArgMatches, out-SubCommand}
 use Rattle.clap.specs.Words.{Row, Text, found_of, rows_of, subcommand_rows_of}
 use Rattle.command_line.specs.Words.{asked, asked_in, asked_of}
@@ -34,5 +34,5 @@ returns-clause-call c =
 
 pub returns-clause-err : goal.returns-clause-err
 returns-clause-err c =
-    subst (λ r. IfErr r (λ fault. (fault ≡ NoMemory) ⊎ ((fault ≡ Usage) × (asked (map string_bytes c.args.words.now) ≡ None)))) (sym c.ok_or.ensures.value)
+    subst (λ r. IfErr r (λ reason. (reason ≡ NoMemory) ⊎ ((reason ≡ Usage) × (asked (map string_bytes c.args.words.now) ≡ None)))) (sym c.ok_or.ensures.value)
     (answered (map string_bytes c.args.words.now) c.call_named.result (looked c)).1

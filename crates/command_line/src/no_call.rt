@@ -1,0 +1,42 @@
+//! The reason why there is no call. It is an error with a text.
+ghost use Rattle.std.specs.Prelude.{◌≡◌};
+ghost use Rattle.command_line.specs.declared.no_call.NoCall.TheVariants.{NoMemory};
+
+use std::alloc::AllocError;
+use std::error::Error;
+use std::fmt;
+
+/// The reason why there is no call.
+#[derive(Clone, Copy, Debug, PartialEq, Eq)]
+pub enum NoCall {
+    /// The words are no call of the program.
+    Usage,
+    /// Memory was refused.
+    NoMemory,
+}
+
+/// A sentence without its full stop.
+impl fmt::Display for NoCall {
+    ghost use Rattle.std.specs.Prelude.{Some};
+    ghost use Rattle.command_line.specs.Reasons.{text_of};
+
+    ghost output = { λ reason. Some (text_of reason) };
+
+    fn fmt<W: fmt::Write>(&self, f: &mut fmt::Formatter<W>) -> fmt::Result {
+        match self {
+            NoCall::Usage => f.write_str("the words are no call of the program"),
+            NoCall::NoMemory => f.write_str("memory was refused"),
+        }
+    }
+}
+
+impl Error for NoCall {}
+
+/// Memory that is refused is `NoMemory`, so that `?` converts it.
+impl From<AllocError> for NoCall {
+    ghost from_gives = { λ _ reason. reason ≡ NoMemory };
+
+    fn from(_error: AllocError) -> NoCall {
+        NoCall::NoMemory
+    }
+}
