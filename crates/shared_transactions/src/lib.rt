@@ -57,6 +57,7 @@ mod restarting;
 mod retry;
 mod session;
 mod transaction;
+mod work;
 
 pub use attempts::{Attempts, transact};
 pub use map_answers::{Stop, Swapped};
@@ -64,3 +65,4 @@ pub use restarting::{Restarted, restart};
 pub use retry::Retry;
 pub use session::{Session, callers_of, run_session};
 pub use transaction::Transaction;
+pub use work::{Finished, Work, run_works};
