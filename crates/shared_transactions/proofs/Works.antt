@@ -1,12 +1,12 @@
 -- That a closed map has no entries but those of the callers that worked on it, and what works in
 -- threads come to.
-use Rattle.std.proofs.Common.{◌≡◌, ◌≢◌, ℕ, ◌+◌, ◌<◌, ◌≤◌, zero, suc, ◌==◌, ◌⊎◌, Bool, true, false, cond, List, [], ◌∷◌, ◌++◌, length, length-append, map, slice_index_or, get_or, Option, Some, None, refl, sym, ap, subst, ◌∙◌, inl, inr, arith}
-use Rattle.std.specs.Prelude.{All, slice_get, nat_eq}
+use Rattle.std.proofs.Common.{◌≡◌, ℕ, ◌+◌, ◌<◌, ◌≤◌, zero, suc, cond, List, [], ◌∷◌, ◌++◌, length, length-append, map, Option, Some, None, refl, sym, ap, subst, ◌∙◌, inl, inr, arith}
+use Rattle.std.specs.Prelude.{All, slice_get}
 use Rattle.std.specs.List.{sum_by}
 use Rattle.std.specs.Option.{option_map}
 use Rattle.std.proofs.lemmas.List.Sums.{sum_by-append}
-use Rattle.std.proofs.lemmas.Bool.{cases_Bool, cases_lt, eqb-true, eqb-false, eq-eqb, ne_eqb}
-use Rattle.std.proofs.lemmas.List.{length-map, get_or-map, get_or_append_left, get_or-append-add}
+use Rattle.std.proofs.lemmas.Bool.{cases_lt, eq-eqb, ne_eqb}
+use Rattle.std.proofs.lemmas.List.{length-map, get_or_append_left}
 use Rattle.std.proofs.lemmas.Option.{slice_get-map, slice_get_within, get_or_from_slice_get}
 use Rattle.txn_words.specs.declared.entry.Entry.{Entry}
 use Rattle.txn_words.specs.declared.holder.Holder.TheVariants.{Begun}
@@ -121,13 +121,25 @@ mapped : {A B : Type 0} (f : A → B) (o : Option A) (y : B) → option_map f o 
 mapped f None y is = absurd (cc is)
 mapped f (Some x) y is = (x, refl, cc is)
 
--- What works came to, each seated with a caller before, and done after it.
-pub are_done : {S J D W T : Type 0} (work_of : J → W) (me_of : D → Token S) (outcome_of : D → T) (promises : W → T → Token S → Type 0) (limits : Sizes) (works : List W) (seated : List J) (done : List D) (core : State)
-    → length works ≤ limits.callers → map work_of seated ≡ works → length done ≡ length seated
+get_left : {X : Type 0} (xs ys : List X) (i : ℕ) (x : X) → slice_get xs i ≡ Some x → slice_get (xs ++ ys) i ≡ Some x
+get_left [] ys i x at = absurd (cc at)
+get_left (z ∷ xs) ys zero x at = at
+get_left (z ∷ xs) ys (suc i) x at = get_left xs ys i x at
+
+get_last : {X : Type 0} (xs : List X) (y : X) → slice_get (xs ++ y ∷ []) (length xs) ≡ Some y
+get_last [] y = refl
+get_last (x ∷ xs) y = get_last xs y
+
+-- What works came to, each seated with a caller before, and done after it. Their callers are the
+-- first ones of those that worked.
+pub are_done : {S J D W T : Type 0} (work_of : J → W) (me_of : D → Token S) (outcome_of : D → T) (promises : W → T → Token S → Type 0) (limits : Sizes) (works : List W) (seated : List J) (done : List D) (others : List (Token S)) (core : State) (callers : ℕ)
+    → length works + length others ≡ callers → callers ≤ limits.callers → map work_of seated ≡ works → length done ≡ length seated
     → ((i : ℕ) (s : J) (d : D) → slice_get seated i ≡ Some s → slice_get done i ≡ Some d → promises (work_of s) (outcome_of d) (me_of d))
-    → IsClosedBy limits (map me_of done) core → AreDone promises limits works core (map outcome_of done)
-are_done work_of me_of outcome_of promises limits works seated done core few works_are count kept closed =
+    → IsClosedBy limits (map me_of done ++ others) core → AreDone promises limits callers works core (map outcome_of done)
+are_done work_of me_of outcome_of promises limits works seated done others core callers all few works_are count kept closed =
     let as_many : length done ≡ length works = count ∙ sym (length-map seated work_of) ∙ ap length works_are in
+    let in_all : length (map me_of done ++ others) ≡ callers =
+    length-append (map me_of done) others ∙ ap (λ n. n + length others) (length-map done me_of ∙ as_many) ∙ all in
     record {
       limits_are = closed.limits_are;
       legal = closed.legal;
@@ -136,12 +148,22 @@ are_done work_of me_of outcome_of promises limits works seated done core few wor
       each = λ i work outcome at_work at_outcome.
           let (s, s_at, work_is) = mapped work_of (slice_get seated i) work (sym (slice_get-map work_of seated i) ∙ ap (λ ws. slice_get ws i) works_are ∙ at_work) in
           let (d, d_at, outcome_is) = mapped outcome_of (slice_get done i) outcome (sym (slice_get-map outcome_of done i) ∙ at_outcome) in
-          let here : slice_get (map me_of done) i ≡ Some (me_of d) = slice_get-map me_of done i ∙ ap (option_map me_of) d_at in
+          let here : slice_get (map me_of done ++ others) i ≡ Some (me_of d) = get_left (map me_of done) others i (me_of d) (slice_get-map me_of done i ∙ ap (option_map me_of) d_at) in
           record {
             me = me_of d;
             number_is = closed.numbered i (me_of d) here;
             promised = subst (λ t. promises work t (me_of d)) outcome_is (subst (λ w. promises w (outcome_of d) (me_of d)) work_is (kept i s d s_at d_at));
-            own = all_at (λ k. IsOwn core.history k) (map me_of done) closed.own i (me_of d) here;
+            own = all_at (λ k. IsOwn core.history k) (map me_of done ++ others) closed.own i (me_of d) here;
           };
-      only = subst (λ (n : ℕ). All (λ e. caller_of e < n) core.history) (length-map done me_of ∙ as_many) closed.only;
+      only = subst (λ (n : ℕ). All (λ e. caller_of e < n) core.history) in_all closed.only;
     }
+
+-- The work of the last caller of those that worked.
+pub last_done : {S O P : Type 0} (promises : O → P → Token S → Type 0) (limits : Sizes) (opening : O) (outcome : P) (me : Token S) (ks : List (Token S)) (place : ℕ) (core : State) → length ks ≡ place → promises opening outcome me → IsClosedBy limits (ks ++ me ∷ []) core
+    → IsDoneIn promises core.history place opening outcome
+last_done promises limits opening outcome me ks place core as_many kept closed = record {
+  me = me;
+  number_is = closed.numbered (length ks) me (get_last ks me) ∙ as_many;
+  promised = kept;
+  own = all_at (λ k. IsOwn core.history k) (ks ++ me ∷ []) closed.own (length ks) me (get_last ks me);
+}

@@ -42,16 +42,16 @@ pub record IsDoneIn {S W T : Type 0} (promises : W → T → Token S → Type 0)
   pub own : IsOwn h me
 
 -- These works came to these outcomes on a map of these limits, each by the caller of its place. The
--- map was closed: its history is legal, and has no entries but those of these callers.
+-- map was closed: its history is legal, and has only entries of callers below this number.
 pub record AreDone {S W T : Type 0} (promises : W → T → Token S → Type 0) (limits : Sizes)
-    (works : List W) (core : State) (outcomes : List T) : Type 0 where
+    (callers : ℕ) (works : List W) (core : State) (outcomes : List T) : Type 0 where
   pub limits_are : core.limits ≡ limits
   pub legal : IsLegal Begun core.limits.stripes core.history
-  pub few : length works ≤ limits.callers
+  pub few : callers ≤ limits.callers
   pub count : length outcomes ≡ length works
   pub each : (i : ℕ) (work : W) (outcome : T) → slice_get works i ≡ Some work
       → slice_get outcomes i ≡ Some outcome → IsDoneIn promises core.history i work outcome
-  pub only : All (λ e. caller_of e < length works) core.history
+  pub only : All (λ e. caller_of e < callers) core.history
 
 -- Why a map was not closed: memory was refused, or the map did not close.
 abbrev pub IsUnclosed : Refusal → Type 0
@@ -59,8 +59,8 @@ IsUnclosed NoMemory = Unit {0}
 IsUnclosed OutOfStep = Unit {0}
 IsUnclosed refusal = ⊥
 
--- Why this number of works have no outcomes on a map of so many callers: there are more works than
--- callers, and then there is no other reason; or the map was not made or not closed.
+-- Why works that need this number of callers have no outcomes on a map of so many: it has too few,
+-- and then there is no other reason; or the map was not made or not closed.
 abbrev pub IsUnrun : ℕ → ℕ → Refusal → Type 0
-IsUnrun callers works CallersMissing = callers < works
-IsUnrun callers works refusal = (works ≤ callers) × IsUnclosed refusal
+IsUnrun callers needed CallersMissing = callers < needed
+IsUnrun callers needed refusal = (needed ≤ callers) × IsUnclosed refusal

@@ -3,7 +3,8 @@
 //!
 //! A closure cannot be generic over the ledger's name, so what is done is a trait with a generic
 //! method. A `run` that starts threads gets no proof from the toolchain: what it sends to a thread
-//! rests on the bounds of the method. A caller with threads names the ledger itself, as `visits`.
+//! rests on the bounds of the method. So a session is for callers that take turns in one thread;
+//! for threads there is `run_works`.
 ghost use Rattle.std.specs.Prelude.{◌≡◌, ◌<◌, All, IfOk, IfErr, OnErr, length, map};
 ghost use Rattle.core_tokens.specs.Tokens.{AreTickets};
 ghost use Rattle.shared_transactions.specs.Works.{IsNew};
@@ -75,7 +76,7 @@ fn run_under<L: Ledger + Send + Sync, R, W: Session<R> + Drop>(
     Ok(session.run(rt, alloc, map, passes))
 }
 
-/// The callers of passes, in their order, none with a side value.
+/// The callers of passes, in their order, none with a side value. None has done anything yet.
 ///
 /// # Errors
 ///

@@ -2,14 +2,14 @@
 //! map's ledger.
 //!
 //! A closure cannot be generic over the ledger's name, so the work of a thread is a trait with a
-//! generic method. The method starts no threads: a free function does, which the toolchain proves,
-//! as it does not a trait's method that starts them.
-ghost use Rattle.std.specs.Prelude.{◌≡◌, ◌+◌, ◌≤◌, true, false, IfOk, IfErr, All, length, map, Some};
+//! generic method, which starts no threads. A free function starts them: the toolchain proves that
+//! of it, and not of a trait's method.
+ghost use Rattle.std.specs.Prelude.{◌≡◌, ◌+◌, ◌≤◌, ◌<◌, true, IfOk, IfErr, All, length, map, Some};
 ghost use Rattle.std.specs.Prelude.{slice_get};
 ghost use Rattle.core_tokens.specs.Tokens.{Token};
 ghost use Rattle.core_tokens.specs.declared.no_side.NoSide.{NoSide};
-ghost use Rattle.shared_transactions.specs.Works.{AreDone, AreNumbered, IsClosedBy, IsNew};
-ghost use Rattle.shared_transactions.specs.Works.{IsUnclosed, IsUnrun};
+ghost use Rattle.shared_transactions.specs.Works.{AreDone, AreNumbered, IsClosedBy, IsDoneIn};
+ghost use Rattle.shared_transactions.specs.Works.{IsNew, IsUnclosed, IsUnrun};
 
 use crate::session::callers_of;
 use boost_core::Core;
@@ -183,9 +183,9 @@ fn close<L: Ledger>(
     }
 }
 
-/// Makes a map of threads, which picks its ledger's name, does each work in a thread of its own
-/// when one can be started, and closes the map. Work `i` has caller `i`; the other callers do
-/// nothing.
+/// Makes a map of threads, which picks its ledger's name, does each work in a thread of its own,
+/// and closes the map. Work `i` has caller `i`; the other callers do nothing. Where no thread can
+/// be started, works are done one after the other.
 ///
 /// With `Ok` each work keeps its promise, of a token with exactly the entries that its caller has
 /// in the core's history. The history is legal by the rule that a Busy may name any other caller
@@ -193,22 +193,22 @@ fn close<L: Ledger>(
 ///
 /// # Errors
 ///
-/// - `CallersMissing` exactly if there are more works than callers. No work is done.
-/// - `NoMemory` if memory is refused for the map, for the threads or for what comes of the works.
-/// - `OutOfStep` if the map does not close: some token is not what its caller was given, or has not
-///   seen what the history says.
+/// - `CallersMissing` exactly if there are more works than callers; no work is done then.
+/// - `NoMemory` if memory is refused for the map, for the threads or for the outcomes.
+/// - `OutOfStep` if the map does not close: a token is not the one that its work was given, or has
+///   not seen what the history says.
 ///
 /// # Cost
 ///
-/// That of the works, of `SharedMap::new` and of `SharedMap::close`; memory and time in proportion
-/// to the callers.
+/// That of the works, of `SharedMap::new` and of `SharedMap::close`; a thread for each work.
 pub fn run_works<R: Threads + Wait + Sync, W: Work<R> + Send + Drop>(
     rt: &R,
     alloc: Global,
     limits: Limits,
     works: Vec<W>,
 ) -> Result<Finished<W::Output>, Refusal>
-    ensures ok { IfOk result (λ r. AreDone W.promises limits works.items r.core r.outcomes.items) }
+    ensures ok { IfOk result (λ r. AreDone W.promises limits (length works.items) works.items
+        r.core r.outcomes.items) }
     ensures err { IfErr result (IsUnrun limits.callers (length works.items)) }
 {
     if works.len() as u64 > u64::from(limits.callers()) {
@@ -218,7 +218,41 @@ pub fn run_works<R: Threads + Wait + Sync, W: Work<R> + Send + Drop>(
     run_under::<Brand, R, W>(rt, alloc, blank, limits, works)
 }
 
-/// The same under a ledger that has a name, if there are no more works than callers.
+/// `run_works`, after another work was done in this thread, by the caller whose number is that of
+/// the works: an opening, which gives the map its first pairs. Answers its outcome too.
+///
+/// With `Ok` the opening keeps its promise as the works do, and the history has no entries but
+/// theirs. That those of the opening are the first no clause says, since no contract sees through
+/// the map's lock; they are, as no other thread has been started before.
+///
+/// # Errors
+///
+/// Those of `run_works`; `CallersMissing` exactly if there are not more callers than works.
+///
+/// # Cost
+///
+/// That of `run_works` and of the opening.
+pub fn run_works_after<R: Threads + Wait + Sync, O: Work<R> + Drop, W: Work<R> + Send + Drop>(
+    rt: &R,
+    alloc: Global,
+    limits: Limits,
+    opening: O,
+    works: Vec<W>,
+) -> Result<(O::Output, Finished<W::Output>), Refusal>
+    ensures opening { IfOk result (λ r. IsDoneIn O.promises r.1.core.history
+        (length works.items) opening r.0) }
+    ensures works { IfOk result (λ r. AreDone W.promises limits (length works.items + 1)
+        works.items r.1.core r.1.outcomes.items) }
+    ensures err { IfErr result (IsUnrun limits.callers (length works.items + 1)) }
+{
+    if works.len() as u64 >= u64::from(limits.callers()) {
+        return Err(Refusal::CallersMissing);
+    }
+    let blank = Blank::new(u64::from(limits.callers()));
+    open_under::<Brand, R, O, W>(rt, alloc, blank, limits, opening, works)
+}
+
+/// `run_works` under a ledger that has a name, if there are no more works than callers.
 fn run_under<L: Ledger + Send + Sync, R: Threads + Wait + Sync, W: Work<R> + Send + Drop>(
     rt: &R,
     alloc: Global,
@@ -230,7 +264,8 @@ fn run_under<L: Ledger + Send + Sync, R: Threads + Wait + Sync, W: Work<R> + Sen
     requires parts { blank.parts ≡ L.parts }
     requires one_each { blank.parts ≡ limits.callers }
     requires few { length works.items ≤ limits.callers }
-    ensures ok { IfOk result (λ r. AreDone W.promises limits works.items r.core r.outcomes.items) }
+    ensures ok { IfOk result (λ r. AreDone W.promises limits (length works.items) works.items
+        r.core r.outcomes.items) }
     ensures err { IfErr result (IsUnrun limits.callers (length works.items)) }
 {
     let (map, mut passes) = SharedMap::<L>::new(alloc, blank, limits)?;
@@ -241,4 +276,43 @@ fn run_under<L: Ledger + Send + Sync, R: Threads + Wait + Sync, W: Work<R> + Sen
     let (callers, outcomes) = unzip(alloc, done)?;
     let core = close(map, callers, unused)?;
     Ok(Finished { core, outcomes })
+}
+
+/// `run_works_after` under a ledger that has a name, if there are more callers than works.
+fn open_under<
+    L: Ledger + Send + Sync,
+    R: Threads + Wait + Sync,
+    O: Work<R> + Drop,
+    W: Work<R> + Send + Drop,
+>(
+    rt: &R,
+    alloc: Global,
+    blank: Blank,
+    limits: Limits,
+    opening: O,
+    works: Vec<W>,
+) -> Result<(O::Output, Finished<W::Output>), Refusal>
+    requires name { blank.name ≡ L.name }
+    requires parts { blank.parts ≡ L.parts }
+    requires one_each { blank.parts ≡ limits.callers }
+    requires few { length works.items < limits.callers }
+    ensures opening { IfOk result (λ r. IsDoneIn O.promises r.1.core.history
+        (length works.items) opening r.0) }
+    ensures works { IfOk result (λ r. AreDone W.promises limits (length works.items + 1)
+        works.items r.1.core r.1.outcomes.items) }
+    ensures err { IfErr result (IsUnrun limits.callers (length works.items + 1)) }
+{
+    let (map, mut passes) = SharedMap::<L>::new(alloc, blank, limits)?;
+    let pass = passes.remove(works.len());
+    let Done { outcome, me } = go(rt, &map, seat(alloc, pass, opening));
+    passes.reverse();
+    let seated = seat_all(alloc, &mut passes, works)?;
+    let done = go_all(rt, &map, seated)?;
+    let unused = callers_of(alloc, passes)?;
+    let (mut callers, outcomes) = unzip(alloc, done)?;
+    let Ok(()) = callers.push(me) else {
+        return Err(Refusal::NoMemory);
+    };
+    let core = close(map, callers, unused)?;
+    Ok((outcome, Finished { core, outcomes }))
 }

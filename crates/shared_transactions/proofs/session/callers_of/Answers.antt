@@ -1,4 +1,4 @@
-use Rattle.std.proofs.Common.{◌≡◌, ◌∙◌, ap, sym, subst, List, ◌∷◌, [], ◌++◌, map}
+use Rattle.std.proofs.Common.{◌∙◌, ap, sym, subst, List, ◌∷◌, [], ◌++◌, map}
 use Rattle.std.specs.Prelude.{All}
 use Rattle.std.proofs.lemmas.List.{map_push}
 use Rattle.std.proofs.lemmas.List.Elements.{All-push}

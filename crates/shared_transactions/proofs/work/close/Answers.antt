@@ -1,4 +1,4 @@
-use Rattle.std.proofs.Common.{◌≡◌, ◌∙◌, ap, sym, subst, List, true}
+use Rattle.std.proofs.Common.{subst, List}
 use Rattle.core_tokens.specs.Tokens.{Token}
 use Rattle.core_tokens.specs.declared.no_side.NoSide.{NoSide}
 use Rattle.shared_transactions.specs.Works.{AreNumbered}
