@@ -3,3 +3,4 @@ pub mod Keeps
 pub mod Stops
 pub mod Tries
 pub mod Restarted
+pub mod Works

@@ -1,13 +1,16 @@
-//! Transactions as values on a map that threads share, work that is run in one, and a call that
-//! makes such a map.
+//! Transactions as values on a map that threads share, work that is run in one, and calls that make
+//! such a map.
 //!
 //! - A `Transaction` is a caller's token with its map. It is begun, worked in, and committed; if it
 //!   is dropped before it is committed, at a `?` or an early return, it is aborted.
 //! - `transact` begins, runs the work and commits. If another caller held a stripe, the thread
 //!   gives way or sleeps, and the work begins anew, as often and as long as its `Retry` says. Any
 //!   other refusal takes everything back and is handed on.
+//! - `run_works` makes the map, does each `Work` in a thread of its own and closes the map, so that
+//!   its user names no ledger. `run_works_after` does another work before them.
 //! - `run_session` makes the map and hands it, with a pass for each caller, to a `Session` that
-//!   starts no threads, so that its user names no ledger. `callers_of` makes tokens of the passes.
+//!   starts no threads, which names no ledger either. Take it for callers that take turns in one
+//!   thread, and `run_works` for threads. `callers_of` makes tokens of the passes.
 //! - `restart` goes on with a new map after one was closed, so that no history grows without end:
 //!   the new one has the old one's pairs, by one committed transaction.
 //!
@@ -40,6 +43,9 @@
 //!   the pairs of the old map in the order of its list (`IsRefilled`). If it was not restarted,
 //!   memory was refused, or a call of that transaction stopped (`IsNotRestarted`).
 //! - A session's own promise holds of what it answers (`Session::promises`).
+//! - Each work in a thread keeps its own promise (`Work::promises`), of a token with exactly the
+//!   entries that its caller has in the history of the closed map. Work `i` has caller `i`. The
+//!   history is legal, and has no entries but those of these callers (`AreDone`).
 //!
 //! What a map holds afterwards is said when it is closed, as `locked_map` says: other callers'
 //! steps come between. No clause speaks of time: not that a call returns, nor how long it waits.
@@ -57,6 +63,7 @@ mod restarting;
 mod retry;
 mod session;
 mod transaction;
+mod work;
 
 pub use attempts::{Attempts, transact};
 pub use map_answers::{Stop, Swapped};
@@ -64,3 +71,4 @@ pub use restarting::{Restarted, restart};
 pub use retry::Retry;
 pub use session::{Session, callers_of, run_session};
 pub use transaction::Transaction;
+pub use work::{Finished, Work, run_works, run_works_after};

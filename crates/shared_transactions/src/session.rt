@@ -3,9 +3,11 @@
 //!
 //! A closure cannot be generic over the ledger's name, so what is done is a trait with a generic
 //! method. A `run` that starts threads gets no proof from the toolchain: what it sends to a thread
-//! rests on the bounds of the method. A caller with threads names the ledger itself, as `visits`.
-ghost use Rattle.std.specs.Prelude.{◌≡◌, ◌<◌, IfOk, IfErr, OnErr, length, map};
+//! rests on the bounds of the method. So a session is for callers that take turns in one thread;
+//! for threads there is `run_works`.
+ghost use Rattle.std.specs.Prelude.{◌≡◌, ◌<◌, All, IfOk, IfErr, OnErr, length, map};
 ghost use Rattle.core_tokens.specs.Tokens.{AreTickets};
+ghost use Rattle.shared_transactions.specs.Works.{IsNew};
 
 use locked_map::{Caller, NoSide, Pass, SharedMap};
 use std::alloc::{AllocError, Global};
@@ -74,7 +76,7 @@ fn run_under<L: Ledger + Send + Sync, R, W: Session<R> + Drop>(
     Ok(session.run(rt, alloc, map, passes))
 }
 
-/// The callers of passes, in their order, none with a side value.
+/// The callers of passes, in their order, none with a side value. None has done anything yet.
 ///
 /// # Errors
 ///
@@ -90,6 +92,7 @@ pub fn callers_of<L: Ledger>(
 ) -> Result<Vec<Caller<L, NoSide>>, AllocError>
     ensures ok { IfOk result (λ callers.
         map (λ k. k.number) callers.items ≡ map (λ p. p.number) passes.items) }
+    ensures unused { IfOk result (λ callers. All IsNew callers.items) }
     ensures err { OnErr result (0 < length passes.items) }
 {
     let mut callers = Vec::new(alloc);

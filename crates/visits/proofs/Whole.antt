@@ -1,11 +1,10 @@
 -- What visitors' own entries say of what they got, in a legal history.
-use Rattle.std.proofs.Common.{◌≡◌, ℕ, ◌<◌, Bool, true, false, cond, List, [], ◌∷◌, ◌++◌, length, map, slice_index_or, Option, Some, None, IsSome, IfOk, refl, sym, ap, subst, ◌∙◌}
-use Rattle.std.specs.Prelude.{nat_eq, slice_get, All, Result, Ok}
-use Rattle.std.specs.Option.{option_eq, option_and_then, option_map}
+use Rattle.std.proofs.Common.{◌≡◌, ℕ, Bool, true, false, cond, List, [], ◌∷◌, ◌++◌, Option, Some, None, IsSome, IfOk, refl, sym, ap, ◌∙◌}
+use Rattle.std.specs.Prelude.{nat_eq, Result, Ok}
+use Rattle.std.specs.Option.{option_eq, option_and_then}
 use Rattle.std.specs.List.{fold}
 use Rattle.std.proofs.lemmas.Bool.{false≢true}
-use Rattle.std.proofs.lemmas.List.{append-nil, length-map, get_or-map}
-use Rattle.std.proofs.lemmas.Option.{slice_get-map, slice_get_within, get_or_from_slice_get}
+use Rattle.std.proofs.lemmas.List.{append-nil}
 use Rattle.txn_words.specs.declared.entry.Entry.{Entry}
 use Rattle.txn_words.specs.declared.holder.Holder.TheVariants.{Begun}
 use Rattle.txn_words.specs.declared.entry.Entry.TheVariants.{Asked, Did, Committed}
@@ -17,6 +16,7 @@ use Rattle.map_answers.specs.declared.stop.Stop.{Stop}
 use Rattle.std.specs.Borrow.{MutBor}
 use Rattle.shared_transactions.specs.Keeps.{Keeps}
 use Rattle.shared_transactions.specs.Within.{IsRun}
+use Rattle.shared_transactions.specs.Works.{AreDone}
 use Rattle.txn_words.specs.Map.{Map, get, insert}
 use Rattle.txn_trace.specs.Alone.{Run, act, alone}
 use Rattle.txn_trace.specs.Serial.{serial}
@@ -24,6 +24,8 @@ use Rattle.txn_trace.specs.Legal.{IsLegal}
 use Rattle.txn_words.proofs.Maps.{get-insert-here}
 use Rattle.txn_trace.proofs.Now.{same_option}
 use Rattle.txn_trace.proofs.Committing.{has_committed}
+use Rattle.txn_words.specs.Sizes.{Sizes}
+use Rattle.boost_core.specs.State.{State}
 use Rattle.core_tokens.specs.Tokens.{Token}
 use Rattle.locked_map.specs.Closes.{IsOwn}
 use Rattle.visits.specs.declared.visit.Visit.{Visit}
@@ -60,33 +62,14 @@ got_at_close visit reply me stripes h visited legal own_is =
       got = got_alone (serial committed.before) c visit visited.txn visited.before reply visited.place committed.replied;
     }
 
-mapped : {A B : Type 0} (f : A → B) (o : Option A) (y : B) → option_map f o ≡ Some y → (x : A) × (o ≡ Some x) × (f x ≡ y)
-mapped f None y is = absurd (cc is)
-mapped f (Some x) y is = (x, refl, cc is)
-
-if_ok : (visit : Visit) (reply : Option ℕ) (answer : Result (Option ℕ) Stop) {S : Type 0} (me : Token S) → answer ≡ Ok reply → IfOk answer (λ r. HasVisited visit r me) → HasVisited visit reply me
-if_ok visit reply answer me is made = subst (λ a. IfOk a (λ r. HasVisited visit r me)) is made
-
--- So all visitors are answered that have made their visits: `jobs` before and `visited` after.
-pub all_answered : {J V S : Type 0} (visit_of : J → Visit) (me_of : V → Token S) (answer_of : V → Result (Option ℕ) Stop) (visits : List Visit) (jobs : List J) (visited : List V) (stripes : ℕ) (h : List Entry)
-    → map visit_of jobs ≡ visits → length visited ≡ length jobs
-    → ((i : ℕ) (d : V) → i < length jobs → (job : J) × ((x : J) → slice_index_or jobs i x ≡ job) × IfOk (answer_of (slice_index_or visited i d)) (λ reply. HasVisited (visit_of job) reply (me_of (slice_index_or visited i d))))
-    → IsLegal Begun stripes h → All (IsOwn h) (map me_of visited) → AreAnswered h visits (map answer_of visited)
-all_answered visit_of me_of answer_of visits jobs visited stripes h visits_are count made_each legal own = record {
-  count = length-map visited answer_of ∙ count ∙ sym (length-map jobs visit_of) ∙ ap length visits_are;
+-- So all visitors are answered whose works have come to an end.
+pub all_answered : {S : Type 0} (limits : Sizes) (callers : ℕ) (visits : List Visit) (core : State) (answers : List (Result (Option ℕ) Stop))
+    → AreDone {S = S} (λ visit answer me. IfOk answer (λ reply. HasVisited visit reply me)) limits callers visits core answers → AreAnswered core.history visits answers
+all_answered limits callers visits core answers done = record {
+  count = done.count;
   each = λ i visit reply at_visit at_answer.
-      let (job, job_at, visit_is) = mapped visit_of (slice_get jobs i) visit (sym (slice_get-map visit_of jobs i) ∙ ap (λ vs. slice_get vs i) visits_are ∙ at_visit) in
-      let (v, v_at, answer_is) = mapped answer_of (slice_get visited i) (Ok reply) (sym (slice_get-map answer_of visited i) ∙ at_answer) in
-      let (same, same_is, made) = made_each i v (slice_get_within jobs i job job_at) in
-      let v_is : slice_index_or visited i v ≡ v = get_or_from_slice_get visited i v v v_at in
-      let job_is : same ≡ job = sym (same_is job) ∙ get_or_from_slice_get jobs i job job job_at in
-      let its : HasVisited visit reply (me_of (slice_index_or visited i v)) =
-      if_ok visit reply (answer_of (slice_index_or visited i v)) (me_of (slice_index_or visited i v)) (ap answer_of v_is ∙ answer_is)
-      (subst (λ w. IfOk (answer_of (slice_index_or visited i v)) (λ r. HasVisited w r (me_of (slice_index_or visited i v)))) (ap visit_of job_is ∙ visit_is) made) in
-      let within : i < length visited = slice_get_within visited i v v_at in
-      let mine : IsOwn h (me_of (slice_index_or visited i v)) =
-      subst (IsOwn h) (get_or-map me_of visited i v (me_of v) within) (own i (me_of v) (subst (λ n. i < n) (sym (length-map visited me_of)) within)) in
-      got_at_close visit reply (me_of (slice_index_or visited i v)) stripes h its legal mine;
+      let its = done.each i visit (Ok reply) at_visit at_answer in
+      got_at_close visit reply its.me core.limits.stripes core.history its.promised done.legal its.own;
 }
 
 -- Put, and then got.

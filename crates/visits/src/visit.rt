@@ -1,15 +1,16 @@
 //! What visitors of one map put and get, each in a thread of its own.
-ghost use Rattle.std.specs.Prelude.{◌≡◌, IfOk, map};
+ghost use Rattle.std.specs.Prelude.{◌≡◌, ◌⊎◌, IfOk, IfErr, length};
 ghost use Rattle.shared_transactions.specs.Keeps.{Keeps};
+ghost use Rattle.txn_words.specs.declared.refusal.Refusal.{Refusal};
+ghost use Rattle.shared_transactions.specs.Works.{IsUnrun};
 ghost use Rattle.visits.specs.Visits.{AreAnswered, HasDone, HasVisited};
 
 use boost_core::Core;
-use locked_map::{Caller, Closed, NoSide, Pass, SharedMap, Stop};
-use shared_transactions::{Retry, Transaction, transact};
-use std::alloc::{AllocError, Global};
+use locked_map::{Caller, NoSide, SharedMap, Stop};
+use shared_transactions::{Finished, Retry, Transaction, Work, run_works, transact};
+use std::alloc::Global;
 use std::sync::Wait;
-use std::sync::ledger::{Blank, Ledger};
-use std::thread;
+use std::sync::ledger::Ledger;
 use std::thread::Threads;
 use txn_trace::{Limits, Refusal, Reply};
 
@@ -60,71 +61,15 @@ impl Visit {
     }
 }
 
-/// A visitor before its visit.
-#[derive(Drop)]
-struct Visitor<L: Ledger> {
-    visit: Visit,
-    me: Caller<L, NoSide>,
-}
+/// Each visitor has a thread and a caller of its own.
+impl<R: Wait> Work<R> for Visit {
+    type Output = Answer;
 
-/// A visitor after its visit.
-#[derive(Drop)]
-struct Visited<L: Ledger> {
-    me: Caller<L, NoSide>,
-    answer: Answer,
-}
+    ghost promises = { λ visit answer me. IfOk answer (λ reply. HasVisited visit reply me) };
 
-impl<L: Ledger> Visitor<L> {
-    /// Makes the visit.
-    fn go<R: Wait>(self, rt: &R, map: &SharedMap<L>) -> Visited<L>
-        ensures { IfOk result.answer (λ reply. HasVisited self.visit reply result.me) }
-    {
-        let Visitor { visit, mut me } = self;
-        let answer = visit.make(rt, map, &mut me);
-        Visited { me, answer }
+    fn run<L: Ledger>(self, rt: &R, map: &SharedMap<L>, me: &mut Caller<L, NoSide>) -> Answer {
+        self.make(rt, map, me)
     }
-}
-
-/// A visitor for each visit, with a caller of its own.
-///
-/// # Errors
-///
-/// `CallersMissing` if there are more visits than passes, `NoMemory` if memory is refused.
-fn visitors_of<L: Ledger>(
-    alloc: Global,
-    mut passes: Vec<Pass<L>>,
-    visits: &[Visit],
-) -> Result<Vec<Visitor<L>>, Refusal>
-    ensures { IfOk result (λ visitors. map (λ v. v.visit) visitors.items ≡ visits.now) }
-{
-    let mut visitors = Vec::new(alloc);
-    for visit in visits {
-        let Some(pass) = passes.pop() else {
-            return Err(Refusal::CallersMissing);
-        };
-        let me = pass.caller(alloc, NoSide);
-        let Ok(()) = visitors.push(Visitor { visit: *visit, me }) else {
-            return Err(Refusal::NoMemory);
-        };
-    }
-    Ok(visitors)
-}
-
-/// The callers of visitors, and their answers.
-fn unzip<L: Ledger>(
-    alloc: Global,
-    visited: Vec<Visited<L>>,
-) -> Result<(Vec<Caller<L, NoSide>>, Vec<Answer>), AllocError>
-    ensures callers { IfOk result (λ r. r.0.items ≡ map (λ v. v.me) visited.items) }
-    ensures answers { IfOk result (λ r. r.1.items ≡ map (λ v. v.answer) visited.items) }
-{
-    let mut callers = Vec::new(alloc);
-    let mut answers = Vec::new(alloc);
-    for Visited { me, answer } in visited {
-        callers.push(me)?;
-        answers.push(answer)?;
-    }
-    Ok((callers, answers))
 }
 
 /// Makes a map, has each visitor visit it in a thread of its own, and closes it: its core, and an
@@ -133,35 +78,24 @@ fn unzip<L: Ledger>(
 ///
 /// # Errors
 ///
-/// `NoMemory` if memory is refused, `CallersMissing` if there are more visits than callers,
-/// `OutOfStep` if the map does not close, as with fewer visits than callers.
+/// `NoMemory` if memory is refused, `CallersMissing` only if there are more visits than callers,
+/// `OutOfStep` if the map does not close.
 ///
 /// # Cost
 ///
 /// A thread and a transaction for each visit, begun anew as long as its stripe is held, and that of
 /// the map's `new` and `close`.
-pub fn visit_all<L: Ledger + Send + Sync, R: Threads + Wait + Sync>(
+pub fn visit_all<R: Threads + Wait + Sync>(
     rt: &R,
     alloc: Global,
-    blank: Blank,
     limits: Limits,
     visits: &[Visit],
 ) -> Result<(Core, Vec<Answer>), Refusal>
-    requires name { blank.name ≡ L.name }
-    requires parts { blank.parts ≡ L.parts }
-    requires one_each { blank.parts ≡ limits.callers }
-    ensures { IfOk result (λ r. AreAnswered r.0.history visits.now r.1.items) }
+    ensures answered { IfOk result (λ r. AreAnswered r.0.history visits.now r.1.items) }
+    ensures err { IfErr result (λ refusal. (refusal ≡ Refusal.NoMemory)
+        ⊎ IsUnrun limits.callers (length visits.now) refusal) }
 {
-    let (map, passes) = SharedMap::<L>::new(alloc, blank, limits)?;
-    let visitors = visitors_of(alloc, passes, visits)?;
-    let Ok(visited) = thread::map_vec(rt, visitors, &|visitor| visitor.go(rt, &map)) else {
-        return Err(Refusal::NoMemory);
-    };
-    let Ok((callers, answers)) = unzip(alloc, visited) else {
-        return Err(Refusal::NoMemory);
-    };
-    match map.close(callers) {
-        Ok(Closed { core, callers: _ }) => Ok((core, answers)),
-        Err(_) => Err(Refusal::OutOfStep),
-    }
+    let visits = Vec::from_slice(alloc, visits)?;
+    let Finished { core, outcomes } = run_works(rt, alloc, limits, visits)?;
+    Ok((core, outcomes))
 }

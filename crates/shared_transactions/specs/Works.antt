@@ -1,0 +1,66 @@
+-- Works that threads do on one map, each with a caller of its own.
+use Rattle.std.specs.Prelude.{ℕ, ◌≡◌, ◌<◌, ◌≤◌, false, List, [], length, slice_get, Some, All}
+use Rattle.txn_words.specs.declared.entry.Entry.{Entry}
+use Rattle.txn_words.specs.declared.holder.Holder.TheVariants.{Begun}
+use Rattle.txn_words.specs.declared.refusal.Refusal.{Refusal}
+use Rattle.txn_words.specs.declared.refusal.Refusal.TheVariants.{CallersMissing, NoMemory, OutOfStep}
+use Rattle.txn_words.specs.Kinds.{caller_of}
+use Rattle.txn_words.specs.Sizes.{Sizes}
+use Rattle.txn_trace.specs.Legal.{IsLegal}
+use Rattle.boost_core.specs.State.{State}
+use Rattle.core_tokens.specs.Claims.{IsIdle}
+use Rattle.core_tokens.specs.Tokens.{Token}
+use Rattle.locked_map.specs.Closes.{IsOwn}
+
+-- A token with which nothing was done yet.
+pub record IsNew {S : Type 0} (k : Token S) : Type 0 where
+  pub seen : k.seen ≡ []
+  pub idle : IsIdle k.claims
+  pub sound : k.broken ≡ false
+
+-- Each token has the number of its place.
+abbrev pub AreNumbered : {S : Type 0} → List (Token S) → Type 0
+AreNumbered {S} ks = (i : ℕ) (k : Token S) → slice_get ks i ≡ Some k → k.number ≡ i
+
+-- A map of these limits was closed: its history is legal, the entries of these callers, each with
+-- the number of its place, are what they saw, and there are no other entries.
+pub record IsClosedBy {S : Type 0} (limits : Sizes) (ks : List (Token S)) (core : State) : Type 0
+  where
+    pub limits_are : core.limits ≡ limits
+    pub legal : IsLegal Begun core.limits.stripes core.history
+    pub numbered : AreNumbered ks
+    pub own : All (λ k. IsOwn core.history k) ks
+    pub only : All (λ e. caller_of e < length ks) core.history
+
+-- The work was done by the caller of its place, and came to this outcome: it keeps its promise, of
+-- a token with exactly the entries that this caller has in the history.
+pub record IsDoneIn {S W T : Type 0} (promises : W → T → Token S → Type 0) (h : List Entry)
+    (place : ℕ) (work : W) (outcome : T) : Type 0 where
+  pub me : Token S
+  pub number_is : me.number ≡ place
+  pub promised : promises work outcome me
+  pub own : IsOwn h me
+
+-- These works came to these outcomes on a map of these limits, each by the caller of its place. The
+-- map was closed: its history is legal, and has only entries of callers below this number.
+pub record AreDone {S W T : Type 0} (promises : W → T → Token S → Type 0) (limits : Sizes)
+    (callers : ℕ) (works : List W) (core : State) (outcomes : List T) : Type 0 where
+  pub limits_are : core.limits ≡ limits
+  pub legal : IsLegal Begun core.limits.stripes core.history
+  pub few : callers ≤ limits.callers
+  pub count : length outcomes ≡ length works
+  pub each : (i : ℕ) (work : W) (outcome : T) → slice_get works i ≡ Some work
+      → slice_get outcomes i ≡ Some outcome → IsDoneIn promises core.history i work outcome
+  pub only : All (λ e. caller_of e < callers) core.history
+
+-- Why a map was not closed: memory was refused, or the map did not close.
+abbrev pub IsUnclosed : Refusal → Type 0
+IsUnclosed NoMemory = Unit {0}
+IsUnclosed OutOfStep = Unit {0}
+IsUnclosed refusal = ⊥
+
+-- Why works that need this number of callers have no outcomes on a map of so many: it has too few,
+-- and then there is no other reason; or the map was not made or not closed.
+abbrev pub IsUnrun : ℕ → ℕ → Refusal → Type 0
+IsUnrun callers needed CallersMissing = callers < needed
+IsUnrun callers needed refusal = (needed ≤ callers) × IsUnclosed refusal

@@ -1,0 +1,318 @@
+//! Work that threads do on one map, each with a caller of its own, so that nobody else names the
+//! map's ledger.
+//!
+//! A closure cannot be generic over the ledger's name, so the work of a thread is a trait with a
+//! generic method, which starts no threads. A free function starts them: the toolchain proves that
+//! of it, and not of a trait's method.
+ghost use Rattle.std.specs.Prelude.{◌≡◌, ◌+◌, ◌≤◌, ◌<◌, true, IfOk, IfErr, All, length, map, Some};
+ghost use Rattle.std.specs.Prelude.{slice_get};
+ghost use Rattle.core_tokens.specs.Tokens.{Token};
+ghost use Rattle.core_tokens.specs.declared.no_side.NoSide.{NoSide};
+ghost use Rattle.shared_transactions.specs.Works.{AreDone, AreNumbered, IsClosedBy, IsDoneIn};
+ghost use Rattle.shared_transactions.specs.Works.{IsNew, IsUnclosed, IsUnrun};
+
+use crate::session::callers_of;
+use boost_core::Core;
+use locked_map::{Caller, Closed, NoSide, Pass, SharedMap};
+use std::alloc::{AllocError, Global};
+use std::marker::Brand;
+use std::sync::Wait;
+use std::sync::ledger::{Blank, Ledger};
+use std::thread;
+use std::thread::Threads;
+use txn_trace::{Limits, Refusal};
+
+/// The work of one thread on a map of threads, whatever the name of its ledger.
+pub trait Work<R> {
+    /// What comes of it.
+    type Output: Send + Drop;
+
+    /// What the work promises of its outcome, and of its caller's token afterwards. A work that
+    /// leaves this out promises nothing.
+    ghost promises: { Self → Self.Output → Token NoSide → Type 0 } = { λ work outcome me. Unit {0} };
+
+    /// Does it, with a caller that nobody else has and that has done nothing yet.
+    fn run<L: Ledger>(self, rt: &R, map: &SharedMap<L>, me: &mut Caller<L, NoSide>) -> Self::Output
+        requires { IsNew me.old }
+        ensures { promises self result me.new };
+}
+
+/// What came of works that threads did on one map.
+#[derive(Drop)]
+pub struct Finished<T> {
+    /// The core of the map, which was closed.
+    pub core: Core,
+    /// The outcome of each work, in their order.
+    pub outcomes: Vec<T>,
+}
+
+/// A work, with a caller that has done nothing.
+#[derive(Drop)]
+struct Seated<L: Ledger, W> {
+    work: W,
+    me: Caller<L, NoSide>,
+    ghost unused: { IsNew me },
+}
+
+/// A work that is done: its outcome, and its caller.
+#[derive(Drop)]
+struct Done<L: Ledger, T> {
+    outcome: T,
+    me: Caller<L, NoSide>,
+}
+
+/// A work with the caller of a pass.
+fn seat<L: Ledger, W>(alloc: Global, pass: Pass<L>, work: W) -> Seated<L, W>
+    ensures { result.work ≡ work }
+{
+    Seated {
+        work,
+        me: pass.caller(alloc, NoSide),
+    }
+}
+
+/// Each work with the caller of a pass, the last pass first. The other passes stay.
+///
+/// # Errors
+///
+/// `AllocError` if memory is refused.
+fn seat_all<L: Ledger, W: Drop>(
+    alloc: Global,
+    passes: &mut Vec<Pass<L>>,
+    works: Vec<W>,
+) -> Result<Vec<Seated<L, W>>, AllocError>
+    requires { length works.items ≤ length passes.old.items }
+    ensures { IfOk result (λ seated. map (λ s. s.work) seated.items ≡ works.items) }
+{
+    let mut seated = Vec::new(alloc);
+    for work in works {
+        let Some(pass) = passes.pop() else {
+            unreachable!()
+        };
+        seated.push(seat(alloc, pass, work))?;
+    }
+    Ok(seated)
+}
+
+/// Does a work.
+fn go<L: Ledger, R, W: Work<R>>(
+    rt: &R,
+    map: &SharedMap<L>,
+    seated: Seated<L, W>,
+) -> Done<L, W::Output>
+    ensures { W.promises seated.work result.outcome result.me }
+{
+    let Seated { work, mut me } = seated;
+    let outcome = work.run(rt, map, &mut me);
+    Done { outcome, me }
+}
+
+/// Does each work in a thread of its own.
+///
+/// # Errors
+///
+/// `AllocError` if memory is refused.
+fn go_all<L: Ledger + Send + Sync, R: Threads + Wait + Sync, W: Work<R> + Send + Drop>(
+    rt: &R,
+    map: &SharedMap<L>,
+    seated: Vec<Seated<L, W>>,
+) -> Result<Vec<Done<L, W::Output>>, AllocError>
+    ensures len { IfOk result (λ done. length done.items ≡ length seated.items) }
+    ensures each { IfOk result (λ done. (i : _) (s : _) (d : _) → slice_get seated.items i ≡ Some s
+        → slice_get done.items i ≡ Some d → W.promises s.work d.outcome d.me) }
+{
+    thread::map_vec(rt, seated, &|s| go(rt, map, s))
+}
+
+/// The callers of works that are done, and their outcomes.
+///
+/// # Errors
+///
+/// `AllocError` if memory is refused.
+fn unzip<L: Ledger, T: Drop>(
+    alloc: Global,
+    done: Vec<Done<L, T>>,
+) -> Result<(Vec<Caller<L, NoSide>>, Vec<T>), AllocError>
+    ensures callers { IfOk result (λ r. r.0.items ≡ map (λ d. d.me) done.items) }
+    ensures outcomes { IfOk result (λ r. r.1.items ≡ map (λ d. d.outcome) done.items) }
+{
+    let mut callers = Vec::new(alloc);
+    let mut outcomes = Vec::new(alloc);
+    for Done { outcome, me } in done {
+        callers.push(me)?;
+        outcomes.push(outcome)?;
+    }
+    Ok((callers, outcomes))
+}
+
+/// Whether each caller has the number of its place.
+fn are_numbered<L: Ledger>(callers: &[Caller<L, NoSide>]) -> bool
+    ensures { result ≡ true → AreNumbered callers.now }
+{
+    for place in 0..callers.len() {
+        if callers[place].number() != place as u64 {
+            return false;
+        }
+    }
+    true
+}
+
+/// Closes a map with the callers that worked on it, if each has the number of its place, and with
+/// those that did nothing.
+///
+/// # Errors
+///
+/// `NoMemory` if memory is refused, `OutOfStep` if the map does not close.
+fn close<L: Ledger>(
+    map: SharedMap<L>,
+    mut callers: Vec<Caller<L, NoSide>>,
+    mut unused: Vec<Caller<L, NoSide>>,
+) -> Result<Core, Refusal>
+    requires parts { map.limits.callers ≡ L.parts }
+    requires unused { All IsNew unused.items }
+    ensures ok { IfOk result (IsClosedBy map.limits callers.items) }
+    ensures err { IfErr result IsUnclosed }
+{
+    if !are_numbered(callers.as_slice()) {
+        return Err(Refusal::OutOfStep);
+    }
+    callers.append(&mut unused)?;
+    match map.close(callers) {
+        Ok(Closed { core, callers: _ }) => Ok(core),
+        Err(_) => Err(Refusal::OutOfStep),
+    }
+}
+
+/// Makes a map of threads, which picks its ledger's name, does each work in a thread of its own,
+/// and closes the map. Work `i` has caller `i`; the other callers do nothing. Where no thread can
+/// be started, works are done one after the other.
+///
+/// With `Ok` each work keeps its promise, of a token with exactly the entries that its caller has
+/// in the core's history. The history is legal by the rule that a Busy may name any other caller
+/// that has begun a transaction, and has no other entries.
+///
+/// # Errors
+///
+/// - `CallersMissing` exactly if there are more works than callers; no work is done then.
+/// - `NoMemory` if memory is refused for the map, for the threads or for the outcomes.
+/// - `OutOfStep` if the map does not close: a token is not the one that its work was given, or has
+///   not seen what the history says.
+///
+/// # Cost
+///
+/// That of the works, of `SharedMap::new` and of `SharedMap::close`; a thread for each work.
+pub fn run_works<R: Threads + Wait + Sync, W: Work<R> + Send + Drop>(
+    rt: &R,
+    alloc: Global,
+    limits: Limits,
+    works: Vec<W>,
+) -> Result<Finished<W::Output>, Refusal>
+    ensures ok { IfOk result (λ r. AreDone W.promises limits (length works.items) works.items
+        r.core r.outcomes.items) }
+    ensures err { IfErr result (IsUnrun limits.callers (length works.items)) }
+{
+    if works.len() as u64 > u64::from(limits.callers()) {
+        return Err(Refusal::CallersMissing);
+    }
+    let blank = Blank::new(u64::from(limits.callers()));
+    run_under::<Brand, R, W>(rt, alloc, blank, limits, works)
+}
+
+/// `run_works`, after another work was done in this thread, by the caller whose number is that of
+/// the works: an opening, which gives the map its first pairs. Answers its outcome too.
+///
+/// With `Ok` the opening keeps its promise as the works do, and the history has no entries but
+/// theirs. That those of the opening are the first no clause says, since no contract sees through
+/// the map's lock; they are, as no other thread has been started before.
+///
+/// # Errors
+///
+/// Those of `run_works`; `CallersMissing` exactly if there are not more callers than works.
+///
+/// # Cost
+///
+/// That of `run_works` and of the opening.
+pub fn run_works_after<R: Threads + Wait + Sync, O: Work<R> + Drop, W: Work<R> + Send + Drop>(
+    rt: &R,
+    alloc: Global,
+    limits: Limits,
+    opening: O,
+    works: Vec<W>,
+) -> Result<(O::Output, Finished<W::Output>), Refusal>
+    ensures opening { IfOk result (λ r. IsDoneIn O.promises r.1.core.history
+        (length works.items) opening r.0) }
+    ensures works { IfOk result (λ r. AreDone W.promises limits (length works.items + 1)
+        works.items r.1.core r.1.outcomes.items) }
+    ensures err { IfErr result (IsUnrun limits.callers (length works.items + 1)) }
+{
+    if works.len() as u64 >= u64::from(limits.callers()) {
+        return Err(Refusal::CallersMissing);
+    }
+    let blank = Blank::new(u64::from(limits.callers()));
+    open_under::<Brand, R, O, W>(rt, alloc, blank, limits, opening, works)
+}
+
+/// `run_works` under a ledger that has a name, if there are no more works than callers.
+fn run_under<L: Ledger + Send + Sync, R: Threads + Wait + Sync, W: Work<R> + Send + Drop>(
+    rt: &R,
+    alloc: Global,
+    blank: Blank,
+    limits: Limits,
+    works: Vec<W>,
+) -> Result<Finished<W::Output>, Refusal>
+    requires name { blank.name ≡ L.name }
+    requires parts { blank.parts ≡ L.parts }
+    requires one_each { blank.parts ≡ limits.callers }
+    requires few { length works.items ≤ limits.callers }
+    ensures ok { IfOk result (λ r. AreDone W.promises limits (length works.items) works.items
+        r.core r.outcomes.items) }
+    ensures err { IfErr result (IsUnrun limits.callers (length works.items)) }
+{
+    let (map, mut passes) = SharedMap::<L>::new(alloc, blank, limits)?;
+    passes.reverse();
+    let seated = seat_all(alloc, &mut passes, works)?;
+    let done = go_all(rt, &map, seated)?;
+    let unused = callers_of(alloc, passes)?;
+    let (callers, outcomes) = unzip(alloc, done)?;
+    let core = close(map, callers, unused)?;
+    Ok(Finished { core, outcomes })
+}
+
+/// `run_works_after` under a ledger that has a name, if there are more callers than works.
+fn open_under<
+    L: Ledger + Send + Sync,
+    R: Threads + Wait + Sync,
+    O: Work<R> + Drop,
+    W: Work<R> + Send + Drop,
+>(
+    rt: &R,
+    alloc: Global,
+    blank: Blank,
+    limits: Limits,
+    opening: O,
+    works: Vec<W>,
+) -> Result<(O::Output, Finished<W::Output>), Refusal>
+    requires name { blank.name ≡ L.name }
+    requires parts { blank.parts ≡ L.parts }
+    requires one_each { blank.parts ≡ limits.callers }
+    requires few { length works.items < limits.callers }
+    ensures opening { IfOk result (λ r. IsDoneIn O.promises r.1.core.history
+        (length works.items) opening r.0) }
+    ensures works { IfOk result (λ r. AreDone W.promises limits (length works.items + 1)
+        works.items r.1.core r.1.outcomes.items) }
+    ensures err { IfErr result (IsUnrun limits.callers (length works.items + 1)) }
+{
+    let (map, mut passes) = SharedMap::<L>::new(alloc, blank, limits)?;
+    let pass = passes.remove(works.len());
+    let Done { outcome, me } = go(rt, &map, seat(alloc, pass, opening));
+    passes.reverse();
+    let seated = seat_all(alloc, &mut passes, works)?;
+    let done = go_all(rt, &map, seated)?;
+    let unused = callers_of(alloc, passes)?;
+    let (mut callers, outcomes) = unzip(alloc, done)?;
+    let Ok(()) = callers.push(me) else {
+        return Err(Refusal::NoMemory);
+    };
+    let core = close(map, callers, unused)?;
+    Ok((outcome, Finished { core, outcomes }))
+}
