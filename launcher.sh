@@ -3,16 +3,18 @@
 #
 #   root     the top of the repository
 #   program  the program's crate
+#   last     the libraries that wait for each other at the end of a build, lowest first
 #   trial    arguments of a call of the program that ends with status 0
 #   look     a command that runs the program without a proof
 #
 # and have defined `is_call`, which says whether arguments are a call of the program, and `usage`, which
 # prints its usage.
 #
-# If the program is not built yet, or one of its sources is newer, `rt ci` proves and builds it first,
-# in a folder of the system's with only the crates that it stands on: as many crates at the same time
-# as there are processors, and first those for which the build waits longest. That keeps nothing but
-# the program. If `rt run` has built the program before, as it is told to people who change sources,
+# If the program is not built yet, or one of its sources is newer, it is proved and built first, in a
+# folder of the system's with only the crates that it stands on. `rt ci` proves most of them, as many at
+# the same time as there are processors. The last ones wait for each other, and `rt ci` would leave half
+# of the processors idle; so `rattle build` proves each of these with all processors, over what `rt ci`
+# has proved, and builds the program. That keeps nothing but the program. If `rt run` has built the program before, as it is told to people who change sources,
 # then `rt run` builds it again, over what it has kept. Standard error shows the progress. If the build
 # fails, the status is 125, which no other call returns. RT names a command to run instead of rt.
 # shellcheck shell=bash disable=SC2154
@@ -57,10 +59,12 @@ needs_build() {
         \( -name '*.rt' -o -name '*.antt' \) -newer "$built" -print -quit)" ]
 }
 
-# Lays out the program's crates in a folder, without their wrong bodies and what was built of them.
+# Lays out crates in a folder, beside those that are there, without their wrong bodies and what was
+# built of them.
 lay_out() {
     local folder=$1 name part
-    for name in $(crates); do
+    shift
+    for name; do
         mkdir -p -- "$folder/crates/$name" || return 1
         for part in "$root/crates/$name"/*; do
             case ${part##*/} in
@@ -70,9 +74,59 @@ lay_out() {
         done
     done
     cp -- "$root/HANDLES" "$folder"
-    awk -v names=" $(crates | tr '\n' ' ')" '
+    awk -v names=" $* " '
         { name = $1; sub(/:$/, "", name) }
-        index(names, " " name " ")' "$root/crates.txt" >"$folder/crates.txt"
+        index(names, " " name " ")' "$root/crates.txt" >>"$folder/crates.txt"
+}
+
+# Prints the libraries that a crate names in the folder's crates.txt, each on a line.
+named_by() {
+    awk -v name="$1" '
+        $1 == name || $1 == name ":" {
+            sub(/^[^:]*:/, "")
+            for (i = 1; i <= NF; i++) print $i
+        }' crates.txt
+}
+
+# Proves a crate of the folder, over the libraries that were proved there: a library for the crates above
+# it, or the program, which is built too.
+prove() {
+    local name=$1 kit library place
+    kit=$(dirname -- "$("${RT:-rt}" doc)") || return 1
+    local -a words=(--extern "std=$kit/rlibs/std.rlib" -L "dependency=$kit/rlibs" --jobs "$(nproc)"
+        --antt-project "$kit/rattle/logic/antt-project.json" --logic-built "$kit/logic_built" --links "$name=")
+    for library in $(named_by "$name"); do
+        place=$PWD/crates/$library/out/rlib
+        [ -d "$place" ] || place=$kit/rlibs
+        words+=(--extern "$library=$place/$library.rlib")
+    done
+    for place in "$PWD"/crates/*/out/rlib; do words+=(-L "dependency=$place"); done
+    cd -- "crates/$name" && mkdir -p out/rlib || return 1
+    if [ "$name" != "$program" ]; then
+        "$kit/bin/rattle" build --crate-name "$name" src/lib.rt "${words[@]}" --statements -o "out/rlib/$name.rlib"
+    else
+        "$kit/bin/rattle" build --crate-name "$name" src/main.rt "${words[@]}" --toolchain "$kit/toolchain" \
+            --backend llvm -o "out/$name.o" &&
+            "$kit/bin/rattle-link" --target x86_64-unknown-linux-gnu --toolchain "$kit/toolchain" \
+                -o "out/$name" "out/$name.o" "$kit/c/libos_c.a" "$kit/c/liblibc_c.a"
+    fi
+}
+
+# Proves the program's crates in a folder, and builds the program.
+prove_all() {
+    local name
+    local -a first=()
+    for name in $(crates); do
+        case " ${last[*]} $program " in
+            *" $name "*) ;;
+            *) first+=("$name") ;;
+        esac
+    done
+    lay_out . "${first[@]}" && "${RT:-rt}" ci && lay_out . "${last[@]}" "$program" || return 1
+    for name in "${last[@]}" "$program"; do
+        (prove "$name") || return 1
+        echo "rt: $name proved"
+    done
 }
 
 # Says how long a build takes.
@@ -84,7 +138,7 @@ say_how_long() {
         "For a first look: $look" >&2
 }
 
-# Passes on what `rt ci` writes, and says on standard error how many of the crates are proved.
+# Passes on what `prove_all` writes, and says on standard error how many of the crates are proved.
 show_progress() {
     local count=$1 number=0 line
     while IFS= read -r line; do
@@ -101,9 +155,8 @@ build_from_nothing() {
     local folder=$1 count
     count=$(crates | wc -l)
     say_how_long "$count"
-    lay_out "$folder" || return 1
     (set -o pipefail
-        cd -- "$folder" && "${RT:-rt}" ci 2>&1 </dev/null | show_progress "$count" >"$folder/log") &&
+        cd -- "$folder" && prove_all 2>&1 </dev/null | show_progress "$count" >"$folder/log") &&
         mv -- "$folder/crates/$program/out/$program" "$built"
 }
 
