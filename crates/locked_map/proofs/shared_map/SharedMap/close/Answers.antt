@@ -44,3 +44,54 @@ returns-then-is_seen-clause-counted g c =
 pub returns-else-is_seen-clause-counted_too : goal.returns-else-is_seen-clause-counted_too
 returns-else-is_seen-clause-counted_too g c =
     subst (λ ks. AreCounted c.into_core-core.result.0.history ks) c.as_mut_slice.ensures.value c.into_core-core.ensures.counted
+
+pub returns-then-not-has_all-clause-callers : goal.returns-then-not-has_all-clause-callers
+returns-then-not-has_all-clause-callers g c = tt
+
+pub returns-then-not-has_all-clause-limits : goal.returns-then-not-has_all-clause-limits
+returns-then-not-has_all-clause-limits g c = tt
+
+pub returns-then-not-has_all-clause-legal : goal.returns-then-not-has_all-clause-legal
+returns-then-not-has_all-clause-legal g c = tt
+
+pub returns-then-not-has_all-clause-own : goal.returns-then-not-has_all-clause-own
+returns-then-not-has_all-clause-own g c = tt
+
+pub returns-then-not-has_all-clause-here : goal.returns-then-not-has_all-clause-here
+returns-then-not-has_all-clause-here g c = tt
+
+pub returns-then-not-has_all-clause-counted : goal.returns-then-not-has_all-clause-counted
+returns-then-not-has_all-clause-counted g c = tt
+
+pub returns-then-not-has_all-clause-counted_too : goal.returns-then-not-has_all-clause-counted_too
+returns-then-not-has_all-clause-counted_too g c = tt
+
+pub returns-then-is_seen-clause-back : goal.returns-then-is_seen-clause-back
+returns-then-is_seen-clause-back g c = tt
+
+pub returns-then-is_seen-clause-why : goal.returns-then-is_seen-clause-why
+returns-then-is_seen-clause-why g c = tt
+
+pub returns-then-is_seen-clause-beside : goal.returns-then-is_seen-clause-beside
+returns-then-is_seen-clause-beside g c = tt
+
+pub returns-then-is_seen-clause-counted_too : goal.returns-then-is_seen-clause-counted_too
+returns-then-is_seen-clause-counted_too g c = tt
+
+pub returns-else-is_seen-clause-callers : goal.returns-else-is_seen-clause-callers
+returns-else-is_seen-clause-callers g c = tt
+
+pub returns-else-is_seen-clause-limits : goal.returns-else-is_seen-clause-limits
+returns-else-is_seen-clause-limits g c = tt
+
+pub returns-else-is_seen-clause-legal : goal.returns-else-is_seen-clause-legal
+returns-else-is_seen-clause-legal g c = tt
+
+pub returns-else-is_seen-clause-own : goal.returns-else-is_seen-clause-own
+returns-else-is_seen-clause-own g c = tt
+
+pub returns-else-is_seen-clause-here : goal.returns-else-is_seen-clause-here
+returns-else-is_seen-clause-here g c = tt
+
+pub returns-else-is_seen-clause-counted : goal.returns-else-is_seen-clause-counted
+returns-else-is_seen-clause-counted g c = tt
