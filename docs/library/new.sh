@@ -23,14 +23,12 @@ for crate in $below; do
 done
 # may_wait is the number of the crate's functions that may wait: the last line of its check prints it, and `rt verdict`
 # compares it.
-echo "counter may_wait=6: txn_trace boost_core locked_map shared_transactions anyhow" >>"$there/crates.txt"
+echo "counter may_wait=4: txn_trace boost_core locked_map shared_transactions anyhow" >>"$there/crates.txt"
 echo "Handles allowed: Threads, Wait." >"$there/HANDLES"
 printf 'out/\n' >"$there/.gitignore"
 for text in counter main; do
   cp "$here/docs/library/counter/$text.rt.txt" "$there/crates/counter/src/$text.rt"
 done
 touch "$there/crates/counter/specs/Lib.antt" "$there/crates/counter/proofs/Lib.antt"
-mkdir -p "$there/crates/counter/proofs/counter/count_all"
-cp "$here/docs/library/counter/Invariants.antt.txt" "$there/crates/counter/proofs/counter/count_all/Invariants.antt"
 printf 'counted to 200\n' >"$there/crates/counter/stdout"
 echo "laid out. Next: cd $there/crates/counter && rt try"
