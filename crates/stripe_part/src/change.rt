@@ -64,12 +64,8 @@ pub(crate) fn apply(map: &mut ProbeMap, owed: &mut usize, op: Op) -> Result<Repl
     if !op.may_change() {
         return Ok(map.get(op.key()));
     }
-    let Some(room) = owed.checked_add(2) else {
-        return Err(Refusal::NoMemory);
-    };
-    if map.reserve(room).is_err() {
-        return Err(Refusal::NoMemory);
-    }
+    let room = owed.checked_add(2).ok_or(Refusal::NoMemory)?;
+    map.reserve(room)?;
     let reply = act(map, op);
     if op.changes(reply) {
         *owed += 1;

@@ -44,9 +44,7 @@ fn begin(alloc: Global, op: Op) -> Result<(Box<CountedMap>, Reply), Refusal>
     ensures ok { IfOk result (λ made. Does nothing made.0.value op made.1) }
     ensures err { IfErr result (IsRefused op) }
 {
-    let Ok(mut made) = Box::new(alloc, CountedMap::new(alloc)) else {
-        return Err(Refusal::NoMemory);
-    };
+    let mut made = Box::new(alloc, CountedMap::new(alloc)).map_err(|_| Refusal::NoMemory)?;
     let reply = made.apply(op)?;
     Ok((made, reply))
 }
@@ -82,9 +80,7 @@ impl Part {
             return Ok(Part::new());
         }
         let made = CountedMap::with_capacity(alloc, keys)?;
-        let Ok(inner) = Box::new(alloc, made) else {
-            return Err(AllocError);
-        };
+        let inner = Box::new(alloc, made)?;
         Ok(Part { inner: Some(inner) })
     }
 
