@@ -1,5 +1,5 @@
-use Rattle.std.proofs.Common.{refl, ap, subst, ◌∙◌}
-use Rattle.core_tokens.specs.Holds.{GoesTo, HasRun, out_if}
+use Rattle.std.proofs.Common.{refl, subst, ◌∙◌}
+use Rattle.core_tokens.specs.Holds.{GoesTo}
 use Rattle.locked_map.proofs.Driving.{starts, holds_on, is_held}
 use Rattle.locked_map.proofs.shared_map.SharedMap.drive.Goals as goal
 
@@ -24,23 +24,3 @@ loop-preserved g c =
 
 pub returns-in-Some-end-clause-held : goal.returns-in-Some-end-clause-held
 returns-in-Some-end-clause-held g c = is_held _ _ _ _ _ _ _ _ _ _ c.loop.invariant.holding c.in-Some-end.is c.hold-end.ensures.held
-
-pub returns-in-Some-end-clause-side : goal.returns-in-Some-end-clause-side
-returns-in-Some-end-clause-side g c = c.hold-end.ensures.same ∙ c.loop.invariant.side
-
-pub returns-in-Some-end-clause-caller : goal.returns-in-Some-end-clause-caller
-returns-in-Some-end-clause-caller g c = record { number = c.hold-end.ensures.caller.number ∙ c.loop.invariant.number; limits = c.hold-end.ensures.caller.limits ∙ c.loop.invariant.limits }
-
-pub returns-in-Some-end-clause-claims : goal.returns-in-Some-end-clause-claims
-returns-in-Some-end-clause-claims g c = c.hold-end.ensures.claims ∙ c.loop.invariant.claims
-
-pub returns-in-Some-end-clause-broken : goal.returns-in-Some-end-clause-broken
-returns-in-Some-end-clause-broken g c = c.hold-end.ensures.broken ∙ ap out_if c.in-Some-end.is
-
-pub returns-in-Some-end-clause-run : goal.returns-in-Some-end-clause-run
-returns-in-Some-end-clause-run g c =
-    let base = c.args.me.now.seen in
-    let seen = c.hold-end.new.self.seen in
-    let ends = subst (GoesTo base seen c.hold-end.new.drive) c.in-Some-end.is (c.hold-end.ensures.goes base c.loop.invariant.going) in
-    subst (λ n. HasRun base seen n c.args.call c.in-Some-end.end) (c.hold-end.ensures.drive.0 ∙ c.loop.invariant.caller)
-    (subst (λ call. HasRun base seen c.hold-end.new.drive.caller call c.in-Some-end.end) (c.hold-end.ensures.drive.1 ∙ c.loop.invariant.call) ends)
