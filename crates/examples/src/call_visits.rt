@@ -3,9 +3,7 @@
 use boost_core::Core;
 use std::io;
 use std::io::Print;
-use std::marker::Brand;
 use std::sync::Wait;
-use std::sync::ledger::Blank;
 use std::thread::Threads;
 use txn_words::{Limits, Refusal};
 use visits::{Answer, Visit, visit_all};
@@ -38,8 +36,7 @@ fn say_all<R: Print + AllocGlobal>(rt: &R, answers: &[Answer]) -> io::Result<()>
 /// Lets the visitors visit a new map.
 fn visit<R: Threads + Wait + Sync + AllocGlobal>(rt: &R) -> Result<(Core, Vec<Answer>), Refusal> {
     let limits = Limits::new(4, 8, 8)?;
-    let blank = Blank::new(u64::from(limits.callers()));
-    visit_all::<Brand, R>(rt, rt.alloc(), blank, limits, VISITS.as_slice())
+    visit_all(rt, rt.alloc(), limits, VISITS.as_slice())
 }
 
 /// Prints what each visitor put and got, and then the number of keys of the map.

@@ -4,9 +4,8 @@
 ghost use Rattle.std.specs.Prelude.{◌≡◌};
 ghost use Rattle.shared_transactions.specs.Keeps.{Keeps};
 
-use crate::transfers::close;
 use boost_core::Core;
-use locked_map::{Caller, NoSide, SharedMap, Stop};
+use locked_map::{Caller, Closed, NoSide, SharedMap, Stop};
 use shared_transactions::{Retry, Transaction, callers_of, transact};
 use std::alloc::{AllocError, Global};
 use std::io::Print;
@@ -205,6 +204,16 @@ fn say<R: Print + AllocGlobal>(rt: &R, core: &Core) -> io::Result<()> {
         "jobs {JOBS}, finished {jobs}, each once: {}",
         count == jobs
     )
+}
+
+/// The core of a map that is closed.
+fn close<L: Ledger>(map: SharedMap<L>, callers: Vec<Caller<L, NoSide>>) -> Result<Core, Refusal>
+    requires { map.limits.callers ≡ L.parts }
+{
+    match map.close(callers) {
+        Ok(Closed { core, callers: _ }) => Ok(core),
+        Err(_) => Err(Refusal::OutOfStep),
+    }
 }
 
 /// Does all jobs, and prints how many are finished and how often one was done.

@@ -3,19 +3,17 @@
 //!
 //! Each transfer is one transaction, which reads two accounts and writes both. If another thread
 //! has a key's stripe, the transaction is aborted and tried again, as often as it takes.
-ghost use Rattle.std.specs.Prelude.{◌≡◌};
 ghost use Rattle.shared_transactions.specs.Keeps.{Keeps};
 
 use boost_core::Core;
-use locked_map::{Caller, Closed, NoSide, SharedMap, Stop};
-use shared_transactions::{Retry, Transaction, callers_of, transact};
+use locked_map::{Caller, NoSide, SharedMap, Stop};
+use shared_transactions::{Retry, Transaction, Work, run_works_after, transact};
 use std::alloc::{AllocError, Global};
+use std::io;
 use std::io::Print;
-use std::marker::Brand;
 use std::sync::Wait;
-use std::sync::ledger::{Blank, Ledger};
+use std::sync::ledger::Ledger;
 use std::thread::Threads;
-use std::{io, thread};
 use txn_words::{Limits, Refusal};
 
 /// The number of threads. Each has its own caller.
@@ -76,97 +74,51 @@ impl Transfer {
     }
 }
 
-/// Makes a transfer, or opens the accounts if there is none, in a transaction, which is tried again
-/// as often as it takes.
-fn commit<L: Ledger, R: Wait>(
-    t: &mut Transaction<'_, L, R>,
-    transfer: Option<Transfer>,
-) -> Result<(), Stop> {
-    let work = |t: &mut Transaction<'_, L, R>| make_or_open(t, transfer);
-    transact(&mut *t, Retry::FOREVER, work)?;
-    Ok(())
-}
+/// Opens all accounts, in one transaction.
+#[derive(Clone, Copy)]
+struct Opening;
 
-/// Makes a transfer, or opens the accounts if there is none.
-fn make_or_open<L: Ledger, R: Wait>(
-    t: &mut Transaction<'_, L, R>,
-    transfer: Option<Transfer>,
-) -> Result<(), Stop>
-    ensures { Keeps t.old.me t.new.me }
-{
-    match transfer {
-        Some(transfer) => transfer.make(t),
-        None => open(t),
+impl<R: Wait> Work<R> for Opening {
+    type Output = Result<(), Stop>;
+
+    fn run<L: Ledger>(
+        self,
+        rt: &R,
+        map: &SharedMap<L>,
+        me: &mut Caller<L, NoSide>,
+    ) -> Result<(), Stop> {
+        let opens = |t: &mut Transaction<'_, L, R>| open(t);
+        transact(&mut Transaction::new(rt, map, me), Retry::FOREVER, opens)?;
+        Ok(())
     }
 }
 
-/// Makes all transfers of one thread, each in a transaction.
-fn work<L: Ledger, R: Wait>(rt: &R, map: &SharedMap<L>, me: &mut Caller<L, NoSide>) {
-    for round in 0..TRANSFERS {
-        let transfer = Transfer::of_round(me.number(), round);
-        let _ = commit(&mut Transaction::new(rt, map, me), Some(transfer));
-    }
+/// All transfers of one thread, each in a transaction.
+#[derive(Clone, Copy)]
+struct Transfers {
+    rounds: u64,
 }
 
-/// The first caller opens all accounts, and then each caller works in its own thread.
-fn work_all<L: Ledger + Send + Sync, R: Threads + Wait + Sync>(
-    rt: &R,
-    map: &SharedMap<L>,
-    callers: &mut [Caller<L, NoSide>],
-) -> Result<(), Stop> {
-    if let Some(first) = callers.first_mut() {
-        commit(&mut Transaction::new(rt, map, first), None)?;
-    }
-    thread::scope(thread::scope_env(), rt, |scope| {
-        for me in callers {
-            let _ = scope.spawn(move || work(rt, map, me));
+impl<R: Wait> Work<R> for Transfers {
+    type Output = ();
+
+    fn run<L: Ledger>(self, rt: &R, map: &SharedMap<L>, me: &mut Caller<L, NoSide>) {
+        for round in 0..self.rounds {
+            let transfer = Transfer::of_round(me.number(), round);
+            let makes = |t: &mut Transaction<'_, L, R>| transfer.make(t);
+            let _ = transact(&mut Transaction::new(rt, map, me), Retry::FOREVER, makes);
         }
-    });
-    Ok(())
-}
-
-/// The core after all transfers.
-fn play_all<L: Ledger + Send + Sync, R: Threads + Wait + Sync>(
-    rt: &R,
-    alloc: Global,
-    blank: Blank,
-    limits: Limits,
-) -> Result<Core, Refusal>
-    requires name { blank.name ≡ L.name }
-    requires parts { blank.parts ≡ L.parts }
-    requires one_each { blank.parts ≡ limits.callers }
-{
-    let (map, passes) = SharedMap::<L>::new(alloc, blank, limits)?;
-    match callers_of(alloc, passes) {
-        Ok(callers) => work_and_close(rt, map, callers),
-        Err(AllocError) => Err(Refusal::NoMemory),
     }
 }
 
-/// The core of a map on which all transfers are made.
-fn work_and_close<L: Ledger + Send + Sync, R: Threads + Wait + Sync>(
-    rt: &R,
-    map: SharedMap<L>,
-    mut callers: Vec<Caller<L, NoSide>>,
-) -> Result<Core, Refusal>
-    requires { map.limits.callers ≡ L.parts }
-{
-    match work_all(rt, &map, callers.as_mut_slice()) {
+/// The core after all transfers. The opening needs a caller too.
+fn play_all<R: Threads + Wait + Sync>(rt: &R, alloc: Global) -> Result<Core, Refusal> {
+    let limits = Limits::new(THREADS + 1, 8, 8)?;
+    let works = Vec::from_slice(alloc, &[Transfers { rounds: TRANSFERS }; THREADS as usize])?;
+    let (opened, finished) = run_works_after(rt, alloc, limits, Opening, works)?;
+    match opened {
         Err(Stop::Refused(refusal)) => Err(refusal),
-        _ => close(map, callers),
-    }
-}
-
-/// The core of a map that is closed.
-pub(crate) fn close<L: Ledger>(
-    map: SharedMap<L>,
-    callers: Vec<Caller<L, NoSide>>,
-) -> Result<Core, Refusal>
-    requires { map.limits.callers ≡ L.parts }
-{
-    match map.close(callers) {
-        Ok(Closed { core, callers: _ }) => Ok(core),
-        Err(_) => Err(Refusal::OutOfStep),
+        _ => Ok(finished.core),
     }
 }
 
@@ -187,11 +139,7 @@ fn say<R: Print + AllocGlobal>(rt: &R, core: &Core) -> io::Result<()> {
 
 /// Makes all transfers, and prints the sum of all accounts.
 pub(crate) fn show<R: Threads + Wait + Sync + Print + AllocGlobal>(rt: &R) -> io::Result<()> {
-    let Ok(limits) = Limits::new(THREADS, 8, 8) else {
-        return println!(rt; "limits");
-    };
-    let blank = Blank::new(u64::from(limits.callers()));
-    match play_all::<Brand, R>(rt, rt.alloc(), blank, limits) {
+    match play_all(rt, rt.alloc()) {
         Ok(core) => say(rt, &core),
         Err(refusal) => println!(rt; "refused: {}", refusal.text()),
     }
