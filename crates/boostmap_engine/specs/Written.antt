@@ -17,6 +17,17 @@ IsRead remaining bytes = IfSome remaining (λ all. bytes ≡ take max_read all)
 abbrev pub AppendsPart : Option (List ℕ) → Option (List ℕ) → List ℕ → Type 0
 AppendsPart old new text = (n : ℕ) × (n < length text) × Appends old new (take n text)
 
+-- The output at a fault of writing a text: a proper beginning of it if a write failed, and nothing
+-- if memory was refused.
+abbrev pub LeavesText : Option (List ℕ) → Option (List ℕ) → List ℕ → Fault → Type 0
+LeavesText old new text faults.Write = AppendsPart old new text
+LeavesText old new text faults.NoMemory = Keeps old new
+LeavesText old new text (faults.Input fault) = ⊥
+LeavesText old new text faults.Usage = ⊥
+LeavesText old new text faults.NoThread = ⊥
+LeavesText old new text faults.Read = ⊥
+LeavesText old new text faults.OutOfStep = ⊥
+
 -- The reason why bytes have no text: they are refused as a file, or memory was refused.
 abbrev pub HasNone : (List ℕ → FileFault → Type 0) → List ℕ → Fault → Type 0
 HasNone IsRefused bytes (faults.Input fault) = IsRefused bytes fault

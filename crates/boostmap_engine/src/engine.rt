@@ -1,5 +1,6 @@
-//! The engines of three commands, over a reader and a writer. Each reads its whole input, makes its
-//! whole text, and only then writes. So a fault before the first write leaves the output unchanged.
+//! The engines of three commands, over a reader and a writer. Each reads its whole input, and takes
+//! all of its memory, and only then writes. So a fault before the first write leaves the output
+//! unchanged.
 ghost use Rattle.std.specs.Prelude.{OnOk, IfOk, IfErr};
 ghost use Rattle.boostmap_engine.specs.Written.{Writes, Leaves};
 ghost use Rattle.boostmap_engine.specs.Report.{IsReportOf, IsNoStepFile};
@@ -10,7 +11,7 @@ use crate::fault::Fault;
 use crate::input::read_input;
 use crate::judgement::{is_legal, judge, line_of};
 use crate::mixture::mixture;
-use crate::output::write_text;
+use crate::output::{write_history, write_text};
 use crate::report::report;
 use std::alloc::Global;
 use std::io::{Read, Write};
@@ -118,5 +119,11 @@ pub fn mix<R: Read, W: Write>(
 {
     let bytes = read_input(alloc, input)?;
     let history = mixture(alloc, seed, bytes)?;
-    write_text(output, history.as_bytes())
+    write_history(
+        alloc,
+        output,
+        history.version,
+        history.stripes,
+        &history.entries,
+    )
 }

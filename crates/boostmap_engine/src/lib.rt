@@ -9,7 +9,7 @@
 //!   the history.
 //!
 //! The engine of `run` is in `boostmap_program`, since it starts threads; it uses `read_input`,
-//! `scripts_in` and `write_text` too.
+//! `scripts_in` and `write_history` too.
 //!
 //! Proved: the output is exactly the report of a run of the steps that the bytes are
 //! (`specs/Report.antt`), the line of the verdict on the history that they are
@@ -19,7 +19,8 @@
 //! of the text is written (`specs/Written.antt`).
 //!
 //! No read and no write is repeated. The file and its content are in memory at the same time; then
-//! the file is dropped, and the whole text is made before its first byte is written.
+//! the file is dropped. A report is made as a whole before its first byte is written. A history is
+//! written in pieces, in memory that is taken before the first write.
 #![tactic(auto)]
 
 mod engine;
@@ -33,5 +34,5 @@ mod report;
 pub use engine::{check, mix, replay};
 pub use fault::{Fault, Message};
 pub use input::{read_input, scripts_in};
-pub use output::write_text;
+pub use output::{write_history, write_text};
 pub use script_mix::draw;

@@ -1,17 +1,30 @@
-//! The text that `mix` prints: the history of a core on which the scripts were mixed. The scripts
-//! are dropped before the text is made, since both are large.
-ghost use Rattle.std.specs.Prelude.{IfOk, IfErr, string_bytes};
+//! The history that `mix` prints: that of a core on which the scripts were mixed. The scripts and
+//! the rest of the core are dropped before it is written, since they are large.
+ghost use Rattle.std.specs.Prelude.{IfOk, IfErr};
+ghost use Rattle.txn_files.specs.HistoryText.{text_of_history};
 ghost use Rattle.boostmap_engine.specs.Mixture.{IsMixtureOf, IsNoScriptFile};
+ghost use Rattle.boostmap_engine.specs.Report.{line};
 ghost use Rattle.boostmap_engine.specs.Written.{HasNone};
 
 use crate::fault::Fault;
 use crate::input::scripts_in;
 use script_mix::mix_scripts;
 use std::alloc::Global;
-use txn_files::small_history_text;
+use txn_words::SmallEntry;
 
-/// The text, with its line feed, of a history of the scripts that the bytes are, with the workers'
-/// turns mixed as the seed says. The history has the version of its script file.
+/// A history, with the numbers that its text says beside its entries.
+#[derive(Drop)]
+pub(crate) struct MixedHistory {
+    /// The version of the history, which is that of its script file.
+    pub(crate) version: u64,
+    /// The number of stripes.
+    pub(crate) stripes: u32,
+    /// The entries.
+    pub(crate) entries: Vec<SmallEntry>,
+}
+
+/// A history of the scripts that the bytes are, with the workers' turns mixed as the seed says. The
+/// history has the version of its script file.
 ///
 /// # Errors
 ///
@@ -20,9 +33,10 @@ use txn_files::small_history_text;
 /// # Cost
 ///
 /// That of the steps and a look at each worker for each turn, and time and memory in proportion to
-/// the bytes and the text.
-pub fn mixture(alloc: Global, seed: u64, bytes: Vec<u8>) -> Result<String, Fault>
-    ensures ok { IfOk result (λ text. IsMixtureOf seed bytes.items (string_bytes text)) }
+/// the bytes.
+pub(crate) fn mixture(alloc: Global, seed: u64, bytes: Vec<u8>) -> Result<MixedHistory, Fault>
+    ensures ok { IfOk result (λ mixture. IsMixtureOf seed bytes.items
+        (line (text_of_history mixture.version mixture.stripes mixture.entries.items))) }
     ensures err { IfErr result (HasNone IsNoScriptFile bytes.items) }
 {
     let work = scripts_in(alloc, bytes)?;
@@ -30,8 +44,9 @@ pub fn mixture(alloc: Global, seed: u64, bytes: Vec<u8>) -> Result<String, Fault
     let limits = work.limits();
     let version = work.version();
     drop(work);
-    let trace = core.into_trace();
-    let mut text = small_history_text(alloc, version, limits.stripes(), &trace)?;
-    text.push_str("\n")?;
-    Ok(text)
+    Ok(MixedHistory {
+        version,
+        stripes: limits.stripes(),
+        entries: core.into_trace(),
+    })
 }

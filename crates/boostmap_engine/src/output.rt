@@ -2,11 +2,16 @@
 //! called again after it failed or took nothing.
 ghost use Rattle.std.specs.Prelude.{◌≡◌, OnOk, OnErr, IfErr};
 ghost use Rattle.std.specs.Io.KnownBytes.{Appends};
+ghost use Rattle.txn_files.specs.HistoryText.{text_of_history};
 ghost use Rattle.boostmap_engine.specs.declared.fault.Fault.TheVariants as faults;
-ghost use Rattle.boostmap_engine.specs.Written.{AppendsPart};
+ghost use Rattle.boostmap_engine.specs.Report.{line};
+ghost use Rattle.boostmap_engine.specs.Written.{AppendsPart, LeavesText};
 
 use crate::fault::Fault;
+use std::alloc::Global;
 use std::io::Write;
+use txn_files::{HistoryPieces, Piece};
+use txn_words::SmallEntry;
 
 /// Writes the whole text.
 ///
@@ -31,6 +36,39 @@ pub fn write_text<W: Write>(output: &mut W, text: &[u8]) -> Result<(), Fault>
             Ok(count) => done += count,
             Err(_) => return Err(Fault::Write),
         }
+    }
+    Ok(())
+}
+
+/// Writes the text of a history, as `history_text` makes it, and a line feed. It is written in
+/// pieces of 64 KB, so it is never in memory as a whole.
+///
+/// # Errors
+///
+/// - `NoMemory` if memory is refused, before the first write: nothing is written.
+/// - `Write` if the writer fails or takes nothing, after which it is not called again: a proper
+///   beginning of the line is written.
+///
+/// # Cost
+///
+/// Time in proportion to the entries, and memory for 65,536 bytes. A call of the writer for each
+/// part of a piece that it takes.
+pub fn write_history<W: Write>(
+    alloc: Global,
+    output: &mut W,
+    version: u64,
+    stripes: u32,
+    entries: &[SmallEntry],
+) -> Result<(), Fault>
+    ensures ok { OnOk result (Appends (W.contents output.old) (W.contents output.new)
+        (line (text_of_history version stripes entries.now))) }
+    ensures err { IfErr result (LeavesText (W.contents output.old) (W.contents output.new)
+        (line (text_of_history version stripes entries.now))) }
+{
+    let mut piece = Piece::new(alloc)?;
+    let mut pieces = HistoryPieces::new(version, stripes, entries);
+    while pieces.next_piece(&mut piece) {
+        write_text(output, piece.text())?;
     }
     Ok(())
 }

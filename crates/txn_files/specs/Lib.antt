@@ -4,6 +4,7 @@ pub mod StepFile
 pub mod Entries
 pub mod HistoryFile
 pub mod HistoryText
+pub mod HistoryLine
 pub mod Actions
 pub mod ScriptFile
 -- The faults of files, and the definitions of `piece_files` that these ones use.

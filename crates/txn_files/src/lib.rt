@@ -12,8 +12,8 @@
 //! version 2, and is then refused.
 //!
 //! Proved: `read_steps`, `read_scripts`, `read_history` and the two packed readers compute these
-//! functions, or say that memory was refused. `history_text` and `small_history_text` write a
-//! history, as `text_of_history` says.
+//! functions, or say that memory was refused. `history_text` makes the text of a history, as
+//! `text_of_history` says, and `HistoryPieces` hands it out, with a line feed, piece by piece.
 //!
 //! Cost: time and memory in proportion to the length of the file or text. A file is read once. At
 //! most one step, entry or script more than a file may have is kept, but all actions of a script.
@@ -22,13 +22,17 @@
 mod history_file;
 mod line;
 mod operation;
+mod piece;
+mod pieces;
 mod script_file;
 mod step_file;
 mod text;
 
 pub use history_file::{read_history, read_packed_history};
+pub use piece::Piece;
 pub use piece_files::{FileFault, Part};
+pub use pieces::HistoryPieces;
 pub use script_file::read_scripts;
 pub use step_file::{read_packed_steps, read_steps};
-pub use text::{history_text, small_history_text};
+pub use text::history_text;
 pub use txn_words::{Script, Scripts};

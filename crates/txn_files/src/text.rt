@@ -5,7 +5,8 @@
 //! whole: so there is one test for room an entry.
 ghost use Rattle.std.specs.Prelude.{◌≡◌, ◌≤◌, ◌∷◌, ◌++◌, codes, decimal, length, map};
 ghost use Rattle.std.specs.Prelude.{OnOk, IfOk, string_bytes};
-ghost use Rattle.std.specs.List.{flat_map, join_with_byte};
+ghost use Rattle.std.specs.List.{join_with_byte};
+ghost use Rattle.txn_files.specs.HistoryLine.{further_text};
 ghost use Rattle.txn_files.specs.HistoryText.{comma, entry_text, optional_text, text_of_history};
 ghost use Rattle.txn_words.specs.declared.entry.Entry.{Entry};
 ghost use Rattle.txn_words.specs.declared.entry.Entry.TheVariants as entries;
@@ -13,35 +14,7 @@ ghost use Rattle.txn_words.specs.declared.entry.Entry.TheVariants as entries;
 use crate::line::Line;
 use crate::operation::put_op;
 use std::alloc::{AllocError, Global};
-use txn_words::{Entry, Op, SmallEntry};
-
-/// An entry, in one of the forms in which a history keeps it.
-pub(crate) trait EntryForm {
-    /// The entry that this is.
-    ghost told: { Self → Entry };
-
-    /// The entry that this is.
-    fn told(&self) -> Entry
-        ensures { result ≡ told self.now };
-}
-
-impl EntryForm for Entry {
-    ghost told = { λ e. e };
-
-    #[inline(always)]
-    fn told(&self) -> Entry {
-        *self
-    }
-}
-
-impl EntryForm for SmallEntry {
-    ghost told = { λ e. e };
-
-    #[inline(always)]
-    fn told(&self) -> Entry {
-        self.entry()
-    }
-}
+use txn_words::{Entry, Op};
 
 /// Makes a line the array of a name and a caller. The head is the array up to the caller.
 #[inline(always)]
@@ -123,7 +96,7 @@ fn set_busy(line: &mut Line, caller: u64, op: Op, holder: u64)
 
 /// Makes a line an entry, as an array.
 #[inline(always)]
-fn set_entry(line: &mut Line, entry: Entry)
+pub(crate) fn set_entry(line: &mut Line, entry: Entry)
     ensures text { line.new ≡ entry_text entry }
     ensures short { length line.new ≤ 159 }
 {
@@ -142,16 +115,16 @@ fn set_entry(line: &mut Line, entry: Entry)
 }
 
 /// Adds each entry, after a comma.
-fn put_further_entries<E: EntryForm>(
+fn put_further_entries(
     text: &mut String,
     line: &mut Line,
-    entries: &[E],
+    entries: &[Entry],
 ) -> Result<(), AllocError>
     ensures { OnOk result (string_bytes text.new
-        ≡ string_bytes text.old ++ flat_map (λ e. comma ∷ entry_text (E.told e)) entries.now) }
+        ≡ string_bytes text.old ++ further_text entries.now) }
 {
     for entry in entries {
-        set_entry(line, entry.told());
+        set_entry(line, *entry);
         line.put(",");
         text.push_str(line.text())?;
     }
@@ -159,39 +132,23 @@ fn put_further_entries<E: EntryForm>(
 }
 
 /// Adds the entries, with a comma between each two.
-fn put_entries<E: EntryForm>(text: &mut String, entries: &[E]) -> Result<(), AllocError>
+fn put_entries(text: &mut String, entries: &[Entry]) -> Result<(), AllocError>
     ensures { OnOk result (string_bytes text.new ≡ string_bytes text.old
-        ++ join_with_byte comma (map (λ e. entry_text (E.told e)) entries.now)) }
+        ++ join_with_byte comma (map entry_text entries.now)) }
 {
     let Some((first, rest)) = entries.split_first() else {
         return Ok(());
     };
     let mut line = Line::new();
-    set_entry(&mut line, first.told());
+    set_entry(&mut line, *first);
     text.push_str(line.text())?;
     put_further_entries(text, &mut line, rest)
-}
-
-/// The text of a history whose entries have any form.
-fn text_of<E: EntryForm>(
-    alloc: Global,
-    version: u64,
-    stripes: u32,
-    entries: &[E],
-) -> Result<String, AllocError>
-    ensures { IfOk result (λ text. string_bytes text
-        ≡ text_of_history version stripes (map E.told entries.now)) }
-{
-    let mut text = String::new(alloc);
-    text.push_str("{\"entries\":[")?;
-    put_entries(&mut text, entries)?;
-    write!(text, "],\"stripes\":{stripes},\"version\":{version}}}")?;
-    Ok(text)
 }
 
 /// A history as compact JSON: an object with its entries, its stripes and the version of the file,
 /// in this order, such as `{"entries":[["began",0,1]],"stripes":8,"version":1}`, without a line
 /// feed. `read_history` reads it again if it is in range, and in version 1 has no `put_if`.
+/// `HistoryPieces` hands out the same text, and a line feed, piece by piece.
 ///
 /// # Errors
 ///
@@ -209,26 +166,9 @@ pub fn history_text(
     ensures { IfOk result (λ text.
         string_bytes text ≡ text_of_history version stripes entries.now) }
 {
-    text_of(alloc, version, stripes, entries)
-}
-
-/// The text of `history_text`, of a history whose entries are small, such as a core keeps.
-///
-/// # Errors
-///
-/// `AllocError` if memory is refused.
-///
-/// # Cost
-///
-/// Time and memory in proportion to the entries.
-pub fn small_history_text(
-    alloc: Global,
-    version: u64,
-    stripes: u32,
-    entries: &[SmallEntry],
-) -> Result<String, AllocError>
-    ensures { IfOk result (λ text.
-        string_bytes text ≡ text_of_history version stripes entries.now) }
-{
-    text_of(alloc, version, stripes, entries)
+    let mut text = String::new(alloc);
+    text.push_str("{\"entries\":[")?;
+    put_entries(&mut text, entries)?;
+    write!(text, "],\"stripes\":{stripes},\"version\":{version}}}")?;
+    Ok(text)
 }

@@ -4,6 +4,6 @@ use Rattle.txn_files.specs.HistoryText.{comma, entry_text}
 use Rattle.txn_files.proofs.text.put_entries.Goals as goal
 
 pub returns : goal.returns
-returns g c =
-    let so_far = rw (c.in_ok-push_str.ensures.bytes, c.text.ensures, c.set_entry.ensures.text, c.told.ensures, append_assoc) at c.put_further_entries.ensures in
-    rw (c.in-Some.ensures.cases.0, join_with_byte_cons comma (λ e. entry_text (g.E.EntryForm.told e)) c.in-Some.first.now c.in-Some.rest.now) so_far
+returns c =
+    let so_far = rw (c.in_ok-push_str.ensures.bytes, c.text.ensures, c.set_entry.ensures.text, append_assoc) at c.put_further_entries.ensures in
+    rw (c.in-Some.ensures.cases.0, join_with_byte_cons comma entry_text c.in-Some.first.now c.in-Some.rest.now) so_far

@@ -1,0 +1,59 @@
+-- A text that is written piece by piece.
+use Rattle.std.proofs.Common.{◌≡◌, ◌⊎◌, inl, inr, ℕ, ◌+◌, ◌<◌, ◌≤◌, Bool, true, false, List, [], ◌∷◌, ◌++◌, length, take, Option, Result, Ok, Err, refl, sym, ap, ◌∙◌, append_assoc, arith, length-append}
+use Rattle.std.specs.Prelude.{◌↔◌, IsTrue, OnOk, IfErr}
+use Rattle.std.proofs.Math.Seq.{take-add}
+use Rattle.std.specs.Io.KnownBytes.{Appends}
+use Rattle.std.proofs.lemmas.List.{append-nil, drop_at, take_at, take-append-le}
+use Rattle.txn_files.specs.FileFault.{FileFault}
+use Rattle.boostmap_engine.specs.declared.fault.Fault.{Fault}
+use Rattle.boostmap_engine.specs.declared.fault.Fault.TheVariants as faults
+use Rattle.boostmap_engine.specs.Written.{AppendsPart, IsRead, Leaves, LeavesText}
+use Rattle.boostmap_engine.proofs.Known.{Appends-then}
+
+take-past : (xs ys : List ℕ) (n : ℕ) → take (length xs + n) (xs ++ ys) ≡ xs ++ take n ys
+take-past xs ys n = rw (take-add, take_at xs ys (length xs) refl, drop_at xs ys (length xs) refl) refl
+
+-- A piece was written behind what was written.
+pub piece_written : (whole done left piece rest : List ℕ) → whole ≡ done ++ left → left ≡ piece ++ rest → whole ≡ (done ++ piece) ++ rest
+piece_written whole done left piece rest is is_left =
+    is ∙ ap (λ (xs : List ℕ). done ++ xs) is_left ∙ sym (append_assoc done piece rest)
+
+-- A proper beginning of a piece was written, and so of the whole.
+pub part_written : (a b c : Option (List ℕ)) (whole done left piece rest : List ℕ) → whole ≡ done ++ left → left ≡ piece ++ rest → Appends a b done → AppendsPart b c piece → AppendsPart a c whole
+part_written a b c whole done left piece rest is is_left before part =
+    let split : whole ≡ done ++ (piece ++ rest) = is ∙ ap (λ (xs : List ℕ). done ++ xs) is_left in
+    let few : part.0 ≤ length piece = omega (arith, part.1) in
+    let begins : take (length done + part.0) whole ≡ done ++ take part.0 piece =
+    ap (take (length done + part.0)) split ∙ take-past done (piece ++ rest) part.0 ∙ ap (λ (xs : List ℕ). done ++ xs) (take-append-le part.0 piece rest few) in (
+      length done + part.0,
+      omega (arith, part.1, ap length split, length-append done (piece ++ rest), length-append piece rest),
+      rw begins (Appends-then a b c done (take part.0 piece) before part.2),
+    )
+
+-- An empty piece is the end.
+pub nothing_left : (found : Bool) (left piece rest : List ℕ) (n : ℕ) → found ≡ false → IsTrue found ↔ (0 < length piece) → (rest ≡ []) ⊎ (n < length piece) → left ≡ piece ++ rest → left ≡ []
+nothing_left found left [] rest n is some (inl none) whole = whole ∙ none
+nothing_left found left [] rest n is some (inr full) whole = absurd (omega (arith, full))
+nothing_left true left (x ∷ xs) rest n is some full whole = absurd (cc is)
+nothing_left false left (x ∷ xs) rest n is some full whole = absurd (grind (arith, some.1 (omega arith)))
+
+pub whole_written : (whole done left : List ℕ) → whole ≡ done ++ left → left ≡ [] → done ≡ whole
+whole_written whole done left is none = sym (is ∙ ap (λ (xs : List ℕ). done ++ xs) none ∙ append-nil done)
+
+pub on_ok : {A E : Type 0} (r : Result A E) (P Q : Type 0) → (P → Q) → OnOk r P → OnOk r Q
+on_ok (Ok x) P Q f h = f h
+on_ok (Err e) P Q f h = tt
+
+pub if_err : {A E : Type 0} (r : Result A E) (P Q : E → Type 0) → ((e : E) → P e → Q e) → IfErr r P → IfErr r Q
+if_err (Ok x) P Q f h = tt
+if_err (Err e) P Q f h = f e h
+
+-- What writing a text of the bytes that were read leaves.
+pub leaves_of : (IsTextOf : List ℕ → List ℕ → Type 0) (IsRefused : List ℕ → FileFault → Type 0) (remaining old new : Option (List ℕ)) (bytes text : List ℕ) → IsRead remaining bytes → IsTextOf bytes text → (fault : Fault) → LeavesText old new text fault → Leaves IsTextOf IsRefused remaining old new fault
+leaves_of IsTextOf IsRefused remaining old new bytes text read is faults.Write h = (bytes, text, read, is, h)
+leaves_of IsTextOf IsRefused remaining old new bytes text read is faults.NoMemory h = h
+leaves_of IsTextOf IsRefused remaining old new bytes text read is (faults.Input fault) h = absurd h
+leaves_of IsTextOf IsRefused remaining old new bytes text read is faults.Usage h = absurd h
+leaves_of IsTextOf IsRefused remaining old new bytes text read is faults.NoThread h = absurd h
+leaves_of IsTextOf IsRefused remaining old new bytes text read is faults.Read h = absurd h
+leaves_of IsTextOf IsRefused remaining old new bytes text read is faults.OutOfStep h = absurd h

@@ -1,0 +1,26 @@
+-- The line of a history, of which a part was handed out.
+use Rattle.std.specs.Prelude.{ℕ, Bool, true, false, List, [], ◌∷◌, ◌++◌, map, codes, decimal}
+use Rattle.std.specs.List.{flat_map, join_with_byte}
+use Rattle.txn_words.specs.declared.entry.Entry.{Entry}
+use Rattle.txn_files.specs.HistoryText.{comma, entry_text}
+
+-- Entries that follow another one, each after a comma.
+abbrev pub further_text : List Entry → List ℕ
+further_text entries = flat_map (λ e. comma ∷ entry_text e) entries
+
+-- The line from its start, or from the entries that follow another one, up to its last entry.
+abbrev pub entries_text : Bool → List Entry → List ℕ
+entries_text false entries = codes "{\"entries\":[" ++ join_with_byte comma (map entry_text entries)
+entries_text true entries = further_text entries
+
+-- The line from behind its last entry.
+abbrev pub end_text : ℕ → ℕ → List ℕ
+end_text version stripes =
+    codes "],\"stripes\":" ++ (decimal stripes
+    ++ (codes ",\"version\":" ++ (decimal version ++ codes "}\n")))
+
+-- The part of the line that is left.
+abbrev pub rest_of : Bool → Bool → ℕ → ℕ → List Entry → List ℕ
+rest_of is_begun true version stripes entries = []
+rest_of is_begun false version stripes entries =
+    entries_text is_begun entries ++ end_text version stripes

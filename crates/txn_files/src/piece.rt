@@ -1,0 +1,92 @@
+//! Room for a part of a text, which is taken once: nothing that is put into it takes memory.
+ghost use Rattle.std.specs.Prelude.{◌≡◌, ◌↔◌, ◌+◌, ◌<◌, ◌≤◌, [], ◌++◌, IfOk, IsTrue, length};
+
+use std::alloc::{AllocError, Global};
+use std::marker::Model;
+
+/// The bytes that a piece has room for.
+const SIZE: usize = 65_536;
+
+/// The most bytes of a piece that surely has room for a line of 160 bytes.
+pub(crate) const FULL: usize = 65_376;
+
+/// Zero bytes, as many as a piece has room for.
+fn zeros(alloc: Global) -> Result<Vec<u8>, AllocError>
+    ensures { IfOk result (λ zeros. length zeros.items ≡ SIZE) }
+{
+    vec![in alloc; 0u8; SIZE]
+}
+
+/// A part of a text, of at most 65,536 bytes. A contract sees it as its bytes.
+#[derive(Drop)]
+pub struct Piece {
+    bytes: Vec<u8>,
+    count: usize,
+}
+
+impl Model for Piece {
+    ghost use Rattle.std.specs.Prelude.{◌≡◌, ℕ, List, ◌≤◌, length, take};
+
+    ghost Value = { List ℕ };
+
+    ghost view = { λ s. take s.count s.bytes.items };
+
+    ghost invariant = { λ s. (length s.bytes.items ≡ 65536) × (s.count ≤ 65536) };
+}
+
+impl Piece {
+    /// An empty piece.
+    ///
+    /// # Errors
+    ///
+    /// `AllocError` if memory is refused.
+    ///
+    /// # Cost
+    ///
+    /// Time and memory for 65,536 bytes.
+    pub fn new(alloc: Global) -> Result<Piece, AllocError>
+        ensures { IfOk result (λ piece. piece ≡ []) }
+    {
+        let bytes = zeros(alloc)?;
+        Ok(Piece { bytes, count: 0 })
+    }
+
+    /// Takes the text out.
+    #[inline(always)]
+    pub(crate) fn clear(&mut self)
+        ensures { self.new ≡ [] }
+    {
+        self.count = 0;
+    }
+
+    /// Whether there surely is room for 160 bytes more.
+    #[inline(always)]
+    pub(crate) fn has_room(&self) -> bool
+        ensures { IsTrue result ↔ (length self.now ≤ FULL) }
+    {
+        self.count <= FULL
+    }
+
+    /// Puts a word behind the text.
+    #[inline(always)]
+    pub(crate) fn put(&mut self, word: &str)
+        requires { length self.old + length word.now ≤ SIZE }
+        ensures { self.new ≡ self.old ++ word.now }
+    {
+        let start = self.count;
+        let end = start + word.len();
+        self.bytes[start..end].copy_from_slice(word.as_bytes());
+        self.count = end;
+    }
+
+    /// The text.
+    ///
+    /// # Cost
+    ///
+    /// Constant time; takes no memory.
+    pub fn text(&self) -> &[u8]
+        ensures { result.now ≡ self.now }
+    {
+        &self.bytes[..self.count]
+    }
+}

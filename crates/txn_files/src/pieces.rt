@@ -1,0 +1,135 @@
+//! The line of a history in pieces, so that a long one need not be in memory as a whole.
+ghost use Rattle.std.specs.Prelude.{◌≡◌, ◌⊎◌, ◌↔◌, ◌+◌, ◌<◌, ◌≤◌, [], ◌∷◌, ◌++◌, false, IsTrue, length};
+ghost use Rattle.txn_files.specs.HistoryText.{text_of_history};
+ghost use Rattle.txn_files.specs.HistoryLine.{end_text, entries_text, further_text};
+
+use crate::line::Line;
+use crate::piece::{FULL, Piece};
+use crate::text::set_entry;
+use std::marker::Model;
+use txn_words::SmallEntry;
+
+/// Puts each entry after a comma, until all are put or there is no room, and answers the rest.
+fn put_further<'a>(piece: &mut Piece, entries: &'a [SmallEntry]) -> &'a [SmallEntry]
+    ensures whole { piece.new ++ further_text result.now ≡ piece.old ++ further_text entries.now }
+    ensures full { (result.now ≡ []) ⊎ (FULL < length piece.new) }
+{
+    let mut line = Line::new();
+    let mut rest = entries;
+    while let Some((entry, others)) = rest.split_first() {
+        if !piece.has_room() {
+            return rest;
+        }
+        set_entry(&mut line, entry.entry());
+        line.put(",");
+        piece.put(line.text());
+        rest = others;
+    }
+    rest
+}
+
+/// Puts the start of the line and the first entry into an empty piece, and answers the rest.
+fn put_start<'a>(piece: &mut Piece, entries: &'a [SmallEntry]) -> &'a [SmallEntry]
+    requires { piece.old ≡ [] }
+    ensures { piece.new ++ further_text result.now ≡ entries_text false entries.now }
+{
+    piece.put("{\"entries\":[");
+    let Some((first, rest)) = entries.split_first() else {
+        return entries;
+    };
+    let mut line = Line::new();
+    set_entry(&mut line, first.entry());
+    piece.put(line.text());
+    rest
+}
+
+/// Puts what is left of the line up to its last entry into an empty piece, until there is no room,
+/// and answers the rest.
+fn put_entries<'a>(piece: &mut Piece, is_begun: bool, entries: &'a [SmallEntry]) -> &'a [SmallEntry]
+    requires { piece.old ≡ [] }
+    ensures whole { piece.new ++ further_text result.now ≡ entries_text is_begun entries.now }
+    ensures full { (result.now ≡ []) ⊎ (FULL < length piece.new) }
+{
+    if is_begun {
+        return put_further(piece, entries);
+    }
+    let further = put_start(piece, entries);
+    put_further(piece, further)
+}
+
+/// Puts the end of the line, from behind the last entry.
+fn put_end(piece: &mut Piece, version: u64, stripes: u32)
+    requires { length piece.old ≤ FULL }
+    ensures { piece.new ≡ piece.old ++ end_text version stripes }
+{
+    let mut line = Line::new();
+    line.put("}\n");
+    line.put_number(version);
+    line.put(",\"version\":");
+    line.put_number(u64::from(stripes));
+    line.put("],\"stripes\":");
+    piece.put(line.text());
+}
+
+/// The line of a history that is handed out piece by piece: the text of `history_text` and a line
+/// feed. A contract sees it as the text that is left.
+#[derive(Drop)]
+pub struct HistoryPieces<'a> {
+    version: u64,
+    stripes: u32,
+    entries: &'a [SmallEntry],
+    is_begun: bool,
+    is_done: bool,
+}
+
+impl<'a> Model for HistoryPieces<'a> {
+    ghost use Rattle.std.specs.Prelude.{ℕ, List};
+    ghost use Rattle.txn_files.specs.HistoryLine.{rest_of};
+
+    ghost Value = { List ℕ };
+
+    ghost view = { λ s. rest_of s.is_begun s.is_done s.version s.stripes s.entries.now };
+}
+
+impl<'a> HistoryPieces<'a> {
+    /// The whole line of a history.
+    ///
+    /// # Cost
+    ///
+    /// Constant time; takes no memory.
+    pub fn new(version: u64, stripes: u32, entries: &'a [SmallEntry]) -> HistoryPieces<'a>
+        ensures { result ≡ text_of_history version stripes entries.now ++ 10 ∷ [] }
+    {
+        HistoryPieces {
+            version,
+            stripes,
+            entries,
+            is_begun: false,
+            is_done: false,
+        }
+    }
+
+    /// Makes a piece the next part of the text, instead of what it was, and answers whether there
+    /// was one: at the end the piece is empty. Each part but the last is of more than 65,376 bytes.
+    ///
+    /// # Cost
+    ///
+    /// Time in proportion to the part; takes no memory.
+    pub fn next_piece(&mut self, piece: &mut Piece) -> bool
+        ensures whole { self.old ≡ piece.new ++ self.new }
+        ensures some { IsTrue result ↔ (0 < length piece.new) }
+        ensures full { (self.new ≡ []) ⊎ (FULL < length piece.new) }
+    {
+        piece.clear();
+        if self.is_done {
+            return false;
+        }
+        self.entries = put_entries(piece, self.is_begun, self.entries);
+        self.is_begun = true;
+        if self.entries.is_empty() && piece.has_room() {
+            put_end(piece, self.version, self.stripes);
+            self.is_done = true;
+        }
+        true
+    }
+}
