@@ -1,5 +1,5 @@
 -- The text of a run's history is a text of the file's scripts.
-use Rattle.std.proofs.Common.{◌≡◌, ℕ, ◌≤◌, Bool, true, false, ◌&&◌, nat_le, refl, List, [], ◌∷◌, ◌++◌, Result, Ok, Err, ap, subst, sym, ◌∙◌, if◌then◌else◌}
+use Rattle.std.proofs.Common.{◌≡◌, ℕ, ◌≤◌, Bool, true, false, ◌&&◌, nat_le, refl, List, [], ◌∷◌, Option, Result, Ok, Err, ap, subst, sym, ◌∙◌, if◌then◌else◌}
 use Rattle.std.specs.List.{list_all}
 use Rattle.std.proofs.lemmas.Bool.{leb-true}
 use Rattle.txn_words.specs.declared.action.Action.{Action}
@@ -15,13 +15,17 @@ use Rattle.txn_files.specs.ScriptFile.{scripts_of, script_file, work_from, are_s
 use Rattle.txn_files.specs.StepFile.{sizes_at}
 use Rattle.thread_runs.specs.Accounts.{Outcome}
 use Rattle.thread_runs.specs.Runs.{HasRunScripts}
-use Rattle.boostmap_program.specs.Threaded.{IsThreadedOf}
+use Rattle.boostmap_engine.specs.Report.{line}
+use Rattle.boostmap_engine.specs.declared.fault.Fault.{Fault}
+use Rattle.boostmap_engine.specs.declared.fault.Fault.TheVariants as faults
+use Rattle.boostmap_engine.specs.Written.{IsRead, LeavesText}
+use Rattle.boostmap_program.specs.Threaded.{IsThreadedOf, LeavesThreaded}
 
 -- The result of a run on the parts of a file's work.
-pub threaded_is : (bytes : List ℕ) (work : Work) (limits : Sizes) (workers tries stripes : ℕ) (scripts : List (List Action)) (outcomes : List Outcome) (trace : List Entry) (text whole : List ℕ) → scripts_of bytes ≡ Ok work
+pub threaded_is : (bytes : List ℕ) (work : Work) (limits : Sizes) (workers tries stripes : ℕ) (scripts : List (List Action)) (outcomes : List Outcome) (trace : List Entry) → scripts_of bytes ≡ Ok work
     → limits ≡ work.sizes → workers ≡ limits.callers → tries ≡ work.tries → stripes ≡ limits.stripes → scripts ≡ work.scripts
-    → HasRunScripts limits workers tries scripts outcomes trace → text ≡ text_of_history 3 stripes trace → whole ≡ text ++ 10 ∷ [] → IsThreadedOf bytes whole
-threaded_is bytes work limits workers tries stripes scripts outcomes trace text whole file limits_is workers_is tries_is stripes_is scripts_is run text_is whole_is =
+    → HasRunScripts limits workers tries scripts outcomes trace → IsThreadedOf bytes (line (text_of_history 3 stripes trace))
+threaded_is bytes work limits workers tries stripes scripts outcomes trace file limits_is workers_is tries_is stripes_is scripts_is run =
     let callers : workers ≡ work.sizes.callers = workers_is ∙ ap (λ (s : Sizes). s.callers) limits_is in (
       work,
       file,
@@ -32,8 +36,7 @@ threaded_is bytes work limits workers tries stripes scripts outcomes trace text 
             (subst (λ n. HasRunScripts work.sizes work.sizes.callers n scripts outcomes trace) tries_is
             (subst (λ n. HasRunScripts work.sizes n tries scripts outcomes trace) callers
             (subst (λ (s : Sizes). HasRunScripts s workers tries scripts outcomes trace) limits_is run)));
-        whole = whole_is ∙ ap (λ t. t ++ 10 ∷ []) (text_is
-            ∙ ap (λ n. text_of_history 3 n trace) (stripes_is ∙ ap (λ (s : Sizes). s.stripes) limits_is));
+        whole = ap (λ n. line (text_of_history 3 n trace)) (stripes_is ∙ ap (λ (s : Sizes). s.stripes) limits_is);
       },
     )
 
@@ -70,3 +73,13 @@ few_in (Ok f) work is = few_from f.0 f.1 f.2 work is
 -- A script file has at most the greatest number of tries.
 pub few_tries : (bytes : List ℕ) (work : Work) → scripts_of bytes ≡ Ok work → work.tries ≤ 1000
 few_tries bytes work is = few_in (contents script_file bytes) work is
+
+-- What writing a history of the bytes that were read leaves.
+pub leaves_threaded : (remaining old new : Option (List ℕ)) (bytes text : List ℕ) → IsRead remaining bytes → IsThreadedOf bytes text → (fault : Fault) → LeavesText old new text fault → LeavesThreaded remaining old new fault
+leaves_threaded remaining old new bytes text read is faults.Write h = (bytes, text, read, is, h)
+leaves_threaded remaining old new bytes text read is faults.NoMemory h = h
+leaves_threaded remaining old new bytes text read is (faults.Input fault) h = absurd h
+leaves_threaded remaining old new bytes text read is faults.Usage h = absurd h
+leaves_threaded remaining old new bytes text read is faults.NoThread h = absurd h
+leaves_threaded remaining old new bytes text read is faults.Read h = absurd h
+leaves_threaded remaining old new bytes text read is faults.OutOfStep h = absurd h

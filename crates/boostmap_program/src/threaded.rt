@@ -1,25 +1,33 @@
 //! The engine of `run`: each worker of a script file runs its scripts in its own thread, and the
 //! history is printed. The other engines are in a crate below, since only this one starts threads
 //! and waits: so they do not depend on the proofs of the map of threads.
-ghost use Rattle.std.specs.Prelude.{◌≡◌, OnOk, IfOk, IfErr, string_bytes};
+ghost use Rattle.std.specs.Prelude.{◌≡◌, OnOk, IfOk, IfErr};
+ghost use Rattle.txn_files.specs.HistoryText.{text_of_history};
+ghost use Rattle.boostmap_engine.specs.Report.{line};
 ghost use Rattle.boostmap_engine.specs.Written.{Writes};
 ghost use Rattle.boostmap_program.specs.Threaded.{HasNoneThreaded, IsThreadedOf, LeavesThreaded, of_run};
 
-use boostmap_engine::{Fault, read_input, scripts_in, write_text};
+use boostmap_engine::{Fault, read_input, scripts_in, write_history};
 use std::alloc::Global;
 use std::io::{Read, Write};
 use std::sync::Wait;
 use std::thread::Threads;
 use thread_runs::{Open, run_scripts};
-use txn_files::small_history_text;
-use txn_words::Refusal;
+use txn_words::{Refusal, SmallEntry};
 
 /// The version of a history file of a run.
 const VERSION: u64 = 3;
 
-/// The text of a history of the scripts that the bytes are, each worker in its own thread, with its
-/// line feed. The history has version 3, whatever version its script file has: a Busy entry names a
-/// caller that has begun a transaction, and may have ended it.
+/// A history, with the number of stripes, which its text says beside its entries.
+#[derive(Drop)]
+struct ThreadedHistory {
+    stripes: u32,
+    entries: Vec<SmallEntry>,
+}
+
+/// A history of the scripts that the bytes are, each worker in its own thread. The history has
+/// version 3, whatever version its script file has: a Busy entry names a caller that has begun a
+/// transaction, and may have ended it.
 ///
 /// # Errors
 ///
@@ -30,13 +38,14 @@ const VERSION: u64 = 3;
 /// # Cost
 ///
 /// That of the calls, and time in proportion to the bytes and, for each worker, to the history;
-/// memory in proportion to the bytes and the text, besides that of the calls.
+/// memory in proportion to the bytes, besides that of the calls.
 fn run_in_threads<R: Threads + Wait + Sync>(
     rt: &R,
     alloc: Global,
     bytes: Vec<u8>,
-) -> Result<String, Fault>
-    ensures ok { IfOk result (λ text. IsThreadedOf bytes.items (string_bytes text)) }
+) -> Result<ThreadedHistory, Fault>
+    ensures ok { IfOk result (λ history. IsThreadedOf bytes.items
+        (line (text_of_history VERSION history.stripes history.entries.items))) }
     ensures err { IfErr result (HasNoneThreaded bytes.items) }
 {
     let work = scripts_in(alloc, bytes)?;
@@ -56,9 +65,10 @@ fn run_in_threads<R: Threads + Wait + Sync>(
     };
     drop(work);
     drop(ran.outcomes);
-    let mut text = small_history_text(alloc, VERSION, limits.stripes(), &ran.trace)?;
-    text.push_str("\n")?;
-    Ok(text)
+    Ok(ThreadedHistory {
+        stripes: limits.stripes(),
+        entries: ran.trace,
+    })
 }
 
 /// The fault of a run that was refused as a whole.
@@ -110,5 +120,5 @@ pub fn run<T: Threads + Wait + Sync, R: Read, W: Write>(
 {
     let bytes = read_input(alloc, input)?;
     let history = run_in_threads(rt, alloc, bytes)?;
-    write_text(output, history.as_bytes())
+    write_history(alloc, output, VERSION, history.stripes, &history.entries)
 }

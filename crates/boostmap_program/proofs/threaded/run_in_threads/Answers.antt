@@ -1,5 +1,4 @@
-use Rattle.std.proofs.Common.{◌≤◌, string_bytes, map, subst, sym, ◌∙◌, ap}
-use Rattle.txn_files.specs.HistoryText.{text_of_history}
+use Rattle.std.proofs.Common.{◌≤◌, map, subst, sym}
 use Rattle.thread_runs.specs.Runs.{told_of}
 use Rattle.boostmap_program.proofs.Threading.{few_tries, threaded_is}
 use Rattle.boostmap_program.proofs.threaded.run_in_threads.Goals as goal
@@ -11,5 +10,4 @@ run_scripts-requires-clause-tries g c κs within =
 pub returns-clause-ok : goal.returns-clause-ok
 returns-clause-ok g c =
     threaded_is c.args.bytes.items c.in_ok-work.work c.limits-limits.result c.callers-workers.result c.tries.result c.stripes.result c.scripts.result.now (map told_of c.in-Ok.ran.outcomes.items) c.in-Ok.ran.trace.items
-    (string_bytes c.in_ok-text.text) (string_bytes c.push_str.new.self) c.in_ok-work.ensures c.limits-limits.ensures c.callers-workers.ensures.value c.tries.ensures c.stripes.ensures.value c.scripts.ensures
-    c.in-Ok.ensures.ran (c.in_ok-text.ensures ∙ ap (text_of_history 3 c.stripes.result) c.deref.ensures.value) c.in_ok-push_str.ensures.bytes
+    c.in_ok-work.ensures c.limits-limits.ensures c.callers-workers.ensures.value c.tries.ensures c.stripes.ensures.value c.scripts.ensures c.in-Ok.ensures.ran
