@@ -2,6 +2,7 @@
 
 mod checks;
 mod failing;
+mod long;
 mod mixes;
 mod refused;
 mod replays;

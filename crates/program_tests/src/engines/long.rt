@@ -1,0 +1,150 @@
+//! Histories whose text is longer than one piece, as `mix` writes it. The expected text is made by
+//! the rule: one script puts 1 at key 0, gets four keys that have no value, and then puts 1 at key 0
+//! again and again, so that each put but the first answers 1.
+
+use boostmap_engine::{Fault, mix};
+use std::alloc::{AllocError, Global};
+use std::fmt::Write as _;
+use std::io;
+use std::io::Write;
+use std::process::Abort;
+use std::test::Fail;
+
+/// Numbers of puts, and of the digits that the keys of the gets have in all beside one each. With
+/// the first number the last entry ends within 10 bytes of the border of a piece, so the end of the
+/// line is before it or behind it. With the second the border is at each byte of an entry.
+const LENGTHS: [(u64, u32, u32); 2] = [(1916, 36, 56), (1930, 0, 36)];
+
+/// The number of puts whose history fills two pieces and a part.
+const MANY: u64 = 4000;
+
+/// A writer that expects a text. It takes at most some bytes for each call, and none at the call
+/// `fails_at`, counted from 0.
+#[derive(Drop)]
+struct Expecting<'a> {
+    /// The part of the text that it has not taken yet.
+    rest: &'a [u8],
+    /// Whether all that it has taken was the text.
+    is_right: bool,
+    most: usize,
+    calls: usize,
+    fails_at: usize,
+}
+
+impl<'a> Expecting<'a> {
+    fn new(text: &'a str, most: usize, fails_at: usize) -> Expecting<'a> {
+        Expecting {
+            rest: text.as_bytes(),
+            is_right: true,
+            most,
+            calls: 0,
+            fails_at,
+        }
+    }
+}
+
+impl Write for Expecting<'_> {
+    fn write(&mut self, buf: &[u8]) -> io::Result<usize> {
+        let call = self.calls;
+        self.calls = call.saturating_add(1);
+        if call == self.fails_at {
+            return Ok(0);
+        }
+        let count = buf.len().min(self.most);
+        let (taken, wanted) = (buf.get(..count), self.rest.get(..count));
+        self.is_right = self.is_right && taken == wanted;
+        self.rest = self.rest.get(count..).unwrap_or(&[]);
+        Ok(count)
+    }
+
+    fn flush(&mut self) -> io::Result<()> {
+        Ok(())
+    }
+}
+
+/// The key of a get: a power of ten. All four have this many digits more than one each.
+fn key(get: u32, digits: u32) -> u64 {
+    let more = digits.saturating_sub(get.saturating_mul(18)).min(18);
+    10u64.checked_pow(more).unwrap_or(0)
+}
+
+/// The file of the script.
+fn script_file(alloc: Global, puts: u64, digits: u32) -> Result<String, AllocError> {
+    let mut text = String::new(alloc);
+    text.push_str("{\"version\":1,\"workers\":1,\"stripes\":8,\"buckets\":8,\"tries\":0,")?;
+    text.push_str("\"scripts\":[[[\"put\",0,1]")?;
+    for get in 0..4 {
+        let key = key(get, digits);
+        write!(text, ",[\"get\",{key}]")?;
+    }
+    for _ in 1..puts {
+        text.push_str(",[\"put\",0,1]")?;
+    }
+    text.push_str("]]}")?;
+    Ok(text)
+}
+
+/// The line that `mix` prints of that file.
+fn history_line(alloc: Global, puts: u64, digits: u32) -> Result<String, AllocError> {
+    let mut text = String::new(alloc);
+    text.push_str("{\"entries\":[[\"began\",0,1],[\"asked\",0,\"put\",0,1],[\"did\",0,null]")?;
+    for get in 0..4 {
+        let key = key(get, digits);
+        write!(text, ",[\"asked\",0,\"get\",{key}],[\"did\",0,null]")?;
+    }
+    for _ in 1..puts {
+        text.push_str(",[\"asked\",0,\"put\",0,1],[\"did\",0,1]")?;
+    }
+    text.push_str(",[\"committed\",0,1]],\"stripes\":8,\"version\":1}\n")?;
+    Ok(text)
+}
+
+/// Mixes a file into a writer that expects a text.
+fn mixed<'a>(
+    alloc: Global,
+    file: &str,
+    writer: Expecting<'a>,
+) -> (Result<(), Fault>, Expecting<'a>) {
+    let mut output = writer;
+    let result = mix(alloc, 7, &mut file.as_bytes(), &mut output);
+    (result, output)
+}
+
+/// The whole line is written, whatever the writer takes at a time.
+fn compare_whole(rt: &impl Abort, alloc: Global, file: &str, line: &str, most: usize) {
+    let (result, output) = mixed(alloc, file, Expecting::new(line, most, usize::MAX));
+    let is_whole = result.is_ok() && output.is_right && output.rest.is_empty();
+    assert!(rt; is_whole, "{most}");
+}
+
+/// The writes before the one that fails are a beginning of the line, and none comes after it.
+fn compare_failed(rt: &impl Abort, alloc: Global, file: &str, line: &str, fails_at: usize) {
+    let (result, output) = mixed(alloc, file, Expecting::new(line, 10_000, fails_at));
+    let is_told = matches!(result, Err(Fault::Write)) && output.is_right;
+    assert!(rt; is_told && output.calls == fails_at + 1, "{fails_at}");
+}
+
+#[test]
+fn long_lines_are_whole(rt: HostRuntime) -> Result<(), Fail> {
+    for (puts, least, most) in LENGTHS {
+        for digits in least..=most {
+            let file = script_file(rt.alloc(), puts, digits)?;
+            let line = history_line(rt.alloc(), puts, digits)?;
+            compare_whole(&rt, rt.alloc(), &file, &line, usize::MAX);
+        }
+    }
+    Ok(())
+}
+
+#[test]
+fn long_lines_in_small_writes(rt: HostRuntime) -> Result<(), Fail> {
+    let file = script_file(rt.alloc(), MANY, 0)?;
+    let line = history_line(rt.alloc(), MANY, 0)?;
+    for most in [1, 10_000, 65_375] {
+        compare_whole(&rt, rt.alloc(), &file, &line, most);
+    }
+    for fails_at in 0..line.len() / 10_000 {
+        compare_failed(&rt, rt.alloc(), &file, &line, fails_at);
+    }
+    Ok(())
+}
