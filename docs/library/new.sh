@@ -1,7 +1,8 @@
 #!/usr/bin/env bash
 # Lays out a new repository in the folder NAME, with one caller of the map of threads: the folders that it needs, their
 # lines of crates.txt, HANDLES, and a crate that counts in a map from two threads. docs/LIBRARY.md describes it. `rt check`
-# in NAME/crates/counter proves it, in some 14 processor minutes the first time, less than two of them for the crate itself.
+# in NAME/crates/counter proves it, in some 14 processor minutes the first time, less than two of them for the crate itself, which has
+# no proof file.
 # Usage: docs/library/new.sh NAME
 set -eu
 [ $# = 1 ] || { echo "usage: docs/library/new.sh NAME" >&2; exit 2; }

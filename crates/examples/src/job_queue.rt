@@ -1,19 +1,17 @@
 //! A queue of jobs in one map, from which four threads take jobs. A key is a job, and its value is
 //! the job's state. Each job is done once, and a worker that stops in the middle of a transaction
 //! leaves nothing behind.
-ghost use Rattle.std.specs.Prelude.{◌≡◌};
 ghost use Rattle.shared_transactions.specs.Keeps.{Keeps};
 
 use boost_core::Core;
-use locked_map::{Caller, Closed, NoSide, SharedMap, Stop};
-use shared_transactions::{Retry, Transaction, callers_of, transact};
+use locked_map::{Caller, NoSide, SharedMap, Stop};
+use shared_transactions::{Retry, Transaction, Work, run_works_after, transact};
 use std::alloc::{AllocError, Global};
+use std::io;
 use std::io::Print;
-use std::marker::Brand;
 use std::sync::Wait;
-use std::sync::ledger::{Blank, Ledger};
+use std::sync::ledger::Ledger;
 use std::thread::Threads;
-use std::{io, thread};
 use txn_words::{Limits, Refusal};
 
 /// The number of workers. Each has its own thread.
@@ -104,13 +102,21 @@ fn begin_to_finish<L: Ledger, R: Wait>(t: &mut Transaction<'_, L, R>) -> Result<
 
 /// Fills the queue. Then begins to finish every job at once, and stops in the middle: all of it is
 /// taken back, since the transaction is dropped.
-fn fill_and_crash<L: Ledger, R: Wait>(
-    rt: &R,
-    map: &SharedMap<L>,
-    me: &mut Caller<L, NoSide>,
-) -> Result<(), Stop> {
-    commit(&mut Transaction::new(rt, map, me), Task::Fill)?;
-    begin_to_finish(&mut Transaction::new(rt, map, me))
+#[derive(Clone, Copy)]
+struct Filler;
+
+impl<R: Wait> Work<R> for Filler {
+    type Output = Result<(), Stop>;
+
+    fn run<L: Ledger>(
+        self,
+        rt: &R,
+        map: &SharedMap<L>,
+        me: &mut Caller<L, NoSide>,
+    ) -> Result<(), Stop> {
+        commit(&mut Transaction::new(rt, map, me), Task::Fill)?;
+        begin_to_finish(&mut Transaction::new(rt, map, me))
+    }
 }
 
 /// Claims a job, if it waits, and finishes it.
@@ -122,64 +128,33 @@ fn work_on<L: Ledger, R: Wait>(t: &mut Transaction<'_, L, R>, job: u64) -> Resul
 }
 
 /// Claims each job that waits and finishes it.
-fn work<L: Ledger, R: Wait>(
-    rt: &R,
-    map: &SharedMap<L>,
-    me: &mut Caller<L, NoSide>,
-) -> Result<(), Stop> {
-    for job in 0..JOBS {
-        work_on(&mut Transaction::new(rt, map, me), job)?;
-    }
-    Ok(())
-}
+#[derive(Clone, Copy)]
+struct Worker;
 
-/// The first caller fills the queue. Then each caller works in its own thread, the first one only
-/// after a crash.
-fn work_all<L: Ledger + Send + Sync, R: Threads + Wait + Sync>(
-    rt: &R,
-    map: &SharedMap<L>,
-    callers: &mut [Caller<L, NoSide>],
-) -> Result<(), Stop> {
-    if let Some(first) = callers.first_mut() {
-        fill_and_crash(rt, map, first)?;
-    }
-    thread::scope(thread::scope_env(), rt, |scope| {
-        for me in callers {
-            let _ = scope.spawn(move || work(rt, map, me));
+impl<R: Wait> Work<R> for Worker {
+    type Output = Result<(), Stop>;
+
+    fn run<L: Ledger>(
+        self,
+        rt: &R,
+        map: &SharedMap<L>,
+        me: &mut Caller<L, NoSide>,
+    ) -> Result<(), Stop> {
+        for job in 0..JOBS {
+            work_on(&mut Transaction::new(rt, map, me), job)?;
         }
-    });
-    Ok(())
-}
-
-/// The core after all jobs.
-fn do_all<L: Ledger + Send + Sync, R: Threads + Wait + Sync>(
-    rt: &R,
-    alloc: Global,
-    blank: Blank,
-    limits: Limits,
-) -> Result<Core, Refusal>
-    requires name { blank.name ≡ L.name }
-    requires parts { blank.parts ≡ L.parts }
-    requires one_each { blank.parts ≡ limits.callers }
-{
-    let (map, passes) = SharedMap::<L>::new(alloc, blank, limits)?;
-    match callers_of(alloc, passes) {
-        Ok(callers) => work_and_close(rt, map, callers),
-        Err(AllocError) => Err(Refusal::NoMemory),
+        Ok(())
     }
 }
 
-/// The core of a map on which all jobs are done.
-fn work_and_close<L: Ledger + Send + Sync, R: Threads + Wait + Sync>(
-    rt: &R,
-    map: SharedMap<L>,
-    mut callers: Vec<Caller<L, NoSide>>,
-) -> Result<Core, Refusal>
-    requires { map.limits.callers ≡ L.parts }
-{
-    match work_all(rt, &map, callers.as_mut_slice()) {
+/// The core after all jobs. The filler has a caller too.
+fn do_all<R: Threads + Wait + Sync>(rt: &R, alloc: Global) -> Result<Core, Refusal> {
+    let limits = Limits::new(WORKERS + 1, 8, 8)?;
+    let workers = Vec::from_slice(alloc, &[Worker; WORKERS as usize])?;
+    let (filled, finished) = run_works_after(rt, alloc, limits, Filler, workers)?;
+    match filled {
         Err(Stop::Refused(refusal)) => Err(refusal),
-        _ => close(map, callers),
+        _ => Ok(finished.core),
     }
 }
 
@@ -206,23 +181,9 @@ fn say<R: Print + AllocGlobal>(rt: &R, core: &Core) -> io::Result<()> {
     )
 }
 
-/// The core of a map that is closed.
-fn close<L: Ledger>(map: SharedMap<L>, callers: Vec<Caller<L, NoSide>>) -> Result<Core, Refusal>
-    requires { map.limits.callers ≡ L.parts }
-{
-    match map.close(callers) {
-        Ok(Closed { core, callers: _ }) => Ok(core),
-        Err(_) => Err(Refusal::OutOfStep),
-    }
-}
-
 /// Does all jobs, and prints how many are finished and how often one was done.
 pub(crate) fn show<R: Threads + Wait + Sync + Print + AllocGlobal>(rt: &R) -> io::Result<()> {
-    let Ok(limits) = Limits::new(WORKERS, 8, 8) else {
-        return println!(rt; "limits");
-    };
-    let blank = Blank::new(u64::from(limits.callers()));
-    match do_all::<Brand, R>(rt, rt.alloc(), blank, limits) {
+    match do_all(rt, rt.alloc()) {
         Ok(core) => say(rt, &core),
         Err(refusal) => println!(rt; "refused: {}", refusal.text()),
     }
