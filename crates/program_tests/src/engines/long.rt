@@ -121,7 +121,10 @@ fn compare_whole(rt: &impl Abort, alloc: Global, file: &str, line: &str, most: u
 fn compare_failed(rt: &impl Abort, alloc: Global, file: &str, line: &str, fails_at: usize) {
     let (result, output) = mixed(alloc, file, Expecting::new(line, 10_000, fails_at));
     let is_told = matches!(result, Err(Fault::Write)) && output.is_right;
-    assert!(rt; is_told && output.calls == fails_at + 1, "{fails_at}");
+    assert!(rt;
+        is_told && output.calls == fails_at.saturating_add(1),
+        "{fails_at}"
+    );
 }
 
 #[test]
