@@ -10,8 +10,8 @@ use Rattle.serial_check.specs.Commits.{IsTorn, RunsSomewhere}
 use Rattle.serial_check.specs.Serializable.{txn_in}
 use Rattle.bad_entry.specs.Places.{last_of}
 
--- The commit that an entry is, with its index and its caller, where a key has this before it and
--- that after it, which differ.
+-- The index and the caller of a commit that changes a key: the key has `before` before it and
+-- `after` after it, and they differ.
 abbrev pub settled : ℕ → Entry → Option ℕ → Option ℕ → Option (ℕ × ℕ)
 settled i (Committed c p) before after =
     if option_eq nat_eq before after then None else Some (i, c)

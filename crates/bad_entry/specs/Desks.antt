@@ -1,4 +1,4 @@
--- What each caller is at.
+-- The state of each caller: the operation that it waits for, and its transaction.
 use Rattle.std.specs.Prelude.{◌≡◌, ℕ, Option, List, slice_get}
 use Rattle.std.specs.Option.{IfSome}
 use Rattle.txn_words.specs.declared.entry.Entry.{Entry}

@@ -1,4 +1,4 @@
--- What the reason of a verdict says of the history before the bad entry.
+-- The meaning of a verdict's reason for the history before the bad entry.
 use Rattle.std.specs.Prelude.{◌≡◌, ℕ, true, Option, Some, None, List, slice_get}
 use Rattle.txn_words.specs.declared.op.Op.{Op}
 use Rattle.txn_words.specs.declared.entry.Entry.{Entry}
@@ -42,7 +42,7 @@ IsLockReason stripes op h (reasons.Lock stripe holder) =
     (stripe ≡ stripe_of stripes (key_of op)) × IsHeld stripes stripe h holder
 IsLockReason stripes op h _ = ⊥
 
--- The caller is in this phase, this is its newest change that stands, and so many transactions
+-- The caller is in this phase, this is its newest change that stands, and `committed` transactions
 -- committed.
 abbrev pub IsShapeReason : List Entry → ℕ → Reason → Type 0
 IsShapeReason h c (reasons.Shape phase newest began committed) =

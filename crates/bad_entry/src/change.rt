@@ -22,7 +22,7 @@ pub struct Change {
     pub txn: Option<u64>,
 }
 
-/// What became of a change by the end of a history.
+/// The fate of a change by the end of a history.
 #[derive(Clone, Copy, Debug, PartialEq, Eq)]
 pub enum Fate {
     /// It stands, and its transaction is open.
@@ -89,7 +89,7 @@ fn is_change(waiting: Option<Op>, reply: Reply) -> bool
     }
 }
 
-/// What an entry decides of a change of this caller, above which so many newer ones stand.
+/// The fate that an entry gives a change of this caller, above which `above` newer ones stand.
 fn decided(caller: u64, above: u64, entry: Entry) -> Option<Fate>
     ensures { result ≡ decided caller above entry }
 {
@@ -118,7 +118,7 @@ fn waiting_after(caller: u64, waiting: Option<Op>, entry: Entry) -> Option<Op>
     }
 }
 
-/// How many newer changes of this caller stand above a change after an entry.
+/// The number of newer changes of this caller that stand above a change after an entry.
 fn above_after(caller: u64, waiting: Option<Op>, above: u64, entry: Entry) -> u64
     requires { above < 2 ^ 63 }
     ensures above { result ≡ above_after caller waiting above entry }
@@ -134,7 +134,7 @@ fn above_after(caller: u64, waiting: Option<Op>, above: u64, entry: Entry) -> u6
     }
 }
 
-/// What became of a change, by the entries after its Did.
+/// The fate of a change, by the entries after its Did.
 fn fate_in(after: &[SmallEntry], caller: u64) -> Fate
     ensures { result ≡ fate_from caller None 0 after.now }
 {
@@ -151,7 +151,7 @@ fn fate_in(after: &[SmallEntry], caller: u64) -> Fate
     Fate::Open
 }
 
-/// What became of a change of a history by its end.
+/// The fate of a change of a history by its end.
 ///
 /// # Cost
 ///

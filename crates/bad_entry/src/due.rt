@@ -1,4 +1,4 @@
-//! What a key has: the reply that an operation on it is due.
+//! The value of a key: the reply that an operation on it is due.
 ghost use Rattle.std.specs.Prelude.{◌≡◌, ℕ, ◌<◌, List, Some, None, if◌then◌else◌, IfOk};
 ghost use Rattle.std.specs.List.{All};
 ghost use Rattle.std.specs.Option.{option_or};
