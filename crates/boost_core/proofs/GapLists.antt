@@ -197,7 +197,7 @@ stay_sought sort (m ∷ rest) place = elim (cases_Bool (m.place == place)) [
 no_less : (k : ℕ) → nat_lt k k ≡ true → ⊥
 no_less k less = let below = ltb-true k k less in omega arith
 
--- No node stands before itself.
+-- No node is before itself.
 not_before : (at : SortKey) → IsBefore at at → ⊥
 unfolding is_before
 not_before at is =

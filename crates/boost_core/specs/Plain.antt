@@ -1,4 +1,4 @@
--- The plain calls: steps of one caller in a row, none of which has the answer `again`.
+-- The plain calls: steps of one caller in a row; none has the answer `again`.
 use Rattle.std.specs.Prelude.{◌≡◌, ℕ, ◌%◌, zero, suc, Bool, true, false, nat_le, List, [], ◌∷◌, Option, Some, Result, Ok, Err}
 use Rattle.txn_words.specs.declared.op.Op.{Op}
 use Rattle.txn_words.specs.declared.step.Step.{Step}

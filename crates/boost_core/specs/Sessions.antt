@@ -104,7 +104,7 @@ abbrev pub times_kept : Side → ℕ → ℕ → ℕ
 times_kept side place stamp =
     times_of (spare_if side.pending) place stamp + times_in side.jobs place stamp
 
--- The changes that stand, newest first: of each the key and the value before it.
+-- A change that stands: its key and the value before it.
 abbrev pub change_of : MapJob → ℕ × Option ℕ
 change_of job = (key_of_job job, value_before job)
 
