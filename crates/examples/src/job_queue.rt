@@ -56,7 +56,7 @@ fn finish<L: Ledger, R: Wait>(t: &mut Transaction<'_, L, R>, job: u64) -> Result
     Ok(())
 }
 
-/// What is done in one transaction.
+/// The work of one transaction.
 #[derive(Clone, Copy)]
 enum Task {
     /// Fills the queue.
