@@ -1,4 +1,4 @@
--- What is said of a history file.
+-- The answers about a history file.
 use Rattle.std.specs.Prelude.{◌≡◌, ℕ, Bool, true, false, nat_le, List, take, Option, Ok, Err, IfSome, if◌then◌else◌}
 use Rattle.txn_words.specs.declared.entry.Entry.{Entry}
 use Rattle.txn_words.specs.declared.holder.Holder.{Holder}

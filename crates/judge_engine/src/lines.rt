@@ -38,7 +38,7 @@ impl fmt::Display for TxnOf {
     }
 }
 
-/// What became of a change, in a word.
+/// The fate of a change, in a word.
 fn word_of(fate: Fate) -> &'static str {
     match fate {
         Fate::Open => "open",
@@ -209,7 +209,7 @@ fn put_holder(text: &mut String, stripe: u64, holder: Option<Held>) -> Result<()
     }
 }
 
-/// Adds what may stand in place of an entry of a caller in this phase.
+/// Adds the line of the entries that a caller may add in this phase.
 fn put_shape(
     text: &mut String,
     caller: u64,

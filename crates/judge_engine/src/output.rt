@@ -1,4 +1,4 @@
-//! What is written.
+//! The output of a verdict, with the lines after it, or of a fault.
 ghost use Rattle.std.specs.Prelude.{◌≡◌, ◌⊎◌, ◌++◌, IfErr, IfOk, string_bytes};
 ghost use Rattle.std.specs.Io.KnownBytes.{Appends};
 ghost use Rattle.judge_engine.specs.declared.fault.Fault.TheVariants as faults;
