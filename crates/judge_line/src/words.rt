@@ -19,7 +19,7 @@ use judge_engine::{Basis, Fault};
 use std::alloc::{AllocError, Global};
 use txn_words::Holder;
 
-/// What the words of a call ask for.
+/// A call of the program: the work that its words ask for.
 #[derive(Clone, Copy, Debug, PartialEq, Eq)]
 pub enum Call<'a> {
     /// To judge the history of a file.
@@ -229,7 +229,7 @@ fn call_for<'a>(kind: ErrorKind) -> Result<Call<'a>, Failure>
     }
 }
 
-/// What the words ask for, of which the first is the program's name, by the rules of `clap`.
+/// The call that the words ask for, by the rules of `clap`; the first word is the program's name.
 ///
 /// # Errors
 ///
