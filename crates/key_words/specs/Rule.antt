@@ -9,7 +9,7 @@ use Rattle.key_words.specs.declared.view.View.{View}
 abbrev pub view : ℕ → ℕ → List ℕ → List (ℕ × ℕ) → View
 view number made held notes = record { number = number; made = made; held = held; notes = notes }
 
--- How many times a stripe stands in a list.
+-- How often a stripe occurs in a list.
 abbrev pub times : ℕ → List ℕ → ℕ
 times stripe [] = 0
 times stripe (first ∷ rest) = cond (first == stripe) 1 0 + times stripe rest
