@@ -151,7 +151,7 @@ put_all pairs h i all put = subst (λ es. HasPut es h) (take_all i pairs all) pu
 pub same_listed : (pairs : List (ℕ × ℕ)) (h : List Entry) → HasPut pairs h → (m : Map) → pairs ≡ ordered m → now h ≡ m
 same_listed pairs h put m is = same_map (now h) m (λ q. put.values q ∙ ap (value_at q) is ∙ value_at-ordered m q)
 
--- Nobody owes anything exactly if nobody has a transaction.
+-- No entry is owed exactly if no caller has a transaction.
 closed_in : (n : ℕ) (q : Phase) → owed_in n q ≡ 0 → is_closed q ≡ true
 closed_in n Closed is = refl
 closed_in n Opened is = absurd (omega (arith, is))
@@ -206,7 +206,7 @@ some_open s owes =
     let (c, within, some) = some_owes (λ d. owed_by (seat_after (own d s.history))) s.limits.callers 0 owes in
     (c, omega (arith, within), open_by (seat_after (own c s.history)) some)
 
--- What follows if a call is done.
+-- A property follows from another if the call is done.
 pub on_ok : {T E P Q : Type 0} (result : Result T E) → (P → Q) → OnOk result P → OnOk result Q
 on_ok (Ok value) follows holds = follows holds
 on_ok (Err e) follows holds = tt
