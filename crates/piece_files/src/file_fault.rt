@@ -1,5 +1,5 @@
-//! Why a file is refused, with the numbers that users see. The order in which faults are looked for
-//! stands in the contract of `read_file`.
+//! Why a file is refused, with the numbers that users see. The contract of `read_file` gives the
+//! order in which faults are looked for.
 ghost use Rattle.std.specs.Prelude.{◌≡◌};
 ghost use Rattle.piece_files.specs.Faults.{words_of};
 ghost use Rattle.piece_files.specs.declared.file_fault.FileFault.TheVariants.{NoMemory};
