@@ -25,7 +25,7 @@ same_eqb a b = elim (cases_eq a b) [
   | inr other ↦ ne_eqb a b other ∙ sym (ne_eqb b a (λ e. other (sym e)))
 ]
 
--- Where one key has another value, and each other key the same, that key was set.
+-- If one key has another value, and each other key the same, that key was set.
 pub set_lookups : (es fs : List Pair) (key : ℕ) (value : Option ℕ) → ((q : ℕ) → lookup (nat_eq q) fs ≡ cond (nat_eq key q) value (lookup (nat_eq q) es)) → map_of fs ≡ set_at (map_of es) key value
 set_lookups es fs key value sets = same_map (map_of fs) (set_at (map_of es) key value) (λ q.
     get-map_of fs q ∙ sets q ∙ ap (λ b. cond b value (lookup (nat_eq q) es)) (same_eqb key q)

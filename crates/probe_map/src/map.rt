@@ -60,8 +60,8 @@ fn count_for(keys: usize) -> Option<usize>
         .checked_next_power_of_two()
 }
 
-/// For how many keys a map that grows is made anew, so that at most half of its slots have a key at
-/// first, and of a map of few keys at most a quarter.
+/// The number of keys for which a map that grows is made again, so that at most half of its slots
+/// have a key at first, and of a map of few keys at most a quarter.
 fn grown(len: usize, more: usize) -> Option<usize>
     ensures { IfSome result (λ keys. len + more ≤ keys) }
 {
@@ -172,7 +172,7 @@ impl ProbeMap {
         self.len
     }
 
-    /// Gives a key a value, and answers the value before it. Wants room for a key (`reserve`).
+    /// Gives a key a value, and answers the value before it. Needs room for a key (`reserve`).
     ///
     /// # Cost
     ///
