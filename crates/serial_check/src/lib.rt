@@ -27,7 +27,7 @@
 //! Proved: `check`, `check_packed`, and a `Checker` that was fed the same entries, answer what the
 //! definition `verdict` says, with the first bad entry, and they answer legal exactly if
 //! `IsSerializable` holds. An entry that is refused for lack of memory was not fed to the checker.
-//! What is legal by locks is serializable: `serializable`.
+//! A history that is legal by locks is serializable: `serializable`.
 #![tactic(auto)]
 
 mod checker;
