@@ -1,4 +1,4 @@
--- What the calls of a caller with a side value leave of that value.
+-- The side value after each call of its caller.
 use Rattle.std.specs.Prelude.{◌≡◌, ℕ, List, []}
 use Rattle.undo_log.specs.SideValue.{Leveled}
 use Rattle.undo_log.specs.Sides.{IsSameSide, IsBackAt}
