@@ -1,4 +1,4 @@
--- A sort key as contracts see it, and what its fields stand for.
+-- A sort key as contracts see it, and the meaning of its fields.
 use Rattle.std.specs.Prelude.{◌≡◌, ℕ, ◌+◌, ◌%◌, ◌^◌, ◌<◌, ◌==◌, Bool, true, false, List, length, slice_index_or, nat_le, if◌then◌else◌}
 use Rattle.std.specs.Int.{w64, to_le_bytes, from_le_bytes}
 use Rattle.std.proofs.Common.{refl, arith, inl, inr, ne_eqb, eq-eqb}
