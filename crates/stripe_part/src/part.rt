@@ -113,8 +113,8 @@ impl Part {
     }
 
     /// Takes a change back: its key has the value before it, and all other keys what they have now.
-    /// One change less is owed. Wants a change (`changes`). Taken back newest first, the changes of
-    /// a transaction leave what was there before them.
+    /// One change fewer is owed. Needs a change (`changes`). Taken back newest first, the changes
+    /// of a transaction leave what was there before them.
     ///
     /// # Cost
     ///
