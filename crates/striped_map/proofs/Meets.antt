@@ -15,7 +15,7 @@ use Rattle.striped_map.specs.Steps.{SeesIn, witness, blank, heard}
 use Rattle.striped_map.proofs.Keeps.{St, board, within, viewed}
 use Rattle.striped_map.proofs.Moves.{nothing_at}
 
--- The view is that of a seat for which nobody acts, and which has seen a beginning of the history.
+-- The view is a witness: no caller acts by it, and it has seen a beginning of the history.
 abbrev IsWitness : List Entry → View → Type 0
 IsWitness log u = (seen : List Entry) × IsPrefix seen log × (witness seen ≡ u)
 
@@ -38,13 +38,13 @@ has_seen n log u w = subst (HasSeen n log) w.2 (record {
   met = (log, refl);
 })
 
--- Nobody with this number acts or was taken in.
+-- No acting seat has this number, and no seat that was taken in had it.
 abbrev IsAway : List View → ℕ → Type 0
 IsAway views c = (i : ℕ) (v : View) → get_elem? views i ≡ some v
     → (v.acts ≡ true → v.number ≢ c)
     × ((j : ℕ) (r : ℕ × List Entry) → slice_get v.retired j ≡ Some r → r.0 ≢ c)
 
--- Such seats come and go.
+-- Witnesses come and go.
 module _ (n : ℕ) (s : St) (kept : IsKeptAt n s) (vs : List View)
     (first : get_elem? vs 0 ≡ some kept.1.first)
     (place : (i : ℕ) (u : View) → get_elem? vs i ≡ some u → (get_elem? s.views i ≡ some u) ⊎ IsWitness kept.0 u)
@@ -120,7 +120,7 @@ hears id other v seen acting s kept me ne at =
     let heard_of : IsPrefix seen met.0 = (met.3.seen id w (set_here s.views id w (within s.views id v me))).met in
     forgotten n (board s.words s.homes (set s.views id w)) met other seen heard_of at
 
--- What a seat sees once it has met something.
+-- A seat that has met something sees what it saw before.
 pub sees_met : (n : ℕ) (v u w : View) (front : List Entry) → u ≡ record v { met = front } → SeesIn n u w → SeesIn n v w
 sees_met n v u w front is sees =
     let x : SeesIn n (record v { met = front }) w = subst (λ (y : View). SeesIn n y w) is sees in

@@ -13,8 +13,8 @@ use Rattle.striped_map.specs.declared.view.View.{View}
 use Rattle.striped_map.specs.Rule.{Holds, HasSeen}
 use Rattle.striped_map.specs.Steps.{Standing}
 
--- A legal history goes on with entries of caller c alone, some of them commits, which change
--- nothing but in the stripes that P names.
+-- A legal history goes on with entries of caller c only, some of them commits, which change only
+-- the stripes that P names.
 pub record Grows (stripes c : ℕ) (P : ℕ → Type 0) (commits_more : ℕ) (log es : List Entry) : Type 0
   where
     pub legal : IsLegal Begun stripes (log ++ es)

@@ -1,5 +1,5 @@
--- What becomes of a work that is tried several times, each time in a transaction that is begun for
--- it. `work` relates the caller as the work found it, its answer, and the caller as it left it.
+-- A work that is tried several times, each time in a transaction that is begun for it. `work`
+-- relates the caller as the work found it, its answer, and the caller as it left it.
 use Rattle.std.specs.Prelude.{◌≡◌, ℕ, zero, suc, [], ◌∷◌, Result, Ok, Err, false}
 use Rattle.txn_words.specs.declared.entry.Entry.TheVariants.{Began}
 use Rattle.txn_words.specs.declared.refusal.Refusal.TheVariants.{NotOpen}
@@ -34,7 +34,7 @@ pub record Fails {T : Type 0} (work : Caller → Result T Stop → Caller → Ty
   pub since : IsSince a b
   pub closed : b.is_open ≡ false
 
--- This many attempts in a row, each of which was busy.
+-- This many busy attempts in a row.
 abbrev pub FailsBusy : {T : Type 0} → (Caller → Result T Stop → Caller → Type 0) → ℕ → Caller
     → Caller → Type 0
 FailsBusy work zero a b = b ≡ a

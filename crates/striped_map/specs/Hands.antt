@@ -1,4 +1,4 @@
--- What the calls of a hand leave.
+-- The outcomes of a hand's calls.
 use Rattle.std.specs.Prelude.{◌≡◌, ℕ, List, [], ◌∷◌, ◌++◌}
 use Rattle.txn_words.specs.declared.entry.Entry.{Entry}
 use Rattle.txn_words.specs.declared.entry.Entry.TheVariants.{Began, Busy as BusyEntry, Aborted}
@@ -15,7 +15,7 @@ use Rattle.striped_map.specs.Additions.{due}
 use Rattle.map_answers.specs.declared.stop.Stop.{Stop}
 use Rattle.map_answers.specs.declared.stop.Stop.TheVariants.{Busy, Refused}
 
--- The same caller: others may have added entries, and then it has added these.
+-- A step of one hand: others may have added entries, and then it has added these.
 pub record Moves (map : StripedMap) (a : Hand) (es : List Entry) (b : Hand) : Type 0 where
   pub number_is : (known b.seat).number ≡ (known a.seat).number
   pub retired_is : (known b.seat).retired ≡ (known a.seat).retired

@@ -1,4 +1,4 @@
--- What every call of a transaction keeps, and so every work that is made of such calls.
+-- The relation that each call of a transaction keeps, and so each work made of such calls.
 use Rattle.std.specs.Prelude.{◌≡◌}
 use Rattle.striped_map.specs.declared.transaction.Transaction.{Transaction}
 use Rattle.striped_map.specs.Callers.{IsWithin}

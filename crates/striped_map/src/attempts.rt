@@ -1,4 +1,4 @@
-//! Work that is run in a transaction, and begun anew if another caller holds a stripe.
+//! Work that is run in a transaction, and begun again if another caller holds a stripe.
 ghost use Rattle.std.specs.Prelude.{◌≡◌, ℕ, ◌≤◌, true, false, Ok, IfOk, IfErr, OnOk, OnErr};
 ghost use Rattle.txn_words.specs.declared.refusal.Refusal.TheVariants.{AlreadyOpen};
 ghost use Rattle.striped_map.specs.Attempts.{on_callers, Fails, FailsBusy};
@@ -35,7 +35,7 @@ impl Caller {
     }
 
     /// Runs the work in a transaction and commits; answers what the work did, and the commit's
-    /// place. If it was busy, gives way and begins anew, at most `tries` times. If the work fails
+    /// place. If it was busy, gives way and begins again, at most `tries` times. If the work fails
     /// all its changes are taken back.
     ///
     /// # Errors

@@ -1,4 +1,4 @@
-//! What a caller has in hand.
+//! A caller's hand: its seat, and the stripes, changes and levels of its transaction.
 //!
 //! The parts of the stripes that it holds stay in their slots, where an operation works on them as
 //! plain memory. Who calls keeps the phases.
@@ -76,7 +76,7 @@ fn widen(index: &mut Vec<u16>, stripes: usize) -> Result<(), AllocError>
     Ok(())
 }
 
-/// How many changes stood at a level.
+/// The number of changes that stood at a level.
 fn mark_of(levels: &Vec<usize>, level: usize) -> usize
     requires { level ≤ vec_len levels.now }
     ensures { result ≡ slice_index (0 ∷ levels.now.items) level }
@@ -320,7 +320,7 @@ impl Hand {
         map.take_in(&mut self.seat, other);
     }
 
-    /// Answers the pairs of the map in a transaction of its own, which it takes back.
+    /// Answers the pairs of the map, in a separate transaction that it takes back.
     pub(crate) fn read(&mut self, map: &StripedMap, alloc: Global) -> Result<Vec<(u64, u64)>, Stop>
         requires map { IsOf self.old.seat map.now }
         requires closed { IsAt Closed (known self.old.seat) }
