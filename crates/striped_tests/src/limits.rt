@@ -9,7 +9,8 @@ use std::test::Fail;
 use striped_map::{open_map, open_map_with_capacity};
 use txn_words::{Op, Refusal};
 
-/// How many callers a map of so many stripes and callers has, or none if it is refused as a limit.
+/// How many callers a map gets that is opened with these numbers, or none if they are refused as a
+/// limit.
 fn callers_in(alloc: Global, stripes: usize, callers: usize) -> Result<Option<usize>, AllocError> {
     match open_map(alloc, stripes, callers) {
         Ok((_host, made)) => Ok(Some(made.len())),
@@ -44,7 +45,7 @@ fn stripes_and_callers(rt: HostRuntime) -> Result<(), Fail> {
     Ok(())
 }
 
-/// Why there is no map of so many stripes and callers with room for so many keys.
+/// Why no map is opened with these numbers of stripes and callers and room for these keys.
 fn why_not(alloc: Global, stripes: usize, callers: usize, keys: usize) -> Option<Refusal> {
     open_map_with_capacity(alloc, stripes, callers, keys).err()
 }
@@ -88,7 +89,7 @@ const NO_KEYS: &[Row] = &[
     (0, Ask::Abort, Told::Done),
 ];
 
-/// Puts a thousand rising keys, each in a transaction of its own, and half as many again in one.
+/// Puts a thousand rising keys, each in a separate transaction, and half as many again in one.
 fn put_a_thousand<R: Abort>(rt: &R, home: &mut Home) {
     for key in 0..1_000u64 {
         let rows = [
@@ -206,7 +207,7 @@ fn widest_keys(rt: HostRuntime) {
     }
 }
 
-/// Sets a thousand savepoints, each after key 1 was given the level that comes next.
+/// Sets a thousand savepoints; before each, key 1 is given the next level.
 fn save_a_thousand<R: Abort>(rt: &R, home: &mut Home) {
     for level in 1..1001u64 {
         let had = (level > 1).then_some(level - 1);

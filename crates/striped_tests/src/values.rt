@@ -4,7 +4,7 @@ use std::process::Abort;
 use striped_map::{Caller, Stop, Transaction};
 use txn_words::{Op, Refusal, Reply};
 
-/// What a transaction is asked for.
+/// A request to a transaction.
 #[derive(Clone, Copy)]
 enum Call {
     Do(Op),
@@ -17,7 +17,7 @@ enum Call {
     Pairs,
 }
 
-/// What it answers: that, a reply, a number, or yes or no; of `Pairs`, how many there are.
+/// The answer to a request: done, a reply, a number, or yes or no; of `Pairs`, how many there are.
 #[derive(Clone, Copy, PartialEq, Eq)]
 enum Answer {
     Done,
@@ -94,7 +94,7 @@ enum End {
     IsDropped,
 }
 
-/// What a transaction answers.
+/// Makes a call of a transaction, and tells its answer.
 fn told_by(t: &mut Transaction<'_>, what: Call) -> Answer {
     match make_call(t, what) {
         Ok(told) => told,
@@ -149,7 +149,7 @@ const HOLDS: &[Row] = &[
 /// It leaves the pair.
 const LETS_GO: &[Row] = &[(1, Ask::Commit, Told::Number(1))];
 
-/// Caller 2 then finds no stripe held, and the pair alone.
+/// Caller 2 then finds no stripe held, and only the one pair.
 const AFTER: &[Row] = &[
     (1, Ask::Begin, Told::Done),
     (1, Ask::Len, Told::Number(1)),
@@ -170,7 +170,7 @@ fn play_first<R: Abort>(
     assert!(rt; ended == wanted);
 }
 
-/// So many calls of caller 1 are taken back.
+/// This number of calls of caller 1 are taken back.
 fn taken_back<R: Abort>(rt: &R, home: &mut Home, calls: usize, end: End) {
     play(rt, home, HOLDS);
     play(rt, home, LETS_GO);
@@ -286,7 +286,7 @@ fn returned_early(rt: HostRuntime) {
 }
 
 /// The calls that a caller has besides those of `Ask`: whether the map is empty, whether key 1 is
-/// there, and two swaps, of which the second is never made.
+/// there, and two swaps, the second of which is never made.
 fn looks(caller: &mut Caller) -> Result<[bool; 4], Stop> {
     caller.begin()?;
     let is_empty = caller.is_empty()?;
