@@ -53,7 +53,7 @@ pub enum Phase {
 
 impl Phase {
     /// Goes on to the phase after an answer to the step of this one. Each kind of phase is written
-    /// in a place of its own, so that only the parts that it has are written.
+    /// in its own place, so that only the parts that it has are written.
     #[inline(always)]
     pub(crate) fn told(&mut self, call: Call, answer: Answer)
         ensures { self.new ≡ told_in call self.old answer }
