@@ -121,7 +121,7 @@ fn kept(entry: Entry) -> SmallEntry
     small
 }
 
-/// What is kept of the entry that has these elements.
+/// The entry that is kept for these elements.
 #[tactic(auto, unfolding(crate::specs::HistoryFile::kept_of))]
 fn kept_entry_in(values: &[Plain<'_>]) -> Option<SmallEntry>
     ensures { result ≡ kept_of (map data_of values.now) }
