@@ -50,7 +50,7 @@ act_returned run n =
     then Some (record run { notes = take (n + 1) run.notes })
     else None
 
--- The run after an entry, or None if the entry may not stand there.
+-- The run after an entry, or None if the entry is not allowed there.
 abbrev pub act : Run → Entry → Option Run
 act run (Asked c op) = Some (record run { pending = Some op })
 act run (Did c r) = act_did run run.pending r
