@@ -1,4 +1,4 @@
--- What visitors' own entries say of what they got, in a legal history.
+-- The replies of visitors, by their entries in a legal history.
 use Rattle.std.proofs.Common.{◌≡◌, ℕ, Bool, true, false, cond, List, [], ◌∷◌, ◌++◌, Option, Some, None, IsSome, IfOk, refl, sym, ap, ◌∙◌}
 use Rattle.std.specs.Prelude.{nat_eq, Result, Ok}
 use Rattle.std.specs.Option.{option_eq, option_and_then}
@@ -31,12 +31,12 @@ use Rattle.locked_map.specs.Closes.{IsOwn}
 use Rattle.visits.specs.declared.visit.Visit.{Visit}
 use Rattle.visits.specs.Visits.{visiting, HasDone, HasVisited, IsAnswered, AreAnswered}
 
--- A run goes on to its commit only where its reply was right.
+-- A run goes on to its commit only if its reply was right.
 tested : (c place : ℕ) (b : Bool) (run : Run) → IsSome (option_and_then (λ r. act r (Committed c place)) (cond b (Some run) None)) → b ≡ true
 tested c place true run there = refl
 tested c place false run there = absurd (false≢true there)
 
--- Alone on any map, what is put is got.
+-- A visit that runs alone on any map gets what it put.
 got_alone : (m : Map) (c : ℕ) (visit : Visit) (txn : ℕ) (before reply : Option ℕ) (place : ℕ) → IsSome (alone m (visiting c visit txn before reply place)) → reply ≡ Some visit.value
 got_alone m c visit txn before reply place =
     let put : Map = insert m visit.key visit.value in
@@ -62,7 +62,7 @@ got_at_close visit reply me stripes h visited legal own_is =
       got = got_alone (serial committed.before) c visit visited.txn visited.before reply visited.place committed.replied;
     }
 
--- So all visitors are answered whose works have come to an end.
+-- So all visitors are answered whose works have ended.
 pub all_answered : {S : Type 0} (limits : Sizes) (callers : ℕ) (visits : List Visit) (core : State) (answers : List (Result (Option ℕ) Stop))
     → AreDone {S = S} (λ visit answer me. IfOk answer (λ reply. HasVisited visit reply me)) limits callers visits core answers → AreAnswered core.history visits answers
 all_answered limits callers visits core answers done = record {

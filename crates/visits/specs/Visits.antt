@@ -1,4 +1,4 @@
--- What a visitor of a shared map has seen of its visit, and what all visitors are answered.
+-- The visit that a visitor of a shared map has seen, and the answers to all visitors.
 use Rattle.std.specs.Prelude.{ℕ, ◌≡◌, List, [], ◌∷◌, ◌++◌, length, slice_get, Option, Some, Result}
 use Rattle.std.specs.Prelude.{Ok}
 use Rattle.txn_words.specs.declared.op.Op.TheVariants.{Put, Get}
