@@ -13,7 +13,7 @@ use Rattle.bad_entry.specs.declared.desks.Desks.{Desks}
 abbrev pub txn_in : List Entry → ℕ → Option ℕ
 txn_in h c = the_txn_in h c
 
--- The operation that a caller waits with for its reply.
+-- The operation for whose reply a caller waits.
 abbrev pub waiting_in : List Entry → ℕ → Option Op
 waiting_in h c = (log_after (own c h)).pending
 

@@ -1,4 +1,4 @@
-//! Who last changed a key, and what became of that.
+//! The last change of a key, and its fate.
 ghost use Rattle.std.specs.Prelude.{◌≡◌, ◌+◌, ◌<◌, ◌≤◌, ◌^◌, List, Option, None, IfOk};
 ghost use Rattle.std.specs.List.{All};
 ghost use Rattle.txn_words.specs.Kinds.{caller_of};
@@ -33,7 +33,7 @@ pub enum Fate {
     Undone,
 }
 
-/// The change that an entry, at this index, makes of a key, if it makes one.
+/// The change of a key that an entry at this index makes, if it makes one.
 fn change_at(desks: &Desks, key: u64, index: u64, entry: Entry) -> Option<Change>
     requires { caller_of entry < 64 }
     ensures { (h : List Entry) → HaveNoted h desks.now → result ≡ change_at key index h entry }
@@ -104,7 +104,7 @@ fn decided(caller: u64, above: u64, entry: Entry) -> Option<Fate>
     }
 }
 
-/// The operation that this caller waits with after an entry.
+/// The operation that this caller waits for after an entry.
 fn waiting_after(caller: u64, waiting: Option<Op>, entry: Entry) -> Option<Op>
     ensures { result ≡ waiting_after caller waiting entry }
 {

@@ -26,15 +26,15 @@ use txn_trace::{Entry, Holder, Op, Phase, Reply, SmallEntry};
 pub enum Reason {
     /// By locks: the reply is not that of the map as it is now.
     Reply {
-        /// The operation that the caller waits with.
+        /// The operation that the caller waits for.
         op: Op,
         /// The reply that was due.
         due: Reply,
         /// The last change of the key, and what became of it.
         last: Option<(Change, Fate)>,
     },
-    /// By the order of commits: the transaction that commits read at a key what the committed map
-    /// has not.
+    /// By the order of commits: the transaction that commits read at a key a value that the
+    /// committed map does not have.
     Misread {
         /// The key.
         key: u64,
@@ -59,7 +59,7 @@ pub enum Reason {
         /// Who holds it, if anyone does.
         holder: Option<Held>,
     },
-    /// The entry does not follow on its caller's entries, or has not the next number.
+    /// The entry may not follow its caller's entries, or does not have the next number.
     Shape {
         /// The caller's phase, which tells which entries are allowed there instead.
         phase: Phase,
@@ -89,7 +89,7 @@ fn last_in(
     }
 }
 
-/// The operation that a caller waits with after a history.
+/// The operation that a caller waits for after a history.
 fn waiting_in(alloc: Global, entries: &[SmallEntry], caller: u64) -> Result<Option<Op>, AllocError>
     requires caller { caller < 64 }
     requires callers { All (λ entry. caller_of entry < 64) entries.now }
