@@ -37,8 +37,7 @@ Begins is_old ranged ds = (more : List Data) × IsSome (entry_in is_old ranged (
 -- The element of this index is the first at fault in elements that are no entry, and `wanted` is
 -- what is allowed there: some entry begins with the elements before it; one begins with these and a
 -- further element exactly if that element is as wanted; and this one is not. If None is wanted, no
--- element is allowed there; if
--- one is missing, the index is the number of elements.
+-- element is allowed there; if one is missing, the index is the number of elements.
 pub record IsFault (is_old ranged : Bool) (ds : List Data) (i : ℕ) (wanted : Option Expected)
     : Type 0 where
   pub refused : entry_in is_old ranged ds ≡ None

@@ -78,9 +78,9 @@ fn push_after(
     }
 }
 
-/// The index of the first element at fault in what is no entry, and what is expected there; none
-/// if the elements are an entry. Version 1 has not all entries; the range of callers counts only if
-/// it is asked for.
+/// The index of the first element at fault in elements that are no entry, and what is expected
+/// there; none if they are an entry. Version 1 lacks some entries; the range of callers counts only
+/// if it is asked for.
 ///
 /// # Errors
 ///

@@ -32,7 +32,7 @@ pub enum Expected {
 }
 
 impl Expected {
-    /// It in words.
+    /// The value in words.
     fn words(self) -> &'static str
         ensures { result.now ≡ expected_text self }
     {
