@@ -49,8 +49,8 @@ pub record State : Type 0 where
   pub helpers : List Help
   pub placed : Option Owner
 
--- At the start the history is empty, and the table has two buckets, the first of them stored.
--- Only its dummy is linked.
+-- At the start the history is empty, and the table has two buckets, the first of them stored. Only
+-- its dummy is linked.
 abbrev pub start : Sizes → State
 start limits = record {
   limits = limits;
