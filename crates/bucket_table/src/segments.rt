@@ -81,8 +81,8 @@ impl Model for Segments {
 }
 
 impl Segments {
-    /// The entries of this number of buckets; only bucket 0 is stored, with this dummy.
-    /// Takes memory for the row and for the first segment.
+    /// The entries of this number of buckets; only bucket 0 is stored, with this dummy. Takes
+    /// memory for the row and for the first segment.
     pub(crate) fn new(alloc: Global, limit: u32, first: NodeRef) -> Result<Self, AllocError>
         requires { 0 < limit }
         ensures { IfOk result (λ entries. entries ≡ Some first ∷ replicate (limit - 1) None) }
