@@ -159,7 +159,7 @@ impl Callers {
         self.table[caller as usize].reserve(entry)
     }
 
-    /// Goes on by an entry, for which there is room.
+    /// Enters an entry, for which there is room.
     ///
     /// # Cost
     ///
