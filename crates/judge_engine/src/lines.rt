@@ -98,7 +98,7 @@ fn put_entries_on(
     Ok(())
 }
 
-/// Adds the entries on a key since the last commit that changed what it has.
+/// Adds the entries on a key since the last commit that changed its value.
 fn put_since_commit(
     alloc: Global,
     text: &mut String,
@@ -164,7 +164,7 @@ fn put_last(text: &mut String, key: u64, last: Option<(Change, Fate)>) -> Result
     }
 }
 
-/// The last change of a key, and what became of it.
+/// The last change of a key, and its fate.
 fn last_in(
     alloc: Global,
     entries: &[SmallEntry],

@@ -29,7 +29,7 @@ pub enum OutcomesFault {
     HistoryRead,
     /// Memory was refused.
     NoMemory,
-    /// A write failed, or took nothing of the bytes that there were.
+    /// A write failed, or took none of the bytes.
     Write,
 }
 
