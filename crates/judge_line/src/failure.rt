@@ -1,4 +1,4 @@
-//! Why a call of the program has no verdict, and the usage, which is printed of words that are no
+//! Why a call of the program has no verdict, and the usage, which is printed for words that are no
 //! call.
 ghost use Rattle.std.specs.Prelude.{◌≡◌};
 ghost use Rattle.judge_line.specs.Failures.{message_of, status_of};

@@ -27,7 +27,7 @@ pub struct Ending {
     /// The exit status: 0 if all is well, 1 for an illegal history or a script that was given up,
     /// else that of the failure.
     pub status: u8,
-    /// Whether standard error took all that there was to say.
+    /// Whether standard error took the whole message.
     pub is_told: bool,
 }
 
@@ -129,8 +129,8 @@ fn outcomes_in<S: System, W: Write>(
     Ok(tell_outcomes(alloc, scripts, history, output)?)
 }
 
-/// Does what a call asks for. The answer is whether all is well: of an illegal history it is not,
-/// nor of a script without an abort that was given up.
+/// Does what a call asks for. The answer is whether all is well: it is not if a history is illegal,
+/// or a script without an abort was given up.
 fn answer<S: System, W: Write>(
     alloc: Global,
     system: &S,
