@@ -58,7 +58,7 @@ pub fn one_in(values: &[Plain<'_>]) -> Option<u64>
     if rest.is_empty() { Some(number) } else { None }
 }
 
-/// That there is no element. None if there is one.
+/// `Some` if there is no element, else None.
 ///
 /// # Cost
 ///

@@ -117,7 +117,7 @@ pub struct Pieces<P> {
     pub count: usize,
     /// Whether all elements of the array are pieces.
     pub are_all: bool,
-    /// The index of the first of them that version 1 has not, if there is one.
+    /// The index of the first of them that version 1 lacks, if there is one.
     pub first_new: Option<usize>,
 }
 
