@@ -50,7 +50,7 @@ impl Model for ProbeMap {
     ghost invariant = { λ m. IsTable m.slots.items m.room m.len m.shift };
 }
 
-/// How many slots an array has that has room for these keys: they leave an eighth of them empty.
+/// The number of slots of an array with room for these keys: they leave an eighth of them empty.
 fn count_for(keys: usize) -> Option<usize>
     ensures { IfSome result (λ count. keys ≤ most_used count) }
 {
@@ -154,7 +154,7 @@ impl ProbeMap {
     ///
     /// # Cost
     ///
-    /// Constant time on the average, but for keys whose homes collide: the hash is fixed.
+    /// Constant time on the average, except for keys whose homes collide: the hash is fixed.
     #[inline(always)]
     pub fn get(&self, key: u64) -> Option<u64>
         ensures { result ≡ get self.now.content key }
