@@ -1,5 +1,6 @@
-//! A caller of a striped map with a *side value*: a value of the caller's own, as a count or a
-//! place in a file, whose changes are taken back with the transaction that they were made in.
+//! A caller of a striped map with a *side value*: a value that belongs to the caller, such as a
+//! count or a place in a file, whose changes are taken back with the transaction that they were
+//! made in.
 //!
 //! The model is the caller (`striped_map`) beside the side value with its levels (`undo_log`).
 //! Invariant: the side value has as many levels as the transaction, the beginning and each

@@ -129,8 +129,8 @@ impl<S: Side> SidedCaller<S> {
     ///
     /// # Errors
     ///
-    /// Those of `Caller::get`. If it was busy the side value has the words that it had as the
-    /// transaction began; of a refusal it is unchanged.
+    /// Those of `Caller::get`. If it was busy the side value has the words that it had when the
+    /// transaction began; after a refusal it is unchanged.
     ///
     /// # Cost
     ///
@@ -293,7 +293,7 @@ impl<S: Side> SidedCaller<S> {
     }
 
     /// Commits the transaction, gives its stripes back, and answers its place among all commits,
-    /// counted from 1, modulo 2^64. The side value stays as it is.
+    /// counted from 1, modulo 2^64. The side value is unchanged.
     ///
     /// # Errors
     ///
@@ -345,8 +345,8 @@ impl<S: Side> SidedCaller<S> {
         Ok(())
     }
 
-    /// Lets this caller see all that another caller of the map has seen, as `Caller::catch_up` does.
-    /// Transactions that are open and both side values stay as they are.
+    /// Lets this caller see all that another caller of the map has seen, as `Caller::catch_up`
+    /// does. Open transactions and both side values are unchanged.
     ///
     /// # Cost
     ///
