@@ -40,9 +40,9 @@ impl Caller {
     ///
     /// # Errors
     ///
-    /// `AlreadyOpen` of a caller that is in a transaction, which is unchanged; what the last try of
-    /// the work answered, `Busy` only once all tries are used up; `NotOpen` if the work went on
-    /// after a call was busy.
+    /// `AlreadyOpen` if the caller is in a transaction, which is unchanged; the error of the last
+    /// try, which is `Busy` only once all tries are used up; `NotOpen` if the work went on after a
+    /// call was busy.
     ///
     /// # Cost
     ///
