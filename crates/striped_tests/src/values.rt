@@ -1,4 +1,4 @@
-//! Transactions as values, on the calls that `Ask` has not: each call, and a drop at every point.
+//! Transactions as values, on the calls that `Ask` lacks: each call, and a drop at every point.
 use crate::calls::{Ask, Home, NEW, Row, Told, leaves, must, open, play};
 use std::process::Abort;
 use striped_map::{Caller, Stop, Transaction};
