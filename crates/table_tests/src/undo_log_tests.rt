@@ -102,7 +102,7 @@ fn figures(log: &UndoLog<Raised>) -> (usize, usize, bool) {
     (log.level(), log.len(), log.is_empty())
 }
 
-/// Takes back this number of jobs, newest first, which are all that there are. Needs no memory.
+/// Takes back all jobs, which are this many, newest first. Needs no memory.
 fn take_back(rt: &impl Abort, log: &mut UndoLog<Raised>, jobs: u64) -> Result<(), Fail> {
     assert!(rt; log.len() as u64 == jobs);
     for expected in [9, 8, 7, 6, 5, 4, 3, 2, 1] {
