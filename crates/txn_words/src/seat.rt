@@ -195,8 +195,8 @@ impl Seat {
         }
     }
 
-    /// Makes room for one more savepoint, if there is none; neither the seat nor the room that
-    /// there was changes.
+    /// Makes room for one more savepoint, if there is none; the seat and the room that it has are
+    /// unchanged.
     ///
     /// # Errors
     ///
