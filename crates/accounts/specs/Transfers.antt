@@ -75,7 +75,7 @@ pub record HasWorked (from to sum : ℕ) (moved : Bool) (a b : Caller) : Type 0 
   pub has : Option ℕ
   pub written : HasWritten (number a) from to sum moved had has entries
 
--- The work of a transfer with its answer; of one that failed nothing is said here.
+-- The work of a transfer with its answer; nothing is stated of one that failed.
 abbrev pub Works : ℕ → ℕ → ℕ → Caller → Result Bool Stop → Caller → Type 0
 Works from to sum a (Ok moved) b = HasWorked from to sum moved a b
 Works from to sum a (Err stop) b = Unit {0}
