@@ -1,4 +1,4 @@
--- Changes of a key, and what becomes of them.
+-- Changes of a key, and their fates.
 use Rattle.std.specs.Prelude.{ℕ, ◌+◌, ◌-◌, ◌==◌, Bool, false, ◌&&◌, Option, Some, None, List, [], ◌∷◌, length, drop, if◌then◌else◌}
 use Rattle.txn_words.specs.declared.op.Op.{Op}
 use Rattle.txn_words.specs.declared.entry.Entry.{Entry}
@@ -25,7 +25,7 @@ change_at k i g (entries.Did c r) =
     else None
 change_at k i g _ = None
 
--- The last change of the key, be it taken back or not.
+-- The last change of the key, whether taken back or not.
 abbrev pub last_change : ℕ → List Entry → Option Change
 last_change k h = last_of (λ g e. change_at k (length g) g e) h
 

@@ -22,6 +22,6 @@ pub record IsAt (h : List Entry) (c : ℕ) (desk : Desk) : Type 0 where
   pub waiting : desk.waiting ≡ waiting_in h c
   pub txn : desk.txn ≡ txn_in h c
 
--- So is each of them.
+-- Each desk is what its caller's entries make it.
 pub record HaveNoted (h : List Entry) (desks : Desks) : Type 0 where
   pub each : (c : ℕ) → IfSome (slice_get desks.table.items c) (IsAt h c)

@@ -74,8 +74,8 @@ pub fn value_now(
     Ok(checker.value(key))
 }
 
-/// The last commit of a serializable history that changed what a key has in the map of the
-/// committed transactions: the index of its Committed, and its caller.
+/// The last commit of a serializable history that changed a key's value in the map of the committed
+/// transactions: the index of its Committed, and its caller.
 ///
 /// # Errors
 ///

@@ -30,7 +30,7 @@ pub enum Reason {
         op: Op,
         /// The reply that was due.
         due: Reply,
-        /// The last change of the key, and what became of it.
+        /// The last change of the key, and its fate.
         last: Option<(Change, Fate)>,
     },
     /// By the order of commits: the transaction that commits read at a key a value that the
@@ -42,8 +42,8 @@ pub enum Reason {
         read: Reply,
         /// The value in the committed map: the reply that was due.
         due: Reply,
-        /// The last commit that changed what the committed map has there: the index of its
-        /// Committed, and its caller.
+        /// The last commit that changed the committed map there: the index of its Committed, and
+        /// its caller.
         commit: Option<(u64, u64)>,
     },
     /// By the order of commits: the replies of the transaction that commits contradict one another,
@@ -74,7 +74,7 @@ pub enum Reason {
     Nothing,
 }
 
-/// The last change of a key, and what became of it.
+/// The last change of a key, and its fate.
 fn last_in(
     alloc: Global,
     entries: &[SmallEntry],
