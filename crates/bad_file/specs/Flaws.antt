@@ -72,11 +72,11 @@ is_one (Some n) = n == 1
 abbrev pub is_old_file : Data → Bool
 is_old_file d = is_one (number_named version d)
 
--- It is an entry.
+-- The value is an entry.
 abbrev pub IsEntry : Bool → Bool → Data → Type 0
 IsEntry is_old ranged d = IsSome (option_and_then (entry_in is_old ranged) (elements_of d))
 
--- All of them are entries.
+-- All values are entries.
 abbrev pub AreEntries : Bool → Bool → List Data → Type 0
 AreEntries is_old ranged ds = All (IsEntry is_old ranged) ds
 
@@ -87,7 +87,7 @@ IsFlawOfEntry is_old ranged d i (Some ds) flaw =
     (j : ℕ) × (wanted : Option Expected) × IsFault is_old ranged ds j wanted
     × (flaw ≡ wrong d (Element i j) wanted)
 
--- The entry of this index is the first that is none, and this is what is wrong with it.
+-- The entry of this index is the first that is none, and this is its flaw.
 pub record IsFlawAt (is_old ranged : Bool) (d : Data) (i : ℕ) (flaw : Flaw) : Type 0 where
   pub entry : Data
   pub is_there : entry_at i d ≡ Some entry

@@ -1,4 +1,4 @@
--- The texts of what is wrong with a history file.
+-- The texts of a history file's flaws.
 use Rattle.std.specs.Prelude.{ℕ, List, ◌++◌, Bool, true, false, Some, None, if◌then◌else◌, codes, decimal}
 use Rattle.bad_file.specs.declared.expected.Expected.{Expected}
 use Rattle.bad_file.specs.declared.expected.Expected.TheVariants as expected
