@@ -1,4 +1,4 @@
--- Which entries a checker was fed.
+-- The entries that a checker was fed.
 use Rattle.std.specs.Prelude.{ℕ, List}
 use Rattle.txn_words.specs.declared.entry.Entry.{Entry}
 use Rattle.txn_words.specs.declared.holder.Holder.{Holder}

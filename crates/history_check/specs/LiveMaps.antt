@@ -12,7 +12,8 @@ use Rattle.history_check.specs.declared.live_map.LiveMap.{LiveMap}
 use Rattle.history_check.specs.Callers.{HaveEntered}
 use Rattle.history_check.specs.Remainders.{Have}
 
--- Its values are those of the map now, and its stripes have the holders that the history says.
+-- The live map has the values of the map now, and its stripes have the holders that the history
+-- says.
 pub record Shows (holder : Holder) (stripes : ℕ) (h : List Entry) (live : LiveMap) : Type 0 where
   pub holder_is : live.holder ≡ holder
   pub stripes_are : live.stripes ≡ stripes
