@@ -1,4 +1,4 @@
--- By which rules a history is judged.
+-- The rules by which a history is judged.
 use Rattle.std.specs.Prelude.{◌<◌, List}
 use Rattle.txn_words.specs.declared.entry.Entry.{Entry}
 use Rattle.txn_trace.specs.Legal.{IsLegal}
