@@ -65,15 +65,15 @@ Does (Outcomes scripts history) files old new = λ outcome. MatchResult outcome
 Does Help files old new = Ends (Shows USAGE.now old new) (λ fault. fault ≡ faults.Write)
 Does Version files old new = Ends (Shows VERSION.now old new) (λ fault. fault ≡ faults.Write)
 
--- Nothing was done: memory was refused, or the words, if they are known, ask for nothing that there
--- is. Nothing was written.
+-- Nothing was done: memory was refused, or the words, if they are known, give no call. Nothing was
+-- written.
 abbrev pub DoesNothing : Option (List Text) → Option (List ℕ) → Option (List ℕ) → Failure → Type 0
 DoesNothing spoken old new failures.Usage =
     Keeps old new × IfSome spoken (λ words. Asks words None)
 DoesNothing spoken old new (failures.Fault fault) = Keeps old new × (fault ≡ faults.NoMemory)
 DoesNothing spoken old new (failures.Outcomes fault) = ⊥
 
--- It was done what the words ask for, if they are known.
+-- The call that the words ask for, if they are known, was done.
 pub record DoesAsked (spoken : Option (List Text)) (files : Files) (old new : Option (List ℕ))
     (outcome : Outcome) : Type 0 where
   pub what : Asked

@@ -91,7 +91,7 @@ abbrev pub is_set : Option Text → Bool
 is_set None = false
 is_set (Some word) = bytes_eq word (codes "true")
 
--- The most locks that keys may be shared out to, and how many they are if no number is given.
+-- The greatest number of locks, which is also the default.
 abbrev pub max_stripes : ℕ
 max_stripes = 4096
 
