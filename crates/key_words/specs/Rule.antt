@@ -18,7 +18,7 @@ times stripe (first ∷ rest) = cond (first == stripe) 1 0 + times stripe rest
 abbrev pub Holds : View → ℕ → Type 0
 Holds v stripe = 0 < times stripe v.held
 
--- One if the word is that of the seat with this number, else none.
+-- 1 if the word is that of the seat with this number, else 0.
 abbrev pub once_for : ℕ → ℕ → ℕ
 once_for number word = cond (word == number + 1) 1 0
 
