@@ -71,7 +71,7 @@ AreLeft depth ts ds others =
     (n : ℕ) → length ts ≤ n
     → converted of_items (items (value depth) n ts) ≡ Some (items_from ds, others)
 
--- So are the bytes, wherever an element may begin.
+-- The bytes are the elements that are left of an array, wherever an element may begin.
 abbrev pub Begin : ℕ → List ℕ → List Data → List Token → Type 0
 Begin depth bytes ds others =
     (place : Place) → may_begin place ≡ true → AreLeft depth (tokens_at place bytes) ds others

@@ -25,7 +25,7 @@ abbrev pub members_at : ℕ → List Token → Option (Members × List Token)
 members_at depth ts =
     converted (λ ms. of_members ms no_members) (members (value depth) (length ts) ts)
 
--- Null, a text, or a whole number below 2^64: what is kept of elements.
+-- Null, a text, or a whole number below 2^64: the elements that are kept.
 abbrev pub is_whole : Num → Bool
 is_whole (unsigned n) = true
 is_whole (negative z) = false
