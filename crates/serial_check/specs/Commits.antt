@@ -36,7 +36,7 @@ pub record Keeps (h : List Entry) (commits : Commits) : Type 0 where
   pub values : Has (serial h) commits.values
   pub footprints : (c : ℕ) → IfSome (slice_get commits.footprints.items c) (IsOfCaller h c)
 
--- The new ones keep all that the old ones keep.
+-- The new commits keep all that the old ones keep.
 abbrev pub Stays : Commits → Commits → Type 0
 Stays old new = (h : List Entry) → Keeps h old → Keeps h new
 
