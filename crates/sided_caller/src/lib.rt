@@ -8,7 +8,7 @@
 //!
 //! Proved: each call does to the map what the caller's own call does, and nothing else. The side
 //! value has after `back` the words that it had at that level, and after `abort`, and if an
-//! operation was busy, those that it had as the transaction began; `begin`, `commit` and all
+//! operation was busy, those that it had when the transaction began; `begin`, `commit` and all
 //! refusals leave it unchanged, and so do operations. No words are stored and none is copied: each
 //! change brings a job that takes it back (`Side`).
 //!
