@@ -8,7 +8,7 @@ use Rattle.map_answers.specs.declared.stop.Stop.{Stop}
 use Rattle.map_answers.specs.declared.stop.Stop.TheVariants.{Busy, Refused}
 use Rattle.striped_map.specs.Callers.{number, IsStep, IsSince}
 
--- A relation of what holds a caller, as one of the callers.
+-- A relation of values that hold a caller, as a relation of the callers.
 abbrev pub on_callers : {H A : Type 0} → (H → Caller) → (H → A → H → Type 0)
     → Caller → A → Caller → Type 0
 on_callers caller_of relation a answer b =

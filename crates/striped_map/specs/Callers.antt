@@ -71,7 +71,7 @@ pub record IsSince (a b : Caller) : Type 0 where
   pub commits : how_many is_commit (own (number a) (seen b))
       ≡ how_many is_commit (own (number a) (seen a))
 
--- And it began nothing.
+-- The caller has seen more since, and has committed and begun nothing.
 pub record IsWithin (a b : Caller) : Type 0 where
   pub since : IsSince a b
   pub begins : how_many is_began (own (number a) (seen b))
