@@ -193,13 +193,13 @@ const WIDEST: [u64; 7] = [
     18_446_744_073_709_551_615,
 ];
 
-/// Plays those keys.
+/// Plays the widest keys.
 fn play_widest<R: Abort>(rt: &R, home: &mut Home) {
     play_keys(rt, home, WIDEST.as_slice());
     leaves(rt, home, &WIDEST.map(|key| (key, 0)));
 }
 
-/// Those keys on 1, 3 and 4,096 stripes.
+/// The widest keys on 1, 3 and 4,096 stripes.
 #[test]
 fn widest_keys(rt: HostRuntime) {
     for &stripes in &[1, 3, 4096usize] {
@@ -329,7 +329,7 @@ fn put_scattered<R: Abort>(rt: &R, home: &mut Home) {
     }
 }
 
-/// Those pairs by rising keys.
+/// The pairs of `put_scattered`, by rising keys.
 fn rising(alloc: Global) -> Result<Vec<(u64, u64)>, AllocError> {
     let mut pairs = Vec::new(alloc);
     for key in 0..101u64 {

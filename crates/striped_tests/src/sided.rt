@@ -1,4 +1,4 @@
-//! Callers with a side value: each call, and what becomes of the side value with it.
+//! Callers with a side value: each call, and its effect on the side value.
 ghost use Rattle.std.specs.Prelude.{◌≡◌, OnOk};
 
 use crate::calls::{self, Ask, Home, NEW, Told, has_left, must, open};

@@ -44,7 +44,7 @@ fn play_widest<R: Abort>(rt: &R, home: &mut SidedHome) {
     leaves(rt, home, &WIDEST.map(|pair| (pair.0, 0)));
 }
 
-/// Those keys on 1 and 4,096 stripes.
+/// The widest keys on 1 and 4,096 stripes.
 #[test]
 fn widest_keys(rt: HostRuntime) {
     for &stripes in &[1, 4096usize] {
