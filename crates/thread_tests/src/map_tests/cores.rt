@@ -89,7 +89,7 @@ static SWEPT: [(Step, Answer); 3] = [
     (Step::Begin(0), Answer::Began(2)),
 ];
 
-/// The node of a key that is taken is marked, and no one seeks past it: the core of the closed map
+/// The node of a key that is taken is marked, and no seek passes it: the core of the closed map
 /// still has it.
 struct Marked;
 
@@ -134,7 +134,7 @@ fn try_idly<L: Ledger, R: Wait + Abort>(
     Ok(())
 }
 
-/// A token without a transaction tries no word, so no one finds its stripe held.
+/// A token without a transaction tries no word, so no caller finds its stripe held.
 struct Idle;
 
 impl Play for Idle {
