@@ -77,7 +77,7 @@ kept_file = record {
   most = max_entries;
 }
 
--- The history file that bytes are, if of each entry is kept what is packed: it is `history_of`.
+-- The history file that bytes are, by the entries that are kept. It equals `history_of`.
 abbrev pub kept_history_of : List ℕ → Result (ℕ × List Entry × ℕ) FileFault
 kept_history_of bytes =
     contents kept_file bytes >>= λ file. entries_from file.0 file.1 file.2
