@@ -59,8 +59,8 @@ key_of (PutIf k expected v) = k
 abbrev pub reply_of : Map → Op → Option ℕ
 reply_of m op = get m (key_of op)
 
--- The map after an operation. A PutIf puts its value exactly if the key has what is expected, a
--- value or none.
+-- The map after an operation. A PutIf puts its value exactly if the key has the expected value, or
+-- none if none is expected.
 abbrev pub after : Map → Op → Map
 after m (Put k v) = insert m k v
 after m (Take k) = remove m k
