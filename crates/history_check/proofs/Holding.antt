@@ -69,7 +69,8 @@ module _ {holder : Holder} (stripes : ℕ) (h : List Entry) (legal : IsLegal hol
     pub asked-refused : (other : ℕ) (new : List (Option ℕ)) → locks.Refuses c (key % live.stripes) other live.locks new → is_locked holder stripes h (Asked c op) ≡ false
     asked-refused other new is = is_locked-asked holder stripes h c op legal.shape legal.locks ∙ ap asked_test (sym held ∙ is.held) ∙ ne_eqb other c is.by_another
 
-    -- If a Busy must name a holder of now, it may name the caller that holds the stripe, unless that is its own.
+    -- If a Busy must name a holder of now, it may name the caller that holds the stripe, unless
+    -- that is its own.
     pub busy-held : holder ≡ Now → (x : ℕ) → x ≢ c → is_locked holder stripes h (Busy c op x) ≡ option_eq nat_eq (locks.holder_of live.locks (key % live.stripes)) (Some x)
     busy-held now x other =
         is_locked-busy holder stripes h c op x legal.shape legal.locks
