@@ -20,7 +20,7 @@ pub record FileKind (P : Type 0) : Type 0 where
   pub part : Part
   pub most : ℕ
 
--- The member that says how the others are to be read.
+-- The member that says how to read the others.
 abbrev pub version : List ℕ
 version = codes "version"
 
