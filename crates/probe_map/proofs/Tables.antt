@@ -1,4 +1,5 @@
--- The value of a key in a sound table, and the table after a write at the place where the key's probe stops.
+-- The value of a key in a sound table, and the table after a write at the place where the key's
+-- probe stops.
 use Rattle.std.proofs.Common.{◌≡◌, ◌≢◌, ℕ, suc, ◌+◌, ◌-◌, ◌<◌, ◌≤◌, Bool, true, false, cond, List, [], ◌∷◌, length, Option, None, Some, count_by, set, get_or, refl, sym, ap, subst, ◌∙◌, ⊎_elim, arith, nat_eq, IsPermutation, not, is_some}
 use Rattle.std.specs.List.{IsDistinct}
 use Rattle.std.specs.Map.{keys_of}
