@@ -45,7 +45,8 @@ pub cons_at : (l : List ℕ) (level : ℕ) → level ≢ 0 → get_or l (level -
 cons_at l zero ne = absurd (ne refl)
 cons_at l (suc k) ne = ap (λ (i : ℕ). get_or l i 0) (omega arith)
 
--- As `moved_then`, for an operation that was done, one that was refused, and one whose stripe another caller held.
+-- As `moved_then`, for an operation that was done, one that was refused, and one whose stripe
+-- another caller held.
 pub moved_did : (map : StripedMap) (a b c : Hand) (op : Op) (reply : Option ℕ) → Moves map a [] b → Moves map b (Asked (known b.seat).number op ∷ Did (known b.seat).number reply ∷ []) c → Moves map a (Asked (known a.seat).number op ∷ Did (known a.seat).number reply ∷ []) c
 moved_did map a b c op reply x y = moved_then map a b c (λ k. Asked k op ∷ Did k reply ∷ []) x y
 
