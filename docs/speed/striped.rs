@@ -24,7 +24,7 @@ impl Op {
         }
     }
 
-    /// Does it on a map, and answers the value before, and whether that is to be taken back.
+    /// Does the operation on a map, and answers the value before, and whether it must be put back.
     fn apply(self, map: &mut HashMap<u64, u64>) -> (Option<u64>, bool) {
         match self {
             Op::Put(key, value) => (map.insert(key, value), true),
