@@ -27,7 +27,7 @@ abbrev pub Judged : Holder → ℕ → List Entry → Entry → Option Rule → 
 Judged holder stripes h e None new = Tells holder stripes (h ++ e ∷ []) new
 Judged holder stripes h e (Some rule) new = broken holder stripes h e ≡ Some (number_of rule)
 
--- The entry is judged in this way after each history that the old state tells.
+-- The entry is judged as `Judged` says after each history that the old state tells.
 abbrev pub Judges : Entry → State → Option Rule → State → Type 0
 Judges e old rule new =
     (holder : Holder) (stripes : ℕ) (h : List Entry)
