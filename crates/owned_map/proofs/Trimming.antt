@@ -63,7 +63,7 @@ put_once old new k v x legal (s1, ask, (s2, seek, (s3, did, last))) fresh =
 pub committed_first : (old new : State) (p : ℕ) → Move old (Commit 0) (answers.Committed p) new → new.history ≡ old.history ++ Committed 0 (how_many is_commit old.history + 1) ∷ []
 committed_first old new p move = ap history_of move.state ∙ ap (λ n. old.history ++ Committed 0 n ∷ []) move.allowed.1
 
--- It is the first commit.
+-- The entries before the commit have no commit.
 none_committed : (pairs : List (ℕ × ℕ)) → how_many is_commit (flat_map put_new pairs) ≡ 0
 none_committed [] = refl
 none_committed (pair ∷ pairs) = none_committed pairs

@@ -3,7 +3,7 @@ use Rattle.std.specs.Prelude.{◌≡◌}
 use Rattle.owned_map.specs.declared.transaction.Transaction.{Transaction}
 use Rattle.owned_map.specs.Within.{GoesOn}
 
--- It is the same transaction, of the same caller on the same map, and it went on.
+-- The new transaction is the old one, of the same caller on the same map, and it went on.
 pub record Keeps (old new : Transaction) : Type 0 where
   pub same_map : new.map.ghost_name ≡ old.map.ghost_name
   pub same_caller : new.caller ≡ old.caller
