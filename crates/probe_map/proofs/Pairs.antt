@@ -14,7 +14,7 @@ use Rattle.probe_map.specs.MapAt.{map_of}
 abbrev Pair : Type 0
 Pair = ℕ × ℕ
 
--- It has at each key the value of the key's first pair.
+-- The map of pairs has at each key the value of the key's first pair.
 pub get-map_of : (pairs : List Pair) (q : ℕ) → get (map_of pairs) q ≡ lookup (nat_eq q) pairs
 get-map_of [] q = refl
 get-map_of (pair ∷ pairs) q = get-insert (map_of pairs) pair.0 pair.1 q ∙ ap (cond (q == pair.0) (Some pair.1)) (get-map_of pairs q)
