@@ -33,7 +33,7 @@ seen bytes is_upper = record {
   key = key_in (word_of bytes) is_upper;
 }
 
--- These are eight bytes, and no dummy is of the upper half.
+-- The list has eight bytes, and no dummy is of the upper half.
 pub record IsPacked (bytes : List ℕ) (is_upper : Bool) : Type 0 where
   pub width : length bytes ≡ 8
   pub small : (place : ℕ) → slice_index_or bytes place 0 < 256
