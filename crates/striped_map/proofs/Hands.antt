@@ -364,14 +364,14 @@ logged_noted n v held m order jobs p s j h part op reply at in_k does = let b : 
 pub newest : (n : ℕ) (held : List Held) (order : List Change) (change : Change) (jobs : List Job) → AreLogged n held (order ++ change ∷ []) jobs → Newest n change (stripes_in held) (reverse order) jobs
 newest n held order change jobs s = newest_of n change (stripes_in held) (reverse order) jobs (ap (map (at_place (stripes_in held))) (sym (reverse-append order (change ∷ []))) ∙ s.ordered)
 
--- Its part can take it back.
+-- The part of the newest change has that change to take back.
 pub newest_owed : (n : ℕ) (held : List Held) (order : List Change) (change : Change) (jobs : List Job) (s : AreLogged n held (order ++ change ∷ []) jobs) (h : Held) → slice_get held change.0 ≡ Some h
     → let new = newest n held order change jobs s in h.part.owed ≡ owed_in n h.stripe new.older + 1
 newest_owed n held order change jobs s h at = let new = newest n held order change jobs s in
     let in_k : stripe_of n new.job.0 ≡ h.stripe = some_same _ _ (sym new.place_is ∙ stripe_at held change.0 h at) in
     s.owed change.0 h at ∙ ap (owed_in n h.stripe) new.jobs_are ∙ owed_mine n h.stripe new.job new.older in_k
 
--- It is taken back.
+-- A change of a held part is taken back.
 pub parts_back : (n : ℕ) (v : View) (held : List Held) (m : Map) → AreHeld n v held m → (j : ℕ) (h : Held) (part : PartAt) (job : Job) → slice_get held j ≡ Some h → h.stripe ≡ stripe_of n job.0
     → TakesBack h.part part (job.0 / n) job.1 → AreHeld n v (set held j (record { stripe = h.stripe; part = part })) (set_at m job.0 job.1)
 parts_back n v held m s j h part job at in_k back = parts_changed n v held m (set_at m job.0 job.1) s j h (record { stripe = h.stripe; part = part }) at refl

@@ -81,7 +81,7 @@ module _ (n : ℕ) (s : St) (kept : IsKeptAt n s) (vs : List View)
     },
   )
 
--- One more such seat, with what a seat has seen.
+-- One more witness, with the entries that a seat has seen.
 pub witnesses : (id : ℕ) (v : View) → Splits IsKept id v v (witness v.seen)
 witnesses id v s kept me =
     let w = witness v.seen in let h = kept.3.seen id v me in
@@ -91,7 +91,7 @@ witnesses id v s kept me =
     (λ c none i u at. none i u (at_longer s.views (w ∷ []) i u at)) in
     subst (λ (vs : List View). IsKept (board s.words s.homes (vs ++ w ∷ []))) (sym (set_again s.views id v me)) more
 
--- Such a seat is spent.
+-- A witness is spent.
 forgotten : (n : ℕ) (s : St) (kept : IsKeptAt n s) (other : ℕ) (seen : List Entry)
     → IsPrefix seen kept.0 → get_elem? s.views other ≡ some (witness seen) → IsKeptAt n (board s.words s.homes (set s.views other blank))
 forgotten n s kept other seen front at =
