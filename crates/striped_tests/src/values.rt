@@ -146,7 +146,7 @@ const HOLDS: &[Row] = &[
     (1, Ask::Do(Op::Put(1, 5)), NEW),
 ];
 
-/// It leaves the pair.
+/// Caller 2 commits, which leaves the pair.
 const LETS_GO: &[Row] = &[(1, Ask::Commit, Told::Number(1))];
 
 /// Caller 2 then finds no stripe held, and only the one pair.
@@ -238,7 +238,7 @@ const BEGINS: &[Row] = &[
     (0, Ask::Do(Op::Put(1, 5)), NEW),
 ];
 
-/// It goes on, since no transaction was begun as a value.
+/// Caller 1 goes on, since no transaction was begun as a value.
 const GOES_ON: &[Row] = &[(0, Ask::Commit, Told::Number(1))];
 
 /// A transaction is begun by the caller itself, so none is begun as a value.
@@ -297,14 +297,14 @@ fn looks(caller: &mut Caller) -> Result<[bool; 4], Stop> {
     Ok([is_empty, is_there, is_swapped, is_swapped_again])
 }
 
-/// The first caller makes these calls.
+/// The first caller makes the calls of `looks`.
 fn look<R: Abort>(rt: &R, home: &mut Home, wanted: [bool; 4]) {
     assert!(rt; 0 < home.callers.len());
     let looked = looks(&mut home.callers[0]);
     assert!(rt; looked == Ok(wanted));
 }
 
-/// It makes them in two transactions.
+/// The first caller makes the calls of `looks` in two transactions.
 fn play_looks<R: Abort>(rt: &R, home: &mut Home) {
     look(rt, home, [true, false, true, false]);
     look(rt, home, [false, true, false, false]);
