@@ -82,7 +82,7 @@ static TAKEN: [Row; 4] = [
     (0, Call::Commit, Ok(Told::Committed(1, 1))),
 ];
 
-/// Its node is swept.
+/// The node of the taken key is swept.
 static SWEPT: [(Step, Answer); 3] = [
     (Step::Sweep, Answer::Swept),
     (Step::Sweep, Answer::Clean),
