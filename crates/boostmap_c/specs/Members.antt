@@ -74,9 +74,9 @@ Opens (Some old) callers stripes status before after new =
 abbrev pub IsSame : Member → Member → Type 0
 IsSame old new = (new.caller ≡ old.caller) × (new.waiting.items ≡ old.waiting.items)
 
--- The last caller that waits gets its own member, for which no one waits, and the word is the
--- number of those that waited: by `IsFirst` its number. Or none does, since no one waits or memory
--- is refused.
+-- The last caller that waits gets its own member, in which no caller waits, and the word is the
+-- number of those that waited: by `IsFirst` its number. Or no member is made, since no caller waits
+-- or memory is refused.
 abbrev pub JoinsOf : Member → ℕ → ℕ → ℕ → Member → Option Member → Type 0
 JoinsOf old status before after new (Some made) =
     (new.caller ≡ old.caller) × (old.waiting.items ≡ new.waiting.items ++ made.caller ∷ [])

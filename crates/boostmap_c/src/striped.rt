@@ -107,7 +107,7 @@ pub extern "C" fn boostmap_striped_open(
 /// # Errors
 ///
 /// Both handles are unchanged: 4 if the second has a caller, 3 if the first has none, 18
-/// (`NoSuchCaller`) if no one waits, 30 (`NoMemory`) if memory is refused.
+/// (`NoSuchCaller`) if no caller waits, 30 (`NoMemory`) if memory is refused.
 ///
 /// # Cost
 ///
