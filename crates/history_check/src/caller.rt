@@ -35,7 +35,7 @@ impl Caller {
         }
     }
 
-    /// Its phase.
+    /// The phase of its seat.
     #[inline(always)]
     pub(crate) fn phase(&self) -> Phase
         ensures { result ≡ (seat_of self.now).phase }
