@@ -31,9 +31,9 @@ pub(crate) const MAX_DEPTH: usize = 127;
 /// The names of a file's members, besides `version`.
 #[derive(Clone, Copy)]
 pub(crate) struct Names<'a> {
-    /// Those of the numbers, in the written order.
+    /// The names of the numbers, in the written order.
     pub(crate) numbers: &'a [&'a str],
-    /// That of the array of pieces.
+    /// The name of the array of pieces.
     pub(crate) pieces: &'a str,
 }
 
