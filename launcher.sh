@@ -25,7 +25,7 @@ out=$root/crates/$program/out
 built=$out/$program
 
 # Prints the crates of the program, in the order of crates.txt: its libraries, and the program itself,
-# each on a line. In crates.txt a crate stands after those below it.
+# each on a line. In crates.txt a crate follows those below it.
 crates() {
     awk -v program="$program" '
         !/^#/ && NF {
@@ -72,9 +72,9 @@ lines_of() {
         \( -name '*.rt' -o -name '*.antt' \) -exec cat {} + | wc -l
 }
 
-# Prints a line for each of the program's crates: its name and the libraries that it names. First stands
-# the crate with the most lines of source in the longest chain of crates that wait for each other, from
-# itself on.
+# Prints a line for each of the program's crates: its name and the libraries that it names. The
+# first is the crate with the most lines of source in the longest chain of crates that wait for each
+# other, from itself on.
 schedule() {
     local name
     for name in $(crates); do

@@ -5,7 +5,7 @@
 //   bench              one caller of 1,024 stripes, with the draws of `bench striped 1 KEYS TRANSACTIONS`
 //   crossing, refusal  calls that do next to nothing: of boostmap_count, and of a begin that is refused
 // A transaction is four operations, half of them puts, a quarter takes and a quarter gets, and every
-// tenth aborts; one that finds a stripe held aborts and is run again. Threads have keys of their own,
+// tenth aborts; one that finds a stripe held aborts and is run again. Each thread has its own keys,
 // so that replies do not depend on the turns, and share stripes. It prints nanoseconds of processor
 // time a transaction or call, and the sum of all replies.
 #include "boostmap.h"
@@ -237,8 +237,8 @@ template <class Map> static word transaction(Map &map, word &seed, word first_ke
     return sum;
 }
 
-// GCC compiles what it inlines into `main` for size, where a remainder by 10 is a division: so this
-// stays apart, as does `as_bench`.
+// GCC compiles what it inlines into `main` for size, and a remainder by 10 is then a division: so
+// this is a separate function, as is `as_bench`.
 template <class Map> [[gnu::noinline]] static void transactions(word keys, word count) {
     Map map;
     word seed = 42, sum = 0;

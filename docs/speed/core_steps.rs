@@ -189,7 +189,7 @@ struct Writer {
     // The buckets that are not initialised, parents first, and what a helper does next for the first of them.
     buckets: VecDeque<u32>,
     help: fn(u64, u64) -> Step,
-    // What was seen last of each key, in version 2.
+    // The value seen last at each key, in version 2.
     seen: HashMap<u64, Reply>,
     text: String,
     steps: usize,
@@ -270,7 +270,7 @@ impl Writer {
         self.seen.insert(op.key(), left);
     }
 
-    /// What the caller does whose turn it is, if its transaction is open and at rest.
+    /// The step of the caller whose turn it is, if its transaction is open and at rest.
     fn choice(&mut self, number: u64) -> Step {
         let chosen = self.chance.below(32);
         let caller = &mut self.callers[self.at];

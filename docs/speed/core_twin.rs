@@ -19,7 +19,7 @@ use std::time::Instant;
 use step::{Answer, Limits, Step, read_file};
 use stopwatch::report;
 
-/// A number that differs where the text differs, but by chance (Fowler, Noll and Vo's hash 1a).
+/// A number that differs if the text differs, except by chance (Fowler, Noll and Vo's hash 1a).
 fn sum_of(text: &str) -> u64 {
     text.bytes().fold(0xcbf2_9ce4_8422_2325, |sum, byte| {
         (sum ^ u64::from(byte)).wrapping_mul(0x0100_0000_01b3)

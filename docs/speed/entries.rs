@@ -41,7 +41,7 @@ impl Op {
     }
 }
 
-/// What comes next of a caller.
+/// The next stage of a caller.
 #[derive(Clone, Copy, Default)]
 enum Next {
     #[default]
@@ -156,7 +156,7 @@ impl Store {
         format!(r#"["asked",{caller},{}]"#, text_of(op))
     }
 
-    /// What an open transaction does next.
+    /// The next entry of an open transaction.
     fn go_on(&mut self, caller: usize) -> String {
         if self.callers[caller].left > 0 {
             self.callers[caller].left -= 1;

@@ -1,5 +1,5 @@
 #!/usr/bin/env bash
-# Gives each command files of the full size, 16,777,216 bytes, that nobody would write by hand, and
+# Gives each command hostile files of the full size, 16,777,216 bytes, and
 # prints for each the answer, the processor seconds, and the most memory as a multiple of the file.
 # A star marks an answer that docs/FORMATS.md does not give, a second or more, and 12 times the file
 # or more; the status is then 1. It takes half a minute, and needs python3 and the built program.
@@ -16,7 +16,7 @@ import sys
 FOLDER, PROGRAM = sys.argv[1:]
 SIZE = 16_777_216
 LIMITS = '"version":1,"stripes":8,"buckets":8'
-# The words of each command, and what stands in its files for MEMBERS, PIECES and PIECE below.
+# The words of each command, and the texts in its files for MEMBERS, PIECES and PIECE below.
 COMMANDS = {
     "replay": (LIMITS + ',"callers":2', "steps", "step"),
     "mix --seed 7": (LIMITS + ',"workers":2,"tries":0', "scripts", "script"),

@@ -88,7 +88,7 @@ impl Node {
 }
 
 impl NodeList {
-    /// The list of the dummy of bucket 0, with room for so many nodes.
+    /// The list of the dummy of bucket 0, with room for `room` nodes.
     pub fn new(first_stamp: u64, room: usize) -> Self {
         let mut nodes = Vec::with_capacity(room);
         nodes.push(Node {
@@ -186,7 +186,7 @@ const _: () = assert!(size_of::<Option<Cursor>>() == 40);
 pub struct Again;
 
 impl Cursor {
-    /// The place behind which the cursor stands.
+    /// The place behind which the cursor is.
     pub fn pred(&self) -> u32 {
         self.pred
     }
@@ -245,7 +245,7 @@ pub fn look(list: &NodeList, cursor: &Cursor) -> Result<Option<u32>, Again> {
     Ok((node.at() == cursor.at).then_some(cursor.cur))
 }
 
-// What is done by the answer of `look`.
+// The actions after the answer of `look`.
 
 pub fn link_at(list: &mut NodeList, pred: u32, spare: Spare) -> u32 {
     let place = spare.place;

@@ -16,7 +16,7 @@ struct Plan {
     spare: Unfilled,
 }
 
-/// What takes a change back.
+/// The job that takes a change back.
 #[derive(Clone, Copy)]
 enum Job {
     Unput(u64),
@@ -57,7 +57,7 @@ impl Job {
 }
 
 impl Table {
-    /// A table of at most so many buckets, with room for so many nodes.
+    /// A table of at most `max` buckets, with room for `room` nodes.
     pub fn new(max: u32, helpers: u32, room: usize) -> Table {
         let list = NodeList::new(0, room);
         let mut dummies = vec![NONE; max as usize];
@@ -131,7 +131,7 @@ impl Table {
         }
     }
 
-    /// Does an operation where the cursor stands, if it fits.
+    /// Does an operation at the cursor, if it fits.
     fn act(&mut self, plan: &Plan, cursor: &Cursor) -> Option<(Reply, Option<Job>)> {
         let there = look(&self.list, cursor).ok()?;
         let before = there.map(|place| self.list.node(place).value);
@@ -159,7 +159,7 @@ impl Table {
         }
     }
 
-    /// Takes a change back where the cursor stands, and answers whether it fits.
+    /// Takes a change back at the cursor, and answers whether it fits.
     fn undo(&mut self, job: Job, cursor: &Cursor) -> bool {
         let Ok(there) = look(&self.list, cursor) else {
             return false;
@@ -346,7 +346,7 @@ impl Session {
         }
     }
 
-    /// The newest job that is to be taken back, if there is one.
+    /// The newest job to take back, if there is one.
     fn due(&self) -> Option<Job> {
         let staying = match self.stage {
             Stage::LeavingTo(0) | Stage::LeavingToEnd => 0,
@@ -504,13 +504,13 @@ fn seat(sessions: &mut [Session], caller: u64) -> Result<&mut Session, Refusal> 
         .ok_or(Refusal::NoSuchCaller)
 }
 
-/// Makes room for so many entries.
+/// Makes room for this many entries.
 fn reserve(history: &mut Vec<Entry>, entries: usize) -> Result<(), Refusal> {
     history.try_reserve(entries).map_err(|_| Refusal::NoMemory)
 }
 
 impl Core {
-    /// A core with room for so many entries and nodes. Room that is not used costs nothing but addresses.
+    /// A core with room for this many entries and nodes. Unused room costs only addresses.
     pub fn new(limits: Limits, room: usize) -> Core {
         let Limits {
             callers,
@@ -665,7 +665,7 @@ impl Core {
         }
     }
 
-    /// Ends the taking back, where no change above the level is left.
+    /// Ends the taking back, if no change above the level is left.
     fn arrive(&mut self, caller: u8) -> Answer {
         let session = &mut self.sessions[caller as usize];
         self.owed -= 1;

@@ -1,6 +1,6 @@
 # Prints the median times of the proved program and its twin. Each line of the input is: a number by which the rows are
 # ordered, what was timed, the program, its milliseconds, the nanoseconds of one operation, the sum of what was answered. The
-# lines of one program in one row stand together, by rising time, and the `middle`th is the median. If `total` is set, the last
+# lines of one program in one row are together, by rising time, and the `middle`th is the median. If `total` is set, the last
 # row is the sum of the others.
 function row(name, proved, nanos, plain) {
   printf "%-8s %10.3f %10.3f %10s %8.2f\n", name, proved, plain, nanos, proved / plain

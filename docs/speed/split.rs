@@ -2,8 +2,9 @@
 
 const LOW_BITS: u64 = 0x7fff_ffff_ffff_ffff;
 
-/// Where a node stands in the order of the list: by its word, which is its key or its bucket with the bits reversed, and of the
-/// same word a dummy before a regular node. So keys that differ in their highest bit alone stand side by side.
+/// The position of a node in the order of the list: by its word, which is its key or its bucket
+/// with the bits reversed, and of the same word a dummy before a regular node. So keys that differ
+/// only in their highest bit are side by side.
 #[derive(Clone, Copy, PartialEq, Eq, PartialOrd, Ord)]
 pub struct SortKey {
     pub word: u64,

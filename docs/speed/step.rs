@@ -202,7 +202,7 @@ impl fmt::Display for Answer {
     }
 }
 
-/// The step whose array stands between these brackets.
+/// The step whose array is between these brackets.
 fn step_in(array: &str) -> Option<Step> {
     let mut words = array.split(',');
     let name = words.next()?.trim_matches('"');
@@ -265,7 +265,7 @@ pub fn read_file(text: &str) -> Option<(Limits, Vec<Step>)> {
     steps.iter().all(are_old).then_some((limits, steps))
 }
 
-/// What stands in a step file before its steps, and after them.
+/// The text of a step file before its steps, and after them.
 pub fn around_steps(limits: &Limits) -> (String, &'static str) {
     let Limits {
         callers,

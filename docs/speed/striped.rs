@@ -24,7 +24,7 @@ impl Op {
         }
     }
 
-    /// Does it on a map, and answers the value before, and whether that is to be taken back.
+    /// Does the operation on a map, and answers the value before, and whether it must be put back.
     fn apply(self, map: &mut HashMap<u64, u64>) -> (Option<u64>, bool) {
         match self {
             Op::Put(key, value) => (map.insert(key, value), true),
@@ -67,7 +67,7 @@ impl Dice {
 
 /// A map that threads share.
 trait Map: Sync {
-    /// What a thread keeps between its transactions.
+    /// The state that a thread keeps between its transactions.
     type Caller<'a>
     where
         Self: 'a;
@@ -78,11 +78,11 @@ trait Map: Sync {
     fn transact<'a>(&'a self, caller: &mut Self::Caller<'a>, ops: &[Op], aborts: bool) -> Option<u64>;
 }
 
-/// A mutex and a map a stripe, none of which shares a line of cache with another.
+/// A mutex and a map a stripe; no two of them share a line of cache.
 #[repr(align(64))]
 struct Stripe(Mutex<HashMap<u64, u64>>);
 
-/// A count in a line of cache of its own.
+/// A count in a separate line of cache.
 #[repr(align(64))]
 struct Count(AtomicU64);
 
@@ -215,7 +215,8 @@ fn fill<M: Map>(map: &M, keys: u64) {
     }
 }
 
-/// What one thread does: how often it was busy, how often it committed, and the sum of what was answered.
+/// The work of one thread: how often it was busy, how often it committed, and the sum of the
+/// answers.
 fn work<M: Map>(map: &M, first: u64, keys: u64, transactions: u64) -> [u64; 3] {
     let mut dice = Dice { state: first };
     let mut caller = map.caller();

@@ -249,7 +249,7 @@ busy must name another caller' '' 'a caller that is busy over itself' 3 <<<'["be
 ["busy",0,"get",9,0]'
 }
 
-# The line on what may stand instead of an entry, in each phase.
+# The line on the entries that are allowed instead of an entry, in each phase.
 shapes() {
   explains 1 'illegal entry 0 rule 3
 the entry:
@@ -368,9 +368,9 @@ entries of transaction 2 of caller 0:
 ["committed",0,2]'
 }
 
-# flawed PLACE FAULT LINE VERSION: runs `judge why` on a history of this version, whose entries are the
-# lines of standard input, and which is refused with this fault. The line says what stands at the place,
-# and what is expected there.
+# flawed PLACE FAULT LINE VERSION: runs `judge why` on a history of this version, whose entries are
+# the lines of standard input, and which is refused with this fault. The line gives the value at the
+# place, and the one that is expected there.
 flawed() {
   local place=$1 fault=$2 line=$3 version=$4
   explains 3 "\$$place: $line" "refused $fault" "$place is wrong" "$version"
@@ -421,7 +421,7 @@ flawed_entries() {
   flawed '.entries[0][1]' '21 entry 0' "a text; expected $caller" 1 <<<'["asked","0","get",1]'
   flawed '.entries[0][5]' '21 entry 0' "nothing; expected $number" 2 <<<'["asked",0,"put_if",1,5]'
   flawed '.entries[0][6]' '21 entry 0' "nothing; expected $caller" 3 <<<'["busy",0,"put_if",1,null,5]'
-  # A wrong shape anywhere comes before a number that is out of range.
+  # A wrong shape anywhere is found before a number that is out of range.
   flawed '.entries[1][2]' '21 entry 1' "nothing; expected $number" 7 <<<'["began",64,1]
 ["began",0]'
   flawed '.entries[1][1]' 22 "64; expected $caller" 1 <<<'["began",0,1]
@@ -575,7 +575,7 @@ little_memory() {
   done
 }
 
-# The answer comes at the first bad entry, while the input goes on.
+# The answer is given at the first bad entry, while the input goes on.
 early() {
   { printf '["began",0,2]\n'; sleep 30; } 2>/dev/null |
     timeout 10 "$program" watch >"$work/out" 2>"$work/err"

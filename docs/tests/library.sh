@@ -2,7 +2,7 @@
 # Tests the examples of docs/LIBRARY.md:
 # - For each row of the table "To have", it copies exactly the folders that the row names and the caller's, with their lines
 #   of crates.txt, and runs there, without a proof, what `examples` does with the caller. The output must be the same.
-# - Each clause that the page shows must stand in a caller.
+# - Each clause that the page shows must be in a caller.
 # - docs/library/new.sh lays out a repository; its program is run, and proved with what this repository keeps in out/.
 # It takes two minutes, and for the proof three more if all crates below are proved here, else some fifteen.
 # The last line is 'library: N passed, M failed', and the status is 1 if M is not 0.

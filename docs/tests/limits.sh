@@ -164,7 +164,8 @@ most_buckets() {
   same_lines '65,536 buckets'
 }
 
-# run_and_check WHAT COMMITS: `mix` and `run` of the script file commit so many transactions, by `check`.
+# run_and_check WHAT COMMITS: `mix` and `run` of the script file commit this many transactions, by
+# `check`.
 run_and_check() {
   local command
   for command in 'mix --seed 1' run; do

@@ -1,4 +1,4 @@
--- What the commit of a transfer says: in a legal history that ends with it, the transaction has run
+-- The meaning of a transfer's commit: in a legal history that ends with it, the transaction has run
 -- alone on the map that the commits before it leave.
 use Rattle.std.proofs.Common.{◌≡◌, ◌≢◌, ℕ, zero, suc, ◌+◌, Bool, true, false, cond, List, [], ◌∷◌, ◌++◌, None, Some, Option, is_some, IsSome, slice_get, refl, sym, ap, subst, ◌∙◌, append_assoc, append-nil}
 use Rattle.std.specs.List.{filter}
@@ -30,7 +30,7 @@ use Rattle.striped_map.proofs.Within.{since_then, since_began}
 use Rattle.accounts.specs.Transfers.{HasTransferred, HasWorked, HasWritten, Makes}
 use Rattle.accounts.proofs.Works.{made}
 
--- What its commit says of it: its place, that it ran alone, and what map it leaves.
+-- The facts about a transfer's commit: its place, that it ran alone, and the map that it leaves.
 pub record Ends (c txn place : ℕ) (inner before : List Entry) : Type 0 where
   pub counted : place ≡ how_many is_commit before + 1
   pub replied : IsSome (alone (serial before) (Began c txn ∷ inner ++ Committed c place ∷ []))

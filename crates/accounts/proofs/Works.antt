@@ -1,4 +1,4 @@
--- What the entries of a transfer leave when they run alone.
+-- The map after a transfer's entries, run alone.
 use Rattle.std.proofs.Common.{◌≡◌, ◌≢◌, ℕ, ◌+◌, ◌-◌, ◌≤◌, ◌==◌, Bool, true, false, cond, List, [], ◌∷◌, ◌++◌, Option, Some, None, IsSome, refl, sym, ap, subst, ◌∙◌, unwrap_or, arith}
 use Rattle.std.specs.Prelude.{nat_eq}
 use Rattle.std.specs.Option.{option_eq, option_and_then}
@@ -47,7 +47,7 @@ read m c txn from to had has es some =
     let (second, on) = replied (start m) c (Get to) has es (subst IsSome goes some) in
     (first, second, goes ∙ on)
 
--- What the work of a transfer makes, run alone and committed.
+-- The effect of a transfer's work, run alone and committed.
 pub made : (m : Map) (c txn place from to sum : ℕ) (moved : Bool) (had has : Option ℕ) (es : List Entry) → from ≢ to → HasWritten c from to sum moved had has es
     → IsSome (alone m (Began c txn ∷ es ++ Committed c place ∷ [])) → Makes from to sum moved m (map_after m (Began c txn ∷ es ++ Committed c place ∷ []))
 made m c txn place from to sum false had has es apart (cannot, es_are) some =

@@ -17,7 +17,7 @@ next_drop i h e d below same at = drop_more h i d below ∙ ap (λ x. x ∷ drop
 pub last_at_end : {X : Type 0} (test : List Entry → Entry → Option X) (i : ℕ) (h : List Entry) (last found : Option X) → length h ≤ i → last_from test (take i h) (drop i h) last ≡ found → last ≡ found
 last_at_end test i h last found none is = ap (λ r. last_from test (take i h) r last) (sym (drop_all i h none)) ∙ is
 
--- What a commit changes, and the last that did.
+-- A commit that changes a key, at its index; `last_commit` is the last one.
 abbrev pub commit_at : ℕ → List Entry → Entry → Option (ℕ × ℕ)
 commit_at k g e = settled (length g) e (get (serial g) k) (get (serial (g ++ e ∷ [])) k)
 

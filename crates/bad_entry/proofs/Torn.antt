@@ -7,7 +7,7 @@ use Rattle.std.proofs.lemmas.List.{take_all}
 use Rattle.txn_words.specs.declared.entry.Entry.{Entry}
 use Rattle.bad_entry.specs.Commits.{IsTornIn, IsTornSince, IsWholeIn}
 
--- The same of the first entries, of which there are so many.
+-- As `IsTornSince`, for the first n entries.
 abbrev pub IsTornBefore : List Entry → ℕ → ℕ → Option ℕ → Type 0
 IsTornBefore h c n None = IsWholeIn (take n h) c
 IsTornBefore h c n (Some i) = (i < n) × IsWholeIn (take i h) c × ((m : ℕ) → i < m → m ≤ n → IsTornIn (take m h) c)

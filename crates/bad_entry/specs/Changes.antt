@@ -1,4 +1,4 @@
--- Changes of a key, and what becomes of them.
+-- Changes of a key, and their fates.
 use Rattle.std.specs.Prelude.{ℕ, ◌+◌, ◌-◌, ◌==◌, Bool, false, ◌&&◌, Option, Some, None, List, [], ◌∷◌, length, drop, if◌then◌else◌}
 use Rattle.txn_words.specs.declared.op.Op.{Op}
 use Rattle.txn_words.specs.declared.entry.Entry.{Entry}
@@ -25,7 +25,7 @@ change_at k i g (entries.Did c r) =
     else None
 change_at k i g _ = None
 
--- The last change of the key, be it taken back or not.
+-- The last change of the key, whether taken back or not.
 abbrev pub last_change : ℕ → List Entry → Option Change
 last_change k h = last_of (λ g e. change_at k (length g) g e) h
 
@@ -34,15 +34,15 @@ abbrev pub is_change : Option Op → Option ℕ → Bool
 is_change None r = false
 is_change (Some op) r = changes op r
 
--- What an entry decides of a change: a commit lets it stand, an abort leaves nothing of it, and an
--- Undone takes back the newest change that stands.
+-- The fate that an entry of the caller gives a change: a commit lets it stand, an abort takes it
+-- back, and an Undone takes back the newest change that stands.
 abbrev pub decided_by : ℕ → Entry → Option Fate
 decided_by above (entries.Committed c p) = Some Committed
 decided_by above (entries.Aborted c) = Some Undone
 decided_by above (entries.Undone c) = if above == 0 then Some Undone else None
 decided_by above _ = None
 
--- The same for an entry of any caller: one of another caller decides nothing.
+-- The fate that an entry of any caller gives a change; one of another caller gives none.
 abbrev pub decided : ℕ → ℕ → Entry → Option Fate
 decided c above e = if caller_of e == c then decided_by above e else None
 
@@ -57,15 +57,15 @@ above_by waiting above (entries.Did c r) = if is_change waiting r then above + 1
 above_by waiting above (entries.Undone c) = above - 1
 above_by waiting above _ = above
 
--- The same after an entry of any caller.
+-- The operation that waits after an entry of any caller, and how many newer changes stand.
 abbrev pub waiting_after : ℕ → Option Op → Entry → Option Op
 waiting_after c waiting e = if caller_of e == c then waiting_by waiting e else waiting
 
 abbrev pub above_after : ℕ → Option Op → ℕ → Entry → ℕ
 above_after c waiting above e = if caller_of e == c then above_by waiting above e else above
 
--- What becomes of a change of a caller by the entries after it, where the caller waits with this
--- operation, and so many newer changes of it stand above the change.
+-- The fate of a caller's change by the entries after it, if the caller waits for this operation and
+-- `above` newer changes of it stand.
 abbrev pub fate_from : ℕ → Option Op → ℕ → List Entry → Fate
 fate_from c waiting above [] = Open
 fate_from c waiting above (e ∷ es) = elim (decided c above e) [
@@ -73,6 +73,6 @@ fate_from c waiting above (e ∷ es) = elim (decided c above e) [
   | None ↦ fate_from c (waiting_after c waiting e) (above_after c waiting above e) es
 ]
 
--- What became of a change of the history.
+-- The fate of a change of the history.
 abbrev pub fate_of : List Entry → Change → Fate
 fate_of h change = fate_from change.caller None 0 (drop (change.did + 1) h)

@@ -1,4 +1,4 @@
--- Commits that change what a key has.
+-- Commits that change the value of a key.
 use Rattle.std.specs.Prelude.{◌≡◌, ℕ, ◌<◌, ◌≤◌, true, Option, Some, None, List, [], ◌∷◌, ◌++◌, length, take, nat_eq, if◌then◌else◌}
 use Rattle.std.specs.Option.{option_eq}
 use Rattle.txn_words.specs.declared.entry.Entry.{Entry}
@@ -10,14 +10,14 @@ use Rattle.serial_check.specs.Commits.{IsTorn, RunsSomewhere}
 use Rattle.serial_check.specs.Serializable.{txn_in}
 use Rattle.bad_entry.specs.Places.{last_of}
 
--- The commit that an entry is, with its index and its caller, where a key has this before it and
--- that after it, which differ.
+-- The index and the caller of a commit that changes a key: the key has `before` before it and
+-- `after` after it, and they differ.
 abbrev pub settled : ℕ → Entry → Option ℕ → Option ℕ → Option (ℕ × ℕ)
 settled i (Committed c p) before after =
     if option_eq nat_eq before after then None else Some (i, c)
 settled i _ before after = None
 
--- The last commit that changed what the key has in the map of the committed transactions.
+-- The last commit that changed the key's value in the map of the committed transactions.
 abbrev pub last_commit : ℕ → List Entry → Option (ℕ × ℕ)
 last_commit k h =
     last_of (λ g e. settled (length g) e (get (serial g) k) (get (serial (g ++ e ∷ [])) k)) h

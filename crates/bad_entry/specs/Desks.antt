@@ -1,4 +1,4 @@
--- What each caller is at.
+-- The state of each caller: the operation that it waits for, and its transaction.
 use Rattle.std.specs.Prelude.{◌≡◌, ℕ, Option, List, slice_get}
 use Rattle.std.specs.Option.{IfSome}
 use Rattle.txn_words.specs.declared.entry.Entry.{Entry}
@@ -13,7 +13,7 @@ use Rattle.bad_entry.specs.declared.desks.Desks.{Desks}
 abbrev pub txn_in : List Entry → ℕ → Option ℕ
 txn_in h c = the_txn_in h c
 
--- The operation that a caller waits with for its reply.
+-- The operation for whose reply a caller waits.
 abbrev pub waiting_in : List Entry → ℕ → Option Op
 waiting_in h c = (log_after (own c h)).pending
 
@@ -22,6 +22,6 @@ pub record IsAt (h : List Entry) (c : ℕ) (desk : Desk) : Type 0 where
   pub waiting : desk.waiting ≡ waiting_in h c
   pub txn : desk.txn ≡ txn_in h c
 
--- So is each of them.
+-- Each desk is what its caller's entries make it.
 pub record HaveNoted (h : List Entry) (desks : Desks) : Type 0 where
   pub each : (c : ℕ) → IfSome (slice_get desks.table.items c) (IsAt h c)

@@ -20,7 +20,7 @@ next_holder stripes s held (Committed c p) =
 next_holder stripes s held (Aborted c) = if option_eq nat_eq held (Some c) then None else held
 next_holder stripes s held e = held
 
--- The index of an entry, if it asks for a key of the stripe, and its transaction is the wanted one.
+-- The index of an entry, if it asks for a key of the stripe in the transaction `wanted`.
 abbrev pub asked_in : Option ℕ → Option ℕ → ℕ → ℕ → ℕ → Entry → Option ℕ
 asked_in txn wanted stripes s i e =
     if asks_in stripes s e && option_eq nat_eq txn wanted then Some i else None

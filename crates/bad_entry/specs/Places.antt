@@ -1,25 +1,25 @@
--- The first and the last of what a history has.
+-- The first and the last answer of a test over a history.
 use Rattle.std.specs.Prelude.{Option, None, List, [], ◌∷◌, ◌++◌}
 use Rattle.std.specs.Option.{option_or}
 use Rattle.txn_words.specs.declared.entry.Entry.{Entry}
 
--- Of the entries h that come after g, the last of which a test says something, and what it says:
--- the test has the entries before.
+-- The answer of a test to the last of the entries h for which it has one. The entries g precede h,
+-- and the test sees all entries before the one that it tests.
 abbrev pub last_from : {X : Type 0} → (List Entry → Entry → Option X) → List Entry → List Entry
     → Option X → Option X
 last_from test g [] last = last
 last_from test g (e ∷ h) last = last_from test (g ++ e ∷ []) h (option_or (test g e) last)
 
--- The last of a history.
+-- The last answer of a test over a history.
 abbrev pub last_of : {X : Type 0} → (List Entry → Entry → Option X) → List Entry → Option X
 last_of test h = last_from test [] h None
 
--- Of the entries h that come after g, the first of which a test says something, and what it says.
+-- The answer of a test to the first of the entries h for which it has one; the entries g precede h.
 abbrev pub first_from : {X : Type 0} → (List Entry → Entry → Option X) → List Entry → List Entry
     → Option X
 first_from test g [] = None
 first_from test g (e ∷ h) = option_or (test g e) (first_from test (g ++ e ∷ []) h)
 
--- The first of a history.
+-- The first answer of a test over a history.
 abbrev pub first_of : {X : Type 0} → (List Entry → Entry → Option X) → List Entry → Option X
 first_of test h = first_from test [] h

@@ -1,4 +1,4 @@
--- What the reason of a verdict says of the history before the bad entry.
+-- The meaning of a verdict's reason for the history before the bad entry.
 use Rattle.std.specs.Prelude.{◌≡◌, ℕ, true, Option, Some, None, List, slice_get}
 use Rattle.txn_words.specs.declared.op.Op.{Op}
 use Rattle.txn_words.specs.declared.entry.Entry.{Entry}
@@ -23,33 +23,33 @@ use Rattle.bad_entry.specs.Commits.{IsTornSince, last_commit}
 use Rattle.bad_entry.specs.Desks.{txn_in, waiting_in}
 use Rattle.bad_entry.specs.Holding.{IsHeld}
 
--- It is the last change of the key, with what became of it.
+-- The last change of the key, with its fate.
 abbrev pub IsLast : ℕ → List Entry → Option (Change × Fate) → Type 0
 IsLast k h None = last_change k h ≡ None
 IsLast k h (Some last) = (last_change k h ≡ Some last.0) × (last.1 ≡ fate_of h last.0)
 
--- The caller waits with this operation, this reply is due to it by the map now, and this is the
--- last change of its key; or it waits with none.
+-- The caller waits for this operation, this reply is due to it by the map now, and this is the last
+-- change of its key; or it waits for none.
 abbrev pub IsReplyReason : List Entry → ℕ → Reason → Type 0
 IsReplyReason h c (reasons.Reply op due last) =
     (waiting_in h c ≡ Some op) × (due ≡ reply_of (now h) op) × IsLast (key_of op) h last
 IsReplyReason h c reasons.Nothing = waiting_in h c ≡ None
 IsReplyReason h c _ = ⊥
 
--- It is the stripe of the operation's key, and who holds it.
+-- The reason names the stripe of the operation's key, and its holder.
 abbrev pub IsLockReason : ℕ → Op → List Entry → Reason → Type 0
 IsLockReason stripes op h (reasons.Lock stripe holder) =
     (stripe ≡ stripe_of stripes (key_of op)) × IsHeld stripes stripe h holder
 IsLockReason stripes op h _ = ⊥
 
--- The caller is in this phase, this is its newest change that stands, and so many transactions
+-- The caller is in this phase, this is its newest change that stands, and `committed` transactions
 -- committed.
 abbrev pub IsShapeReason : List Entry → ℕ → Reason → Type 0
 IsShapeReason h c (reasons.Shape phase newest began committed) =
     IsIn h c phase × (newest ≡ slice_get (log_of c h) 0) × (committed ≡ how_many is_commit h)
 IsShapeReason h c _ = ⊥
 
--- By locks: what leads to an entry that breaks the rule.
+-- By locks: the reason for an entry that breaks the rule.
 abbrev pub IsReasonByLocks : Rule → ℕ → List Entry → Entry → Reason → Type 0
 IsReasonByLocks rules.Replies stripes h (entries.Did c r) reason = IsReplyReason h c reason
 IsReasonByLocks rules.Replies stripes h e reason = Unit {0}
@@ -59,8 +59,8 @@ IsReasonByLocks rules.Locks stripes h (entries.Busy c op x) reason =
 IsReasonByLocks rules.Locks stripes h e reason = Unit {0}
 IsReasonByLocks rules.Shape stripes h e reason = IsShapeReason h (caller_of e) reason
 
--- The open transaction of the caller read what is not committed, and this is the last commit that
--- changed what the key has; or its replies fit the committed map, or no map at all, and this is
+-- The open transaction of the caller read a value that is not committed, and this is the last
+-- commit that changed the key; or its replies fit the committed map, or no map at all, and this is
 -- the first that contradicts those before it.
 abbrev pub IsCommitReason : List Entry → ℕ → Reason → Type 0
 IsCommitReason h c (reasons.Misread key read due commit) =
@@ -71,7 +71,7 @@ IsCommitReason h c (reasons.Torn since) =
     ((t : ℕ) → txn_in h c ≡ Some t → is_open t h ≡ true → FitsOrTorn h t) × IsTornSince h c since
 IsCommitReason h c _ = ⊥
 
--- By the order of commits: what leads to an entry that breaks the rule.
+-- By the order of commits: the reason for an entry that breaks the rule.
 abbrev pub IsReasonByCommits : Rule → List Entry → Entry → Reason → Type 0
 IsReasonByCommits rules.Replies h (entries.Committed c p) reason = IsCommitReason h c reason
 IsReasonByCommits rules.Replies h e reason = Unit {0}

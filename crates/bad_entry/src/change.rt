@@ -1,4 +1,4 @@
-//! Who last changed a key, and what became of that.
+//! The last change of a key, and its fate.
 ghost use Rattle.std.specs.Prelude.{◌≡◌, ◌+◌, ◌<◌, ◌≤◌, ◌^◌, List, Option, None, IfOk};
 ghost use Rattle.std.specs.List.{All};
 ghost use Rattle.txn_words.specs.Kinds.{caller_of};
@@ -22,7 +22,7 @@ pub struct Change {
     pub txn: Option<u64>,
 }
 
-/// What became of a change by the end of a history.
+/// The fate of a change by the end of a history.
 #[derive(Clone, Copy, Debug, PartialEq, Eq)]
 pub enum Fate {
     /// It stands, and its transaction is open.
@@ -33,7 +33,7 @@ pub enum Fate {
     Undone,
 }
 
-/// The change that an entry, at this index, makes of a key, if it makes one.
+/// The change of a key that an entry at this index makes, if it makes one.
 fn change_at(desks: &Desks, key: u64, index: u64, entry: Entry) -> Option<Change>
     requires { caller_of entry < 64 }
     ensures { (h : List Entry) → HaveNoted h desks.now → result ≡ change_at key index h entry }
@@ -89,7 +89,7 @@ fn is_change(waiting: Option<Op>, reply: Reply) -> bool
     }
 }
 
-/// What an entry decides of a change of this caller, above which so many newer ones stand.
+/// The fate that an entry gives a change of this caller, above which `above` newer ones stand.
 fn decided(caller: u64, above: u64, entry: Entry) -> Option<Fate>
     ensures { result ≡ decided caller above entry }
 {
@@ -104,7 +104,7 @@ fn decided(caller: u64, above: u64, entry: Entry) -> Option<Fate>
     }
 }
 
-/// The operation that this caller waits with after an entry.
+/// The operation that this caller waits for after an entry.
 fn waiting_after(caller: u64, waiting: Option<Op>, entry: Entry) -> Option<Op>
     ensures { result ≡ waiting_after caller waiting entry }
 {
@@ -118,7 +118,7 @@ fn waiting_after(caller: u64, waiting: Option<Op>, entry: Entry) -> Option<Op>
     }
 }
 
-/// How many newer changes of this caller stand above a change after an entry.
+/// The number of newer changes of this caller that stand above a change after an entry.
 fn above_after(caller: u64, waiting: Option<Op>, above: u64, entry: Entry) -> u64
     requires { above < 2 ^ 63 }
     ensures above { result ≡ above_after caller waiting above entry }
@@ -134,7 +134,7 @@ fn above_after(caller: u64, waiting: Option<Op>, above: u64, entry: Entry) -> u6
     }
 }
 
-/// What became of a change, by the entries after its Did.
+/// The fate of a change, by the entries after its Did.
 fn fate_in(after: &[SmallEntry], caller: u64) -> Fate
     ensures { result ≡ fate_from caller None 0 after.now }
 {
@@ -151,7 +151,7 @@ fn fate_in(after: &[SmallEntry], caller: u64) -> Fate
     Fate::Open
 }
 
-/// What became of a change of a history by its end.
+/// The fate of a change of a history by its end.
 ///
 /// # Cost
 ///

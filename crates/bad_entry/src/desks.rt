@@ -1,4 +1,4 @@
-//! What each caller of a history is at: the operation that it waits with, and its transaction.
+//! The state of each caller of a history: the operation that it waits for, and its transaction.
 //!
 //! It follows any entries, legal or not. Constant time an entry.
 ghost use Rattle.std.specs.Prelude.{◌≡◌, ℕ, ◌<◌, ◌++◌, [], ◌∷◌, List, Option, None, IfOk, vec_len};
@@ -13,7 +13,7 @@ use txn_trace::{Entry, Op};
 /// How many callers there are.
 const CALLERS: usize = 64;
 
-/// What a caller is at.
+/// The state of a caller.
 #[derive(Clone, Copy, Debug, PartialEq, Eq)]
 pub(crate) struct Desk {
     /// The operation that waits for its reply.
@@ -42,7 +42,7 @@ impl Desk {
     }
 }
 
-/// What each of 64 callers is at.
+/// The state of each of 64 callers.
 #[derive(Drop)]
 pub(crate) struct Desks {
     table: Vec<Desk>,
@@ -67,7 +67,7 @@ impl Desks {
         Ok(Desks { table })
     }
 
-    /// What a caller is at.
+    /// The state of a caller.
     pub(crate) fn at(&self, caller: u64) -> Desk
         requires { caller < 64 }
         ensures waiting { (h : List Entry) → HaveNoted h self.now →

@@ -1,4 +1,4 @@
-//! What a key has: the reply that an operation on it is due.
+//! The value of a key: the reply that an operation on it is due.
 ghost use Rattle.std.specs.Prelude.{◌≡◌, ℕ, ◌<◌, List, Some, None, if◌then◌else◌, IfOk};
 ghost use Rattle.std.specs.List.{All};
 ghost use Rattle.std.specs.Option.{option_or};
@@ -74,8 +74,8 @@ pub fn value_now(
     Ok(checker.value(key))
 }
 
-/// The last commit of a serializable history that changed what a key has in the map of the
-/// committed transactions: the index of its Committed, and its caller.
+/// The last commit of a serializable history that changed a key's value in the map of the committed
+/// transactions: the index of its Committed, and its caller.
 ///
 /// # Errors
 ///

@@ -1,4 +1,4 @@
-//! Who holds a stripe, and since which entry.
+//! The holder of a stripe, and the entry since which it holds it.
 ghost use Rattle.std.specs.Prelude.{◌≡◌, ℕ, ◌<◌, List, Option, None, IfOk};
 ghost use Rattle.std.specs.List.{All, fold};
 ghost use Rattle.txn_trace.specs.History.{txn_after};

@@ -1,11 +1,11 @@
-//! What leads to a bad entry of a recorded history: the reasons of a verdict of illegal.
+//! The events that lead to a bad entry of a recorded history: the reasons of a verdict of illegal.
 //!
 //! `history_check` and `serial_check` say which entry of a history is the first that breaks a rule.
-//! This crate says of that entry what a person wants to know next, by the definitions of a history:
-//! the reply that was due, who last changed the key and what became of that change, who holds a
-//! lock and since which entry, or what may stand there instead.
+//! This crate answers what a person asks next, by the definitions of a history: the reply that was
+//! due, who last changed the key and the fate of that change, who holds a lock and since which
+//! entry, or which entries are allowed there instead.
 //!
-//! Each question is answered by a pass of its own over the entries before the bad one, so an answer
+//! Each question is answered by a separate pass over the entries before the bad one, so an answer
 //! takes time in proportion to the history; nothing is kept between two questions.
 //!
 //! Proved: each answer is the one of the definitions. The due reply is that of the map now or of

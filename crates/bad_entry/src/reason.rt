@@ -21,29 +21,29 @@ use history_check::{Callers, Rule};
 use std::alloc::{AllocError, Global};
 use txn_trace::{Entry, Holder, Op, Phase, Reply, SmallEntry};
 
-/// What leads to a bad entry.
+/// The reason why an entry is bad.
 #[derive(Clone, Copy, Debug, PartialEq, Eq)]
 pub enum Reason {
     /// By locks: the reply is not that of the map as it is now.
     Reply {
-        /// The operation that the caller waits with.
+        /// The operation that the caller waits for.
         op: Op,
         /// The reply that was due.
         due: Reply,
-        /// The last change of the key, and what became of it.
+        /// The last change of the key, and its fate.
         last: Option<(Change, Fate)>,
     },
-    /// By the order of commits: the transaction that commits read at a key what the committed map
-    /// has not.
+    /// By the order of commits: the transaction that commits read at a key a value that the
+    /// committed map does not have.
     Misread {
         /// The key.
         key: u64,
         /// The first reply that the transaction got there.
         read: Reply,
-        /// What the committed map has there: the reply that was due.
+        /// The value in the committed map: the reply that was due.
         due: Reply,
-        /// The last commit that changed what the committed map has there: the index of its
-        /// Committed, and its caller.
+        /// The last commit that changed the committed map there: the index of its Committed, and
+        /// its caller.
         commit: Option<(u64, u64)>,
     },
     /// By the order of commits: the replies of the transaction that commits contradict one another,
@@ -59,9 +59,9 @@ pub enum Reason {
         /// Who holds it, if anyone does.
         holder: Option<Held>,
     },
-    /// The entry does not follow on its caller's entries, or has not the next number.
+    /// The entry may not follow its caller's entries, or does not have the next number.
     Shape {
-        /// The caller's phase, which says what may stand there instead.
+        /// The caller's phase, which tells which entries are allowed there instead.
         phase: Phase,
         /// The newest change of the caller that stands: its key and the value before it.
         newest: Option<(u64, Reply)>,
@@ -74,7 +74,7 @@ pub enum Reason {
     Nothing,
 }
 
-/// The last change of a key, and what became of it.
+/// The last change of a key, and its fate.
 fn last_in(
     alloc: Global,
     entries: &[SmallEntry],
@@ -89,7 +89,7 @@ fn last_in(
     }
 }
 
-/// The operation that a caller waits with after a history.
+/// The operation that a caller waits for after a history.
 fn waiting_in(alloc: Global, entries: &[SmallEntry], caller: u64) -> Result<Option<Op>, AllocError>
     requires caller { caller < 64 }
     requires callers { All (λ entry. caller_of entry < 64) entries.now }
@@ -102,7 +102,7 @@ fn waiting_in(alloc: Global, entries: &[SmallEntry], caller: u64) -> Result<Opti
     Ok(desks.at(caller).waiting)
 }
 
-/// What leads to a wrong reply, by locks.
+/// The reason for a wrong reply, by locks.
 fn reply_reason(
     alloc: Global,
     entries: &[SmallEntry],
@@ -124,7 +124,7 @@ fn reply_reason(
     Ok(Reason::Reply { op, due, last })
 }
 
-/// What leads to a lock that is held, or is not.
+/// The reason of the rule of locks: a lock that is held, or is not.
 fn lock_reason(
     alloc: Global,
     entries: &[SmallEntry],
@@ -149,7 +149,7 @@ fn began_in(entries: &[SmallEntry]) -> u64 {
         .count() as u64
 }
 
-/// What may stand in place of an entry of the caller.
+/// The reason of the rule of shape: the entries that the caller may have instead.
 fn shape_reason(callers: &Callers, began: u64, caller: u64) -> Reason
     requires { caller < 64 }
     ensures { (h : List Entry) → HaveEntered h callers.now → IsShapeReason h caller result }
@@ -162,7 +162,7 @@ fn shape_reason(callers: &Callers, began: u64, caller: u64) -> Reason
     }
 }
 
-/// What leads to an entry that breaks this rule after a legal history, by locks.
+/// The reason for an entry that breaks this rule after a legal history, by locks.
 ///
 /// # Errors
 ///
@@ -202,7 +202,7 @@ pub fn by_locks(
     }
 }
 
-/// What leads to a transaction that may not commit.
+/// The reason for a transaction that may not commit.
 fn commit_reason(alloc: Global, entries: &[SmallEntry], caller: u64) -> Result<Reason, AllocError>
     requires caller { caller < 64 }
     requires callers { All (λ entry. caller_of entry < 64) entries.now }
@@ -223,7 +223,7 @@ fn commit_reason(alloc: Global, entries: &[SmallEntry], caller: u64) -> Result<R
     })
 }
 
-/// What leads to an entry that breaks this rule after a serializable history, by the order of
+/// The reason for an entry that breaks this rule after a serializable history, by the order of
 /// commits.
 ///
 /// # Errors

@@ -13,7 +13,7 @@ use Rattle.bad_file.proofs.Reading.{accepts, is_entry}
 
 -- ---- what is still expected
 
--- What is still expected after elements, if each of them is what is expected in its place.
+-- The elements still expected after elements that are each as expected.
 unfoldable pub rest_of : Bool → Bool → List Data → List Expected → Option (List Expected)
 rest_of is_old ranged [] es = Some es
 rest_of is_old ranged (d ∷ ds) [] = None
@@ -113,7 +113,7 @@ may_go_on : (o r : Bool) (left : List Expected) (d : Data) → is_met r (next_of
 may_go_on o r [] d is = ([], is)
 may_go_on o r (e ∷ es) d is = (completion (after o e d ++ es), both (is_of r e d) _ is (completed o r (after o e d ++ es)))
 
--- What is still expected after the elements before an index.
+-- The elements still expected after the elements before an index.
 module _ (o r : Bool) (ds : List Data) (i : ℕ) (left : List Expected) (rest : rest_of o r (take i ds) (expected.EntryName ∷ []) ≡ Some left) where
   goes_on : (q : List Data) → is_some (entry_in o r (take i ds ++ q)) ≡ accepts o r q left
   goes_on q = is_entry o r (take i ds ++ q) ∙ accepts-append o r (take i ds) q (expected.EntryName ∷ []) ∙ ap (left_accepts o r q) rest
@@ -141,7 +141,7 @@ module _ (o r : Bool) (ds : List Data) (i : ℕ) (left : List Expected) (rest : 
     here = unmet;
   }
 
--- ---- a stack of what is still expected, of which the last is expected next
+-- ---- a stack of the elements still expected; the last one is expected next
 
 pushed : (es : List Expected) (e : Expected) → reverse (es ++ e ∷ []) ≡ e ∷ reverse es
 pushed es e = reverse-append es (e ∷ [])

@@ -1,4 +1,4 @@
--- What `entry_of` reads is what is expected of elements, one after the other.
+-- `entry_of` reads just the elements that are expected, one after the other.
 use Rattle.std.proofs.Common.{◌≡◌, ℕ, suc, List, [], ◌∷◌, ◌++◌, length, Bool, true, false, not, ◌==◌, ◌&&◌, ◌||◌, Option, Some, None, option_map, if◌then◌else◌, refl, ap, sym, ◌∙◌, arith}
 use Rattle.std.specs.Prelude.{option_and_then, is_some, nat_le, codes}
 use Rattle.std.specs.Str.{bytes_eq}
@@ -45,7 +45,7 @@ over : {A : Type 0} (x : Option A) (ds : List Data) (f : List Data → Bool) →
 over None ds f = refl
 over (Some a) ds f = refl
 
--- Whether a caller is in range, where that is asked for.
+-- Whether a caller is in range, if ranges count.
 abbrev ok : Bool → ℕ → Bool
 ok r c = not r || nat_le c max_caller
 
@@ -90,7 +90,7 @@ never : {A : Type 0} (x : Option (A × List Data)) → then_test x (λ a rest. f
 never None = refl
 never (Some p) = refl
 
--- What is kept of an operation, by the version.
+-- Whether an operation is kept, by the version.
 abbrev kept_op : Bool → Bool → List Expected → Op → List Data → Bool
 kept_op o r es op rest = (not o || is_old_op op) && accepts o r rest es
 

@@ -100,7 +100,7 @@ neither : {A : Type 0} (x y : Option A) → option_or x y ≡ None → (x ≡ No
 neither None y is = (refl, is)
 neither (Some a) y is = absurd (cc is)
 
--- What is expected of the members after the first.
+-- The members after the first are as expected.
 pub record Members (r : Bool) (d : Data) : Type 0 where
   pub version_is : is_met r (Some expected.Version) (at Version d) ≡ true
   pub stripes_is : is_met r (Some expected.Stripes) (at Stripes d) ≡ true
@@ -155,7 +155,7 @@ shape_is_right d shape =
 array_is : (x : Option Data) (ds : List Data) → option_and_then elements_of x ≡ Some ds → or_fault faults.Member (option_and_then elements_of x) ≡ Ok ds
 array_is x ds is = ap (or_fault faults.Member) is
 
--- What is read of the entries.
+-- The entries that are read.
 abbrev read_of : Bool → List Data → Result (List TheEntry) FileFault
 read_of o ds = pieces_from (entry_in o false) parts.Entry 0 ds
 
@@ -353,7 +353,7 @@ shaped d ds none are =
     let s = shape_of d none in
     record { version_no = s.version_no; stripes_no = s.stripes_no; entries = ds; version_is = s.version_is; stripes_is = s.stripes_is; entries_are = are }
 
--- What was found of the entries.
+-- The finding in the entries.
 abbrev pub IsFound : Bool → Bool → Data → List Data → Option Flaw → Type 0
 IsFound o r d ds found = MatchOption found (AreEntries o r ds) (λ flaw. (i : ℕ) × IsFlawAt o r d i flaw)
 

@@ -1,4 +1,4 @@
--- What is wrong with a history file that is refused.
+-- The flaw of a history file that is refused.
 use Rattle.std.specs.Prelude.{◌≡◌, ◌⊎◌, ◌↔◌, ◌<◌, ℕ, List, [], ◌∷◌, ◌++◌, take, slice_get, Bool, true, false, not, ◌&&◌, ◌||◌, ◌==◌, Option, Some, None, option_and_then, IsSome, IsOk, Result, Ok, Err, if◌then◌else◌}
 use Rattle.std.specs.List.{All}
 use Rattle.std.specs.Option.{option_or}
@@ -34,10 +34,10 @@ entry_in is_old ranged ds =
 abbrev pub Begins : Bool → Bool → List Data → Type 0
 Begins is_old ranged ds = (more : List Data) × IsSome (entry_in is_old ranged (ds ++ more))
 
--- The element of this index is the first at fault in elements that are no entry, and this is what
--- may stand there: with those before it some entry begins, with just what is expected after them
--- too, and that is not what stands there. If None is expected, nothing may stand there; the index
--- is the number of elements if one is missing.
+-- The element of this index is the first at fault in elements that are no entry, and `wanted` is
+-- what is allowed there: some entry begins with the elements before it; one begins with these and a
+-- further element exactly if that element is as wanted; and this one is not. If None is wanted, no
+-- element is allowed there; if one is missing, the index is the number of elements.
 pub record IsFault (is_old ranged : Bool) (ds : List Data) (i : ℕ) (wanted : Option Expected)
     : Type 0 where
   pub refused : entry_in is_old ranged ds ≡ None
@@ -47,16 +47,16 @@ pub record IsFault (is_old ranged : Bool) (ds : List Data) (i : ℕ) (wanted : O
 
 -- ---- the file
 
--- What is wrong at a place of which something else is expected.
+-- The flaw at a place whose value is not as expected.
 abbrev pub wrong : Data → Place → Option Expected → Flaw
 wrong d place wanted = Wrong place (found_of (at place d)) wanted
 
--- What is wrong at a place, if what is expected does not stand there.
+-- The flaw at a place, if its value is not as expected.
 abbrev pub flaw_at : Bool → Data → Place → Expected → Option Flaw
 flaw_at ranged d place wanted =
     if is_met ranged (Some wanted) (at place d) then None else Some (wrong d place (Some wanted))
 
--- What is wrong with the first member that is not what is expected of it.
+-- The flaw of the first member that is not as expected.
 abbrev pub flaw_in_members : Bool → Data → Option Flaw
 flaw_in_members ranged d =
     option_or (flaw_at ranged d File expected.Object)
@@ -72,35 +72,35 @@ is_one (Some n) = n == 1
 abbrev pub is_old_file : Data → Bool
 is_old_file d = is_one (number_named version d)
 
--- It is an entry.
+-- The value is an entry.
 abbrev pub IsEntry : Bool → Bool → Data → Type 0
 IsEntry is_old ranged d = IsSome (option_and_then (entry_in is_old ranged) (elements_of d))
 
--- All of them are entries.
+-- All values are entries.
 abbrev pub AreEntries : Bool → Bool → List Data → Type 0
 AreEntries is_old ranged ds = All (IsEntry is_old ranged) ds
 
--- What is wrong with an entry of a file: it is no array, or this is its first element at fault.
+-- The flaw of an entry of a file: it is no array, or this is its first element at fault.
 abbrev pub IsFlawOfEntry : Bool → Bool → Data → ℕ → Option (List Data) → Flaw → Type 0
 IsFlawOfEntry is_old ranged d i None flaw = flaw ≡ wrong d (Entry i) (Some expected.Entry)
 IsFlawOfEntry is_old ranged d i (Some ds) flaw =
     (j : ℕ) × (wanted : Option Expected) × IsFault is_old ranged ds j wanted
     × (flaw ≡ wrong d (Element i j) wanted)
 
--- The entry of this index is the first that is none, and this is what is wrong with it.
+-- The entry of this index is the first that is none, and this is its flaw.
 pub record IsFlawAt (is_old ranged : Bool) (d : Data) (i : ℕ) (flaw : Flaw) : Type 0 where
   pub entry : Data
   pub is_there : entry_at i d ≡ Some entry
   pub before : (k : ℕ) (e : Data) → k < i → entry_at k d ≡ Some e → IsEntry is_old ranged e
   pub here : IsFlawOfEntry is_old ranged d i (elements_of entry) flaw
 
--- What is wrong with a file whose shape is right: a member is out of range, or else a caller.
+-- The flaw of a file whose shape is right: a member is out of range, or else a caller is.
 abbrev pub IsOutOfRange : Data → Flaw → Type 0
 IsOutOfRange d flaw =
     (flaw_in_members true d ≡ Some flaw)
     ⊎ ((flaw_in_members true d ≡ None) × ((i : ℕ) × IsFlawAt (is_old_file d) true d i flaw))
 
--- What is wrong with a file in JSON that is refused so.
+-- The flaw of a file in JSON that is refused with this fault.
 abbrev pub IsFlawOf : Data → FileFault → Flaw → Type 0
 IsFlawOf d faults.Member flaw = flaw_in_members false d ≡ Some flaw
 IsFlawOf d (faults.Piece part i) flaw = IsFlawAt (is_old_file d) false d i flaw
@@ -112,22 +112,20 @@ IsFlawOf d faults.NoMemory flaw = ⊥
 abbrev pub history_in : Data → Result (ℕ × List TheEntry × ℕ) FileFault
 history_in d = contents_of history_file d >>= λ file. entries_from file.0 file.1 file.2
 
--- What is wrong with a value as a history file: nothing if it is taken, else the cause of the
--- refusal.
+-- The flaw of a value as a history file: none if it is taken, else the cause of the refusal.
 abbrev pub TellsOf : Data → Option Flaw → Type 0
 TellsOf d None = IsOk (history_in d)
 TellsOf d (Some flaw) = (fault : FileFault) × (history_in d ≡ Err fault) × IsFlawOf d fault flaw
 
--- What is wrong with bytes that are refused so: they are no JSON, they are too many, or the value
--- that they are has this flaw.
+-- The flaw of bytes that are refused with this fault: they are no JSON, they are too many, or the
+-- value that they are has this flaw.
 abbrev pub IsFlaw : FileFault → Result Data FileFault → Flaw → Type 0
 IsFlaw fault (Ok d) flaw = IsFlawOf d fault flaw
 IsFlaw fault (Err faults.NotJson) flaw =
     (line : ℕ) × (column : ℕ) × (flaw ≡ NotJson line column)
 IsFlaw fault (Err other) flaw = flaw ≡ TooLong
 
--- What is wrong with bytes as a history file: nothing if they are taken, else the cause of the
--- refusal.
+-- The flaw of bytes as a history file: none if they are taken, else the cause of the refusal.
 abbrev pub Tells : List ℕ → Option Flaw → Type 0
 Tells bytes None = IsOk (history_of bytes)
 Tells bytes (Some flaw) =

@@ -1,5 +1,5 @@
--- What is expected of the elements of an entry, read one after the other. It is proved to be what
--- `entry_of` reads.
+-- The elements that are expected in an entry, read one after the other. They are proved to be those
+-- that `entry_of` reads.
 use Rattle.std.specs.Prelude.{List, [], ◌∷◌, ℕ, Bool, Option, Some, None, if◌then◌else◌, codes}
 use Rattle.std.specs.Str.{bytes_eq}
 use Rattle.serde_json.specs.Data.{Data}
@@ -7,11 +7,11 @@ use Rattle.serde_json.specs.Find.{as_str}
 use Rattle.bad_file.specs.declared.expected.Expected.{Expected}
 use Rattle.bad_file.specs.declared.expected.Expected.TheVariants.{EntryName, OpName, OldOpName, Caller, Number, NumberOrNull}
 
--- The word of an operation, of which version 1 has not all.
+-- The word of an operation; version 1 lacks some of these words.
 abbrev pub op_name : Bool → Expected
 op_name is_old = if is_old then OldOpName else OpName
 
--- What is expected after the word of an entry.
+-- The elements expected after the word of an entry.
 abbrev pub after_entry_name : Bool → List ℕ → List Expected
 after_entry_name is_old word =
     if bytes_eq word (codes "asked") then Caller ∷ op_name is_old ∷ []
@@ -26,7 +26,7 @@ after_entry_name is_old word =
     else if bytes_eq word (codes "aborted") then Caller ∷ []
     else []
 
--- What is expected after the word of an operation.
+-- The elements expected after the word of an operation.
 abbrev pub after_op_name : List ℕ → List Expected
 after_op_name word =
     if bytes_eq word (codes "put") then Number ∷ Number ∷ []
@@ -35,12 +35,12 @@ after_op_name word =
     else if bytes_eq word (codes "put_if") then Number ∷ NumberOrNull ∷ Number ∷ []
     else []
 
--- What is expected after a word, if there is one.
+-- The elements expected after a word, if there is one.
 abbrev pub after_word : (List ℕ → List Expected) → Option (List ℕ) → List Expected
 after_word follows None = []
 after_word follows (Some word) = follows word
 
--- What is expected after an element because of it.
+-- The elements expected because of an element, after it.
 abbrev pub after : Bool → Expected → Data → List Expected
 after is_old EntryName d = after_word (after_entry_name is_old) (as_str d)
 after is_old OpName d = after_word after_op_name (as_str d)

@@ -1,4 +1,4 @@
--- What stands at a place, and whether it is what is expected there.
+-- The value at a place, and whether it is as expected.
 use Rattle.std.specs.Prelude.{ℕ, List, [], ◌∷◌, length, nat_le, Bool, true, false, not, ◌&&◌, ◌||◌, Option, Some, None, is_some, codes}
 use Rattle.std.specs.List.{list_any}
 use Rattle.std.specs.Str.{bytes_eq}
@@ -28,7 +28,7 @@ kind_of (string s) = found.Text
 kind_of (array ds) = found.Array (length (list_of ds))
 kind_of (object ms) = found.Object
 
--- What is found at a place that has this value.
+-- The finding at a place that has this value.
 abbrev pub found_of : Option Data → Found
 found_of None = found.Nothing
 found_of (Some d) = kind_of d
@@ -86,7 +86,7 @@ is_of ranged expected.Caller d = is_number ranged 0 max_caller d
 is_of ranged expected.Number d = is_some (number_of d)
 is_of ranged expected.NumberOrNull d = is_some (optional d)
 
--- Whether what stands somewhere is what is expected there; None expects that nothing does.
+-- Whether a value is as expected; None expects no value.
 abbrev pub is_met : Bool → Option Expected → Option Data → Bool
 is_met ranged None None = true
 is_met ranged None (Some d) = false

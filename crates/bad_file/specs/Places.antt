@@ -1,4 +1,4 @@
--- What stands at a place of a history file.
+-- The values at the places of a history file.
 use Rattle.std.specs.Prelude.{ℕ, List, slice_get, Option, Some, option_and_then, codes}
 use Rattle.serde_json.specs.Data.{Data}
 use Rattle.serde_json.specs.Find.{get}
@@ -18,7 +18,7 @@ entries_of d = option_and_then elements_of (get (codes "entries") d)
 abbrev pub entry_at : ℕ → Data → Option Data
 entry_at i d = option_and_then (λ ds. slice_get ds i) (entries_of d)
 
--- What stands at a place, if something does.
+-- The value at a place, if there is one.
 abbrev pub at : Place → Data → Option Data
 at File d = Some d
 at Version d = get (codes "version") d

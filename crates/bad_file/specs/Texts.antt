@@ -1,4 +1,4 @@
--- The texts of what is wrong with a history file.
+-- The texts of a history file's flaws.
 use Rattle.std.specs.Prelude.{ℕ, List, ◌++◌, Bool, true, false, Some, None, if◌then◌else◌, codes, decimal}
 use Rattle.bad_file.specs.declared.expected.Expected.{Expected}
 use Rattle.bad_file.specs.declared.expected.Expected.TheVariants as expected
@@ -19,7 +19,7 @@ place_text (Entry i) = codes "$.entries[" ++ (decimal i ++ codes "]")
 place_text (Element i j) =
     codes "$.entries[" ++ (decimal i ++ (codes "][" ++ (decimal j ++ codes "]")))
 
--- What stands at a place, in words.
+-- The finding at a place, in words.
 abbrev pub found_text : Found → List ℕ
 found_text found.Nothing = codes "nothing"
 found_text found.Null = codes "null"
@@ -31,7 +31,7 @@ found_text found.Text = codes "a text"
 found_text (found.Array n) = codes "an array of length " ++ decimal n
 found_text found.Object = codes "an object"
 
--- What may stand at a place, in words, with the range.
+-- The values allowed at a place, in words, with the range.
 abbrev pub expected_text : Expected → List ℕ
 expected_text expected.Object = codes "an object"
 expected_text expected.Version = codes "a whole number from 1 to 3"
@@ -55,12 +55,12 @@ is_a_word expected.OpName = true
 is_a_word expected.OldOpName = true
 is_a_word wanted = false
 
--- Whether a text stands where one of some words is expected.
+-- Whether a text is found where one of some words is expected.
 abbrev pub is_unknown : Found → Expected → Bool
 is_unknown found.Text wanted = is_a_word wanted
 is_unknown other wanted = false
 
--- What is wrong with a file, as one line.
+-- The flaw of a file, as one line.
 abbrev pub flaw_text : Flaw → List ℕ
 flaw_text TooLong = codes "$: more than 16777216 bytes"
 flaw_text (NotJson line column) =

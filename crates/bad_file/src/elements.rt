@@ -9,7 +9,7 @@ use crate::values::is_of;
 use serde_json::Value;
 use std::alloc::{AllocError, Global};
 
-/// The word of an operation, of which version 1 has not all. Constant time.
+/// The word of an operation; version 1 lacks some of these words. Constant time.
 fn op_name(is_old: bool) -> Expected
     ensures { result ≡ op_name is_old }
 {
@@ -78,9 +78,9 @@ fn push_after(
     }
 }
 
-/// The index of the first element at fault in what is no entry, and what is expected there; none
-/// if the elements are an entry. Version 1 has not all entries; the range of callers counts only if
-/// it is asked for.
+/// The index of the first element at fault in elements that are no entry, and what is expected
+/// there; none if they are an entry. Version 1 lacks some entries; the range of callers counts only
+/// if it is asked for.
 ///
 /// # Errors
 ///
@@ -88,8 +88,8 @@ fn push_after(
 ///
 /// # Cost
 ///
-/// Time in proportion to the elements, of which none after the eighth is looked at; memory for what
-/// is still expected.
+/// Time in proportion to the elements, at most the first eight; memory for the elements that are
+/// still expected.
 pub(crate) fn fault_in(
     alloc: Global,
     is_old: bool,

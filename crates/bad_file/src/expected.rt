@@ -1,10 +1,10 @@
-//! What may stand at a place of a history file.
+//! The values allowed at the places of a history file.
 ghost use Rattle.std.specs.Prelude.{◌≡◌};
 ghost use Rattle.bad_file.specs.Texts.{expected_text};
 
 use std::fmt;
 
-/// What may stand at a place of a history file. It is printed in words, with the range.
+/// A value allowed at a place of a history file. It is printed in words, with the range.
 #[derive(Clone, Copy, Debug, PartialEq, Eq)]
 pub enum Expected {
     /// An object.
@@ -32,7 +32,7 @@ pub enum Expected {
 }
 
 impl Expected {
-    /// It in words.
+    /// The value in words.
     fn words(self) -> &'static str
         ensures { result.now ≡ expected_text self }
     {

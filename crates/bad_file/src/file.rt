@@ -19,8 +19,7 @@ use std::alloc::{AllocError, Global};
 /// The length that a file may have, in bytes.
 const MAX_BYTES: usize = 16_777_216;
 
-/// Whether what stands somewhere is what is expected there. Its range counts only if it is asked
-/// for.
+/// Whether a value is as expected. Its range counts only if it is asked for.
 fn is_met(ranged: bool, expected: Expected, value: Option<&Value>) -> bool
     ensures { result ≡ is_met ranged (Some expected) (option_map (λ v. view v.now) value.entry) }
 {
@@ -30,7 +29,7 @@ fn is_met(ranged: bool, expected: Expected, value: Option<&Value>) -> bool
     }
 }
 
-/// What is wrong at a place that has this value, if it is not what is expected there.
+/// The flaw of a place that has this value, if it is not as expected.
 #[tactic(auto, using(crate::proofs::Places::flaw_none, crate::proofs::Places::flaw_some))]
 fn flaw_at(ranged: bool, place: Place, value: Option<&Value>, expected: Expected) -> Option<Flaw>
     ensures { (d : Data) → at place d ≡ option_map (λ v. view v.now) value.entry
@@ -46,8 +45,7 @@ fn flaw_at(ranged: bool, place: Place, value: Option<&Value>, expected: Expected
     })
 }
 
-/// What is wrong with the first member that is not what is expected of it. Ranges count only if
-/// they are asked for.
+/// The flaw of the first member that is not as expected. Ranges count only if they are asked for.
 fn flaw_in_members(ranged: bool, file: &Value) -> Option<Flaw>
     ensures { result ≡ flaw_in_members ranged (view file.now) }
 {
@@ -83,7 +81,7 @@ fn is_old_file(file: &Value) -> bool
     version.as_u64() == Some(1)
 }
 
-/// What stands at an index, if something does.
+/// The value at an index, if there is one.
 fn value_at(values: &[Value], index: usize) -> Option<&Value>
     ensures { option_map (λ v. view v.now) result ≡ slice_get (map view values.now) index }
 {
@@ -94,7 +92,7 @@ fn value_at(values: &[Value], index: usize) -> Option<&Value>
     }
 }
 
-/// What is wrong with the entry of an index, if something is.
+/// The flaw of the entry of an index, if it has one.
 ///
 /// # Errors
 ///
@@ -127,7 +125,7 @@ fn flaw_in_entry(
     }))
 }
 
-/// What is wrong with the first of the entries that is none.
+/// The flaw of the first element that is no entry.
 ///
 /// # Errors
 ///
@@ -158,7 +156,7 @@ fn entries_in(file: &Value) -> Option<&[Value]>
     elements_in(file.get("entries")?)
 }
 
-/// What is wrong with a file in JSON.
+/// The flaw of a file in JSON.
 ///
 /// # Errors
 ///
@@ -185,11 +183,11 @@ fn flaw_in_value(alloc: Global, file: &Value) -> Result<Option<Flaw>, AllocError
     flaw_in_entries(alloc, is_old, true, entries)
 }
 
-/// What is wrong with a history file, if `read_history` of `txn_files` refuses it.
+/// The flaw of a history file, if `read_history` of `txn_files` refuses it.
 ///
 /// The flaw is the cause of the refusal, and the first of its kind: a file that is too long or no
-/// JSON; a member that is missing or of the wrong kind; the first element of the first entry that
-/// has not the shape of one; a member that is out of range; the first caller that is.
+/// JSON; a member that is missing or of the wrong kind; the first element at fault of the first
+/// entry with a wrong shape; a member that is out of range; the first caller that is.
 ///
 /// # Errors
 ///

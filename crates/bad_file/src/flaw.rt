@@ -1,4 +1,4 @@
-//! What is wrong with a history file, in one line.
+//! The flaw of a history file, in one line.
 ghost use Rattle.std.specs.Prelude.{◌≡◌};
 ghost use Rattle.bad_file.specs.Texts.{is_a_word};
 
@@ -7,25 +7,25 @@ use crate::found::Found;
 use crate::place::Place;
 use std::fmt;
 
-/// What is wrong with a history file. It is printed as one line without its line feed.
+/// The flaw of a history file. It is printed as one line without its line feed.
 #[derive(Clone, Copy, Debug, PartialEq, Eq)]
 pub enum Flaw {
     /// It has more than 16,777,216 bytes.
     TooLong,
     /// It is no JSON, or nests too deep, or a number in it is too large for a float.
     NotJson {
-        /// The line where that shows, counted from 1.
+        /// The line where the fault shows, counted from 1.
         line: usize,
         /// The column of that line, in bytes, counted from 1.
         column: usize,
     },
-    /// What stands at a place is not what is expected there.
+    /// The value at a place is not as expected.
     Wrong {
         /// The place.
         place: Place,
-        /// What stands there.
+        /// The finding there.
         found: Found,
-        /// What is expected there; None if nothing may stand there.
+        /// The value that is expected there; None if none is allowed.
         expected: Option<Expected>,
     },
 }

@@ -1,4 +1,4 @@
-//! What stands at a place of a history file.
+//! The findings at the places of a history file.
 ghost use Rattle.std.specs.Prelude.{◌≡◌, option_map};
 ghost use Rattle.serde_json.specs.View.{view};
 ghost use Rattle.bad_file.specs.Meets.{found_of, kind_of};
@@ -7,7 +7,7 @@ use crate::values::elements_in;
 use serde_json::Value;
 use std::fmt;
 
-/// What stands at a place of a history file. It is printed in words.
+/// The finding at a place of a history file. It is printed in words.
 #[derive(Clone, Copy, Debug, PartialEq, Eq)]
 pub enum Found {
     /// Nothing: the member or the element is missing.
@@ -50,7 +50,7 @@ impl fmt::Display for Found {
     }
 }
 
-/// What kind of value this is. Constant time.
+/// The kind of a value. Constant time.
 #[tactic(auto, using(crate::proofs::Founds::null_found, crate::proofs::Founds::bool_found, crate::proofs::Founds::number_found, crate::proofs::Founds::other_found, crate::proofs::Founds::text_found, crate::proofs::Founds::array_found, crate::proofs::Founds::object_found))]
 fn kind_of(value: &Value) -> Found
     ensures { result ≡ kind_of (view value.now) }
@@ -76,7 +76,7 @@ fn kind_of(value: &Value) -> Found
     }
 }
 
-/// What stands at a place that has this value. Constant time.
+/// The finding at a place that has this value. Constant time.
 pub(crate) fn found_of(value: Option<&Value>) -> Found
     ensures { result ≡ found_of (option_map (λ v. view v.now) value.entry) }
 {

@@ -1,13 +1,13 @@
-//! What is wrong with a history file that is refused: the first place at fault, what stands there,
-//! and what may stand there instead.
+//! The flaw of a history file that is refused: the first place at fault, the value there, and the
+//! values that are allowed instead.
 //!
 //! `txn_files` names the first entry that is none, or only says that some number is out of range.
-//! This crate says of such a file what its writer wants to know next: the element of the entry, the
-//! words and numbers that are allowed there, or the member that is missing.
+//! This crate answers the writer's next question: which element of the entry is wrong, which words
+//! and numbers are allowed there, or which member is missing.
 //!
 //! The format is that of `txn_files`, in its own definitions. An element of an entry is at fault if
-//! some entry begins with the elements before it, and none with it too; what may stand there is
-//! exactly what some entry may go on with.
+//! some entry begins with the elements before it, and none with it too; allowed there are exactly
+//! the elements with which some entry goes on.
 //!
 //! Proved: `flaw_in` finds no flaw exactly in a file that `read_history` takes, and else a flaw that
 //! is the cause of the refusal. It keeps the whole value that the file is, which takes much more

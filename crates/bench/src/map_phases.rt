@@ -71,7 +71,7 @@ fn large_table(alloc: Global) -> Result<Table, AllocError> {
     Table::new(alloc, MANY_BUCKETS, 1)
 }
 
-/// Times a new table, which has two buckets, of which it has stored bucket 0.
+/// Times a new table, which has two buckets, the first of them stored.
 fn time_table<R: Clock + Eprint>(
     rt: &R,
     name: &str,

@@ -18,7 +18,7 @@ pub record IsStill (nodes : List NodeAt) (place : ℕ) (n : NodeAt) : Type 0 whe
   pub at : node.at ≡ n.at
   pub stamp : node.stamp ≡ n.stamp
 
--- This holds of each unmarked node.
+-- Each unmarked node of the old list is still linked in the new one, as `IsStill` says.
 abbrev pub Stay : List NodeAt → List NodeAt → Type 0
 Stay old new = (place : ℕ) (n : NodeAt) → node_of old place ≡ Some n → n.marked ≡ false → IsStill new place n
 
@@ -33,7 +33,7 @@ found_later : (m : NodeAt) (rest : List NodeAt) (place : ℕ) → (m.place == pl
 unfolding node_of
 found_later m rest place apart = rw apart refl
 
--- It holds with one node put before both lists.
+-- `Stay` holds with one node put before both lists.
 stay_cons : (m : NodeAt) (old new : List NodeAt) → Stay old new → Stay (m ∷ old) (m ∷ new)
 stay_cons m old new stay place n is live = elim (cases_Bool (m.place == place)) [
   | inl here ↦ record { node = m; is = found_here m new place here; at = ap (λ k. k.at) (node_here m old place n is here); stamp = ap (λ k. k.stamp) (node_here m old place n is here) }
@@ -42,7 +42,7 @@ stay_cons m old new stay place n is live = elim (cases_Bool (m.place == place)) 
       record { node = still.node; is = found_later m new place apart ∙ still.is; at = still.at; stamp = still.stamp }
 ]
 
--- It holds when a marked node is left out.
+-- `Stay` holds when a marked node is left out.
 stay_without : (m : NodeAt) (old new : List NodeAt) → m.marked ≡ true → Stay old new → Stay (m ∷ old) new
 stay_without m old new gone stay place n is live = elim (cases_Bool (m.place == place)) [
   | inl here ↦ absurd (false≢true (sym live ∙ sym (ap (λ k. k.marked) (node_here m old place n is here)) ∙ gone))
@@ -197,7 +197,7 @@ stay_sought sort (m ∷ rest) place = elim (cases_Bool (m.place == place)) [
 no_less : (k : ℕ) → nat_lt k k ≡ true → ⊥
 no_less k less = let below = ltb-true k k less in omega arith
 
--- No node stands before itself.
+-- No node is before itself.
 not_before : (at : SortKey) → IsBefore at at → ⊥
 unfolding is_before
 not_before at is =

@@ -66,7 +66,7 @@ gap_kept w w' spread rising stay c gap same is near =
     gap_in_is w'.table w'.sessions c ∙ ap (λ (s : Option Session). unwrap_or (option_map (gap_by w'.table) s) None) same
     ∙ session_still w.table w'.table spread rising stay gap near (slice_get w.sessions c) (sym (gap_in_is w.table w.sessions c) ∙ is)
 
--- A cursor that was placed for a sort key and fits stands beside its position.
+-- A cursor that was placed for a sort key and fits is beside its position.
 module _ (t : TableAt) (cursor : Cursor) (at : SortKey) (spread : IsSpread (nodes_of t)) (placed : IsPlacedIn t.list cursor) (at_is : at_of cursor ≡ at) (fit : Fit t.list cursor) where
   beyond : (o : Option NodeAt) (noted : Option Noted) → behind t.list cursor ≡ o → cursor.cur ≡ noted → NextIs o noted → (next : SortKey) → key_at o ≡ Some next → IsNotBefore next at
   beyond None noted was cur is next next_is = absurd (cc (next_is))

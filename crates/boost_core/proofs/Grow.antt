@@ -48,7 +48,7 @@ set_cases sessions c d y s within at =
       | inr other ↦ inr (other, slice_get-get_or sessions d y (omega arith) ∙ ap Some (sym (get_or-set_other sessions c d y y other) ∙ here))
     ]
 
--- A sum over all sessions of which one changes.
+-- A sum over all sessions in which one changes.
 pub sum_changed : (f : Session → ℕ) (sessions : List Session) (c : ℕ) (x y : Session) → slice_get sessions c ≡ Some x → sum_by f (slice_set sessions c y) + f x ≡ sum_by f sessions + f y
 sum_changed f sessions c x y at =
     let is : get_or sessions c x ≡ x = get_or_from_slice_get sessions c x x at in

@@ -73,7 +73,7 @@ pub each_kept : (t t' : TableAt) (h : ℕ) → KeepsAllCursors t t' → helper_c
 unfolding KeepsAllCursors
 each_kept t t' h keeps = ap (λ cs. slice_index_or cs h None) keeps
 
--- A helper's cursor that was placed for a bucket and fits stands beside the position of its dummy.
+-- A helper's cursor that was placed for a bucket and fits is beside the position of its dummy.
 pub helper_stands : (w' : World) (h b : ℕ) → IsSpread (nodes_of w'.table) → IsPlacedFor w'.table h b → helper_fits w'.table h ≡ true → StandsAt (state_of w') (Helper h) (dummy_at b)
 unfolding IsPlacedFor
 helper_stands w' h b spread placed fitting =

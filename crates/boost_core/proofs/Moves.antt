@@ -40,7 +40,7 @@ pub record Runs (t t' : TableAt) : Type 0 where
 pub runs_same : (t : TableAt) → Runs t t
 runs_same t = record { size = refl; stored = refl; linked = refl; helps = refl; rises = omega arith; last = omega arith; one_last = omega arith }
 
--- These hold if only spares have changed.
+-- `Runs` holds if only spares have changed.
 pub rests_runs : (t t' : TableAt) → Rests t t' → Runs t t'
 rests_runs t t' rests = record {
   size = rests.nodes.buckets.size;

@@ -12,8 +12,8 @@ Enters s [] s' = s' ≡ s
 Enters s (e ∷ []) s' = row s.seat s.seat.phase e ≡ Some s'.seat
 Enters s (e ∷ f ∷ es) s' = ⊥
 
--- An entry may come next and is small, there is room for it, and the number of entries owed after
--- it fits.
+-- An entry may follow and is small, there is room for it, and the number of entries owed after it
+-- fits.
 pub record CanEnter (s : RoomySeat) (len cap owed : ℕ) (e : Entry) : Type 0 where
   pub next : Seat
   pub row_is : row s.seat s.seat.phase e ≡ Some next
@@ -25,7 +25,7 @@ pub record CanEnter (s : RoomySeat) (len cap owed : ℕ) (e : Entry) : Type 0 wh
   pub owed_fits : owed < 2 ^ 63
   pub fits : owed - owed_in s.seat.standing s.seat.phase + owed_in next.standing next.phase < 2 ^ 63
 
--- An entry may be added, or none is to be; the number of entries owed fits.
+-- An entry may be added, or there is none to add; the number of entries owed fits.
 abbrev pub CanAdd : RoomySeat → ℕ → ℕ → ℕ → Option Entry → Type 0
 CanAdd s len cap owed None = owed_in s.seat.standing s.seat.phase ≤ owed
 CanAdd s len cap owed (Some e) = CanEnter s len cap owed e

@@ -70,7 +70,7 @@ may_grow state seen = state.size == seen && not (state.size == state.limits.buck
 abbrev pub is_crowded : State → Bool
 is_crowded state = nat_lt (2 * state.size) (count_of (now state.history))
 
--- Whether the rule of locks lets an entry stand next.
+-- Whether the rule of locks lets an entry follow.
 abbrev pub may_stand : State → Entry → Bool
 may_stand state e = is_locked (holder_by state.words) state.limits.stripes state.history e
 

@@ -61,7 +61,7 @@ node_at n = record { at = n.at; marked = n.marked }
 abbrev pub nodes_at : TableAt → List Node
 nodes_at t = map node_at (nodes_of t)
 
--- The two nodes between which a cursor stands, if it fits.
+-- The two nodes beside a cursor, if it fits.
 abbrev pub gap_at : Option NodeAt → Option NodeAt → Option Gap
 gap_at None behind = None
 gap_at (Some n) behind = Some (record { before = n.at; behind = option_map (λ m. m.at) behind })

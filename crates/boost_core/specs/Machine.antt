@@ -39,7 +39,7 @@ pub record Event (old : State) (step : Step) (answer : Answer) (new : State) : T
   pub lists : Lists old step answer new
   pub cursors : Cursors old step answer new
 
--- These answers to these steps, taken one after the other.
+-- The steps are taken one after the other, each with its answer.
 abbrev pub Moves : State → List Step → List Answer → State → Type 0
 Moves old [] [] new = new ≡ old
 Moves old (step ∷ steps) (answer ∷ answers) new =

@@ -23,7 +23,7 @@ use Rattle.txn_words.specs.declared.refusal.Refusal.TheVariants.{NoMemory, Stamp
 use Rattle.boost_core.specs.State.{State, Node, Gap, SortKey, Owner, Caller, Helper, plain_node, marked_node, seat_in, gap_for, help_in, is_set, bucket_at}
 use Rattle.boost_core.specs.Refusals.{owner_of}
 
--- Each node stands before all that follow it.
+-- Each node is before all that follow it.
 unfoldable pub IsInOrder : List Node → Type 0
 IsInOrder [] = Unit {0}
 IsInOrder (n ∷ rest) = AllByRecursion (λ m. IsBefore n.at m.at) rest × IsInOrder rest
@@ -68,7 +68,7 @@ pub record Sweeps (old new : State) : Type 0 where
   pub first : IsClean front
   pub changes : new.changes ≡ one_more old.changes
 
--- There is no node, or the first is unmarked and does not stand before this.
+-- There is no node, or the first is unmarked and is not before this position.
 abbrev pub StopsAt : SortKey → List Node → Type 0
 StopsAt at [] = Unit {0}
 StopsAt at (n ∷ rest) = (n.marked ≡ false) × IsNotBefore n.at at
@@ -77,8 +77,8 @@ StopsAt at (n ∷ rest) = (n.marked ≡ false) × IsNotBefore n.at at
 abbrev pub is_unmarked : Node → Bool
 is_unmarked n = not n.marked
 
--- A seek from the dummy of a bucket: it passes the nodes up to the first unmarked one that does not
--- stand before the position sought. The marked ones that it passes are unlinked, and nothing else
+-- A seek from the dummy of a bucket: it passes the nodes up to the first unmarked one that is not
+-- before the position sought. The marked ones that it passes are unlinked, and nothing else
 -- changes. The change number grows by one for each.
 pub record SeeksFrom (old new : State) (bucket : ℕ) (at : SortKey) : Type 0 where
   pub front : List Node
@@ -198,7 +198,7 @@ pub record IsBetween (gap : Gap) (at : SortKey) : Type 0 where
 abbrev pub HasFit : State → Owner → Type 0
 HasFit state owner = is_some (gap_for state owner) ≡ true
 
--- The owner's cursor stands between the two nodes beside the position of this sort key.
+-- The owner's cursor is between the two nodes beside the position of this sort key.
 pub record StandsAt (state : State) (owner : Owner) (at : SortKey) : Type 0 where
   pub gap : Gap
   pub has : gap_for state owner ≡ Some gap

@@ -1,4 +1,4 @@
--- The plain calls: steps of one caller in a row, none of which has the answer `again`.
+-- The plain calls: steps of one caller in a row; none has the answer `again`.
 use Rattle.std.specs.Prelude.{◌≡◌, ℕ, ◌%◌, zero, suc, Bool, true, false, nat_le, List, [], ◌∷◌, Option, Some, Result, Ok, Err}
 use Rattle.txn_words.specs.declared.op.Op.{Op}
 use Rattle.txn_words.specs.declared.step.Step.{Step}
@@ -29,7 +29,7 @@ abbrev pub undoing : ℕ → ℕ → List Step → List Step
 undoing zero c steps = steps
 undoing (suc changes) c steps = undoing changes c (Seek c ∷ Act c ∷ steps)
 
--- The answers to those steps, and then these.
+-- The answers to the steps that seek this number of changes and take them back, and then these.
 abbrev pub undone : ℕ → List Answer → List Answer
 undone zero others = others
 undone (suc changes) others = undone changes (answers.Placed ∷ answers.Undone ∷ others)
@@ -91,7 +91,7 @@ Helps old c key (Err NoMemory) new = HelpsTo (ends.Refused NoMemory) old c key n
 Helps old c key (Err StampsUsedUp) new = HelpsTo (ends.Refused StampsUsedUp) old c key new
 Helps old c key (Err refusal) new = ⊥
 
--- The result of such a call, from the end of its drive.
+-- The result of a call for help, from the end of its drive.
 abbrev pub outcome_of : Option End → Result Unit Refusal
 outcome_of (Some (ends.Refused refusal)) = Err refusal
 outcome_of outcome = Ok tt

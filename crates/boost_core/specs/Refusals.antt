@@ -83,7 +83,7 @@ has_stamp state = not (state.stamp == 2 ^ 64 - 2)
 abbrev pub has_stamp_for : State → Op → Bool
 has_stamp_for state op = not (takes_node op) || has_stamp state
 
--- Whether the dummy of the bucket that a helper sought is to be linked.
+-- Whether the dummy of the bucket that a helper sought is still to be linked.
 abbrev pub lacks_dummy : State → ℕ → Bool
 lacks_dummy state h = not (is_set state.linked (bucket_at (help_in state.helpers h)))
 

@@ -104,7 +104,7 @@ abbrev pub times_kept : Side → ℕ → ℕ → ℕ
 times_kept side place stamp =
     times_of (spare_if side.pending) place stamp + times_in side.jobs place stamp
 
--- The changes that stand, newest first: of each the key and the value before it.
+-- A change that stands: its key and the value before it.
 abbrev pub change_of : MapJob → ℕ × Option ℕ
 change_of job = (key_of_job job, value_before job)
 
@@ -262,14 +262,14 @@ pub record CanArrive (s : Session) : Type 0 where
   pub level : level_of s.seat.seat.phase ≤ length s.log.kept
   pub none_above : length s.log.jobs ≤ kept_at s.log.kept (level_of s.seat.seat.phase)
 
--- It has returned to its level: the later savepoints are dropped.
+-- The caller has returned to its level: the later savepoints are dropped.
 pub record ReturnsIn (n : ℕ) (s : Session) (locks : List (Option ℕ)) (s' : Session)
     (locks' : List (Option ℕ)) : Type 0 where
   pub phase : s.seat.seat.phase ≡ LeavingTo n
   pub becomes : side_of s' ≡ record (side_of s) { kept = take n s.log.kept }
   pub locks_stay : locks' ≡ locks
 
--- It has arrived at the end: its stripes are free.
+-- The caller has arrived at the end: its stripes are free.
 pub record EndsIn (c : ℕ) (s : Session) (locks : List (Option ℕ)) (s' : Session)
     (locks' : List (Option ℕ)) : Type 0 where
   pub phase : s.seat.seat.phase ≡ LeavingToEnd

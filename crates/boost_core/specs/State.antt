@@ -23,8 +23,7 @@ plain_node at = record { at = at; marked = false }
 abbrev pub marked_node : SortKey → Node
 marked_node at = record { at = at; marked = true }
 
--- The positions of the two nodes between which a cursor stands; the second is none at the end of
--- the list.
+-- The positions of the two nodes beside a cursor; the second is none at the end of the list.
 pub record Gap : Type 0 where
   pub before : SortKey
   pub behind : Option SortKey
@@ -50,8 +49,8 @@ pub record State : Type 0 where
   pub helpers : List Help
   pub placed : Option Owner
 
--- At the start the history is empty, and the table has two buckets, of which the first is stored.
--- Only its dummy is linked.
+-- At the start the history is empty, and the table has two buckets, the first of them stored. Only
+-- its dummy is linked.
 abbrev pub start : Sizes → State
 start limits = record {
   limits = limits;
@@ -89,7 +88,7 @@ seat_in history c = unwrap_or (seat_after (own c history)) closed_seat
 abbrev pub caller_changes : List (Option ℕ) → ℕ → Option ℕ
 caller_changes cursors c = unwrap_or (slice_get cursors c) None
 
--- The nodes between which one of these cursors stands, if it is there and fits.
+-- The gap of one of these cursors, if it is there and fits.
 abbrev pub gap_in : List (Option Gap) → ℕ → Option Gap
 gap_in gaps n = unwrap_or (slice_get gaps n) None
 

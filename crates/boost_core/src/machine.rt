@@ -80,7 +80,7 @@ impl Core {
     ghost use Rattle.boost_core.specs.Serves.{is_served};
     ghost use Rattle.boost_core.specs.State.{caller_changes};
 
-    /// A new core: no caller has a transaction, and the table has two buckets, of which bucket 0 is
+    /// A new core: no caller has a transaction, and the table has two buckets, the first of them
     /// initialised.
     ///
     /// # Errors

@@ -183,7 +183,7 @@ impl Core {
         }
     }
 
-    /// Takes back all changes that are to be taken back, newest first, and ends the undoing.
+    /// Takes back the changes that are still to be undone, newest first, and ends the undoing.
     fn take_back(&mut self, caller: u64) -> Answer
         requires leaves { is_leaving (seat_in self.old.history caller).phase ≡ true }
         requires within { nat_le self.old.limits.callers caller ≡ false }

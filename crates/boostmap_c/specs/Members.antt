@@ -70,13 +70,13 @@ Opens None callers stripes status before after new =
 Opens (Some old) callers stripes status before after new =
     (status ≡ full) × (after ≡ before) × (new ≡ Some old)
 
--- The same member, with the same callers that wait.
+-- The caller of the member and the callers that wait are unchanged.
 abbrev pub IsSame : Member → Member → Type 0
 IsSame old new = (new.caller ≡ old.caller) × (new.waiting.items ≡ old.waiting.items)
 
--- The last caller that waits gets its own member, for which no one waits, and the word is the
--- number of those that waited: by `IsFirst` its number. Or none does, since no one waits or memory
--- is refused.
+-- The last caller that waits gets its own member, in which no caller waits, and the word is the
+-- number of those that waited: by `IsFirst` its number. Or no member is made, since no caller waits
+-- or memory is refused.
 abbrev pub JoinsOf : Member → ℕ → ℕ → ℕ → Member → Option Member → Type 0
 JoinsOf old status before after new (Some made) =
     (new.caller ≡ old.caller) × (old.waiting.items ≡ new.waiting.items ++ made.caller ∷ [])
@@ -85,7 +85,7 @@ JoinsOf old status before after new None =
     IsSame old new × (after ≡ before)
     × (status ≡ refused (if nat_le 1 (length old.waiting.items) then NoMemory else NoSuchCaller))
 
--- A caller joins, through two handles, of which the second must be empty.
+-- A caller joins, through two handles; the second must be empty.
 abbrev pub Joins : Option Member → Option Member → ℕ → ℕ → ℕ → Option Member → Option Member
     → Type 0
 Joins (Some old) None status before after (Some new) made = JoinsOf old status before after new made

@@ -16,7 +16,7 @@ abbrev pub has_stripes : Way → ℕ → Type 0
 has_stripes (ByLocks holder) stripes = 0 < stripes
 has_stripes ByCommits stripes = Unit {0}
 
--- It judges by this rule, and was fed these entries, of a map with this number of stripes.
+-- The referee judges in this way, and was fed these entries, of a map with this number of stripes.
 abbrev pub IsFedBy : Way → ℕ → List Entry → Referee → Type 0
 IsFedBy (ByLocks holder) stripes h (Locks checker) = by_locks.IsFed holder stripes h checker
 IsFedBy ByCommits stripes h (Commits checker) = by_commits.IsFed h checker

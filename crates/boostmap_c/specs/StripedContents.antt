@@ -1,5 +1,5 @@
 -- The content of a whole striped map, as a caller tells it to C: the caller takes every stripe, so
--- no one can change the map meanwhile.
+-- no other caller can change the map meanwhile.
 use Rattle.std.specs.Prelude.{◌≡◌, ◌⊎◌, ℕ, List, [], true, Option, Some, None, Result, Ok, Err}
 use Rattle.txn_words.specs.Map.{count_of}
 use Rattle.txn_trace.specs.Now.{now}

@@ -1,5 +1,5 @@
 //! The handle of a striped map's caller, and the ways of a member into it and out of it, as in
-//! `handle` for a map. A call of the caller borrows the member, and leaves the handle as it is.
+//! `handle` for a map. A call of the caller borrows the member, and leaves the handle unchanged.
 ghost use Rattle.std.specs.Prelude.{◌≡◌, Some, None, IfSome, IsNone, IsSome, true, false, is_some};
 
 use crate::handle::sends;

@@ -65,8 +65,8 @@ fn next_member(alloc: Global, first: &mut Member) -> Result<Box<Member, Global>,
     }
 }
 
-/// Opens a striped map with no keys, and makes the handle that of its first caller; the word is
-/// that caller's number, which is the number of callers. The others wait, and get their handles by
+/// Opens a striped map with no keys, and gives the handle to its first caller; the word is that
+/// caller's number, which is the number of callers. The others wait, and get their handles by
 /// `boostmap_striped_join`.
 ///
 /// # Errors
@@ -101,13 +101,13 @@ pub extern "C" fn boostmap_striped_open(
     }
 }
 
-/// Makes a handle that of the next caller that waits; the word is its number, one less than that of
-/// the last caller which got a handle. Only the first caller of a map has callers that wait.
+/// Gives a handle to the next caller that waits; the word is its number, one less than that of the
+/// last caller which got a handle. Only the first caller of a map has callers that wait.
 ///
 /// # Errors
 ///
 /// Both handles are unchanged: 4 if the second has a caller, 3 if the first has none, 18
-/// (`NoSuchCaller`) if no one waits, 30 (`NoMemory`) if memory is refused.
+/// (`NoSuchCaller`) if no caller waits, 30 (`NoMemory`) if memory is refused.
 ///
 /// # Cost
 ///

@@ -48,7 +48,7 @@ pub if_err : {A E : Type 0} (r : Result A E) (P Q : E → Type 0) → ((e : E) �
 if_err (Ok x) P Q f h = tt
 if_err (Err e) P Q f h = f e h
 
--- What writing a text of the bytes that were read leaves.
+-- The output after writing a text of the bytes that were read.
 pub leaves_of : (IsTextOf : List ℕ → List ℕ → Type 0) (IsRefused : List ℕ → FileFault → Type 0) (remaining old new : Option (List ℕ)) (bytes text : List ℕ) → IsRead remaining bytes → IsTextOf bytes text → (fault : Fault) → LeavesText old new text fault → Leaves IsTextOf IsRefused remaining old new fault
 leaves_of IsTextOf IsRefused remaining old new bytes text read is faults.Write h = (bytes, text, read, is, h)
 leaves_of IsTextOf IsRefused remaining old new bytes text read is faults.NoMemory h = h

@@ -74,7 +74,7 @@ few_in (Ok f) work is = few_from f.0 f.1 f.2 work is
 pub few_tries : (bytes : List ℕ) (work : Work) → scripts_of bytes ≡ Ok work → work.tries ≤ 1000
 few_tries bytes work is = few_in (contents script_file bytes) work is
 
--- What writing a history of the bytes that were read leaves.
+-- The output after writing a history of the bytes that were read.
 pub leaves_threaded : (remaining old new : Option (List ℕ)) (bytes text : List ℕ) → IsRead remaining bytes → IsThreadedOf bytes text → (fault : Fault) → LeavesText old new text fault → LeavesThreaded remaining old new fault
 leaves_threaded remaining old new bytes text read is faults.Write h = (bytes, text, read, is, h)
 leaves_threaded remaining old new bytes text read is faults.NoMemory h = h

@@ -62,7 +62,7 @@ abbrev pub Runs : Option (List (List ℕ)) → (List ℕ → Option (List ℕ)) 
 Runs spoken bytes_of old new outcome =
     RunsOne spoken bytes_of old new outcome ⊎ RunsNone spoken old new outcome
 
--- The lack of memory if an error of the system is that, else the other fault.
+-- `NoMemory` if an error of the system is that memory was refused, else the other fault.
 abbrev pub memory_or : ErrorKind → Fault → Fault
 memory_or OutOfMemory other = faults.NoMemory
 memory_or kind other = other

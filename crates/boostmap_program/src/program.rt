@@ -25,7 +25,7 @@ pub struct Ending {
     pub is_told: bool,
 }
 
-/// The lack of memory if the error is that, else the other fault.
+/// `NoMemory` if the error is that memory was refused, else the other fault.
 fn memory_or(error: &io::Error, other: Fault) -> Fault
     ensures { result ≡ memory_or (error_kind error.now) other }
 {

@@ -92,7 +92,7 @@ fn fault_of(refusal: Refusal) -> Fault
 ///
 /// # Errors
 ///
-/// Only `Write` may come after a part of the line was written; before each other error nothing is
+/// Only `Write` can follow after a part of the line was written; before each other error nothing is
 /// written.
 ///
 /// - `Read` if a read fails.

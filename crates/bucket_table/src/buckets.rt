@@ -52,8 +52,8 @@ impl Buckets {
     ghost use Rattle.bucket_table.specs.Answers.{seek_answer, link_answer_at, store_answer, double_answer};
     ghost use Rattle.bucket_table.specs.Changes.{SeekChanges, LinkChanges, StoreChanges, after_double};
 
-    /// Two buckets, of which bucket 0 is stored with the list's first node, and idle helpers. `max`
-    /// is the largest size, in buckets.
+    /// Two buckets, the first of them stored with the list's first node, and idle helpers. `max` is
+    /// the largest size, in buckets.
     ///
     /// # Errors
     ///
@@ -92,7 +92,7 @@ impl Buckets {
     }
 
     /// The dummy of a bucket, or that of its nearest stored ancestor. A seek for any key of the
-    /// bucket may begin there, since it stands before all of them.
+    /// bucket may begin there, since it precedes all of them.
     ///
     /// # Cost
     ///

@@ -1,13 +1,13 @@
-//! The buckets of a hash table whose keys stand in one split-ordered list: the extensible table of
+//! The buckets of a hash table whose keys are in one split-ordered list: the extensible table of
 //! Shalev and Shavit, "Split-Ordered Lists: Lock-Free Extensible Hash Tables" (Journal of the ACM
 //! 53, 2006), section 2. The initialisation of a bucket is divided into steps, between which other
 //! callers may act.
 //!
-//! A bucket is *stored* once the table knows its dummy, the node in the list that stands before all
-//! keys of the bucket. Bucket 0 is stored from the beginning, and each other one only after its
-//! parent. A key is sought from the nearest stored ancestor of its bucket. A *helper* stores a
-//! bucket in three steps: it seeks the position of the dummy, links the dummy there unless it is
-//! linked already, and stores it.
+//! A bucket is *stored* once the table knows its dummy, the node in the list that precedes all keys
+//! of the bucket. Bucket 0 is stored from the beginning, and each other one only after its parent.
+//! A key is sought from the nearest stored ancestor of its bucket. A *helper* stores a bucket in
+//! three steps: it seeks the position of the dummy, links the dummy there unless it is linked
+//! already, and stores it.
 //!
 //! Beside the list the buckets are a row of segments, each with the entries of 64 buckets. A
 //! segment is there exactly if one of its buckets is stored: the first from the beginning, and each

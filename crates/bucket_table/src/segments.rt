@@ -58,8 +58,8 @@ impl Segment {
     }
 }
 
-/// The dummies of the stored buckets, by bucket: a row of segments, each of which is there exactly
-/// if one of its buckets is stored.
+/// The dummies of the stored buckets, by bucket: a row of segments; each is there exactly if one of
+/// its buckets is stored.
 ///
 /// A contract sees them as the flat list of all entries.
 #[derive(Drop)]
@@ -81,8 +81,8 @@ impl Model for Segments {
 }
 
 impl Segments {
-    /// The entries of this number of buckets, of which only bucket 0 is stored, with this dummy.
-    /// Takes memory for the row and for the first segment.
+    /// The entries of this number of buckets; only bucket 0 is stored, with this dummy. Takes
+    /// memory for the row and for the first segment.
     pub(crate) fn new(alloc: Global, limit: u32, first: NodeRef) -> Result<Self, AllocError>
         requires { 0 < limit }
         ensures { IfOk result (λ entries. entries ≡ Some first ∷ replicate (limit - 1) None) }

@@ -71,7 +71,7 @@ fn feed_each(
     Ok(())
 }
 
-/// The same with a new checker.
+/// Feeds a new checker the entries, and tests each verdict.
 fn feed_new(
     rt: &impl Abort,
     alloc: Global,
@@ -622,7 +622,7 @@ fn feed_rows(
     }
 }
 
-/// The same with a new checker, if there is memory for one.
+/// Feeds a new checker the entries, if there is memory for one, and tests each verdict.
 fn feed_all(rt: &impl Abort, alloc: Global, entries: &[Entry], rows: &[(usize, Verdict)]) {
     if let Some(mut checker) = start_checker(rt, alloc) {
         feed_rows(rt, alloc, &mut checker, entries, rows);
@@ -745,7 +745,8 @@ fn judge_history(
     judge_once(rt, alloc, history, stripes, holder)
 }
 
-/// The same with a history drawn from the seed.
+/// Judges a history drawn from the seed, which must be legal, and answers the verdict on it with
+/// one fault.
 fn judge_seed(
     rt: &impl Abort,
     alloc: Global,

@@ -1,8 +1,8 @@
 //! Tests of the crates from histories up to the mixing of scripts: of the core and its drives, and
 //! of the checker that judges histories.
 //!
-//! They are a separate crate, since a crate with tests is proved twice. Each call of a library
-//! stands once, in a small function without a contract: a test that uses these has only its own
+//! They are a separate crate, since a crate with tests is proved twice. Each call of a library is
+//! made once, in a small function without a contract: a test that uses these has only its own
 //! safety to prove.
 #![tactic(auto)]
 

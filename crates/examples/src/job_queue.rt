@@ -56,7 +56,7 @@ fn finish<L: Ledger, R: Wait>(t: &mut Transaction<'_, L, R>, job: u64) -> Result
     Ok(())
 }
 
-/// What is done in one transaction.
+/// The work of one transaction.
 #[derive(Clone, Copy)]
 enum Task {
     /// Fills the queue.
@@ -67,7 +67,7 @@ enum Task {
     Finish(u64),
 }
 
-/// Does it, and answers whether it has claimed a job.
+/// Does the task, and answers whether it has claimed a job.
 fn do_task<L: Ledger, R: Wait>(t: &mut Transaction<'_, L, R>, task: Task) -> Result<bool, Stop>
     ensures { Keeps t.old.me t.new.me }
 {
@@ -84,7 +84,7 @@ fn do_task<L: Ledger, R: Wait>(t: &mut Transaction<'_, L, R>, task: Task) -> Res
     }
 }
 
-/// Does it in a transaction, which is tried again as often as it takes.
+/// Does the task in a transaction, which is tried again as often as it takes.
 fn commit<L: Ledger, R: Wait>(t: &mut Transaction<'_, L, R>, task: Task) -> Result<bool, Stop> {
     let does = |t: &mut Transaction<'_, L, R>| do_task(t, task);
     let (claimed, _) = transact(&mut *t, Retry::FOREVER, does)?;

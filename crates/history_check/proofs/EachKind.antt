@@ -1,4 +1,4 @@
--- Each kind of entry, where it breaks no rule after a legal history: what the history says after it.
+-- Each kind of entry, if it breaks no rule after a legal history: what the history says after it.
 use Rattle.std.proofs.Common.{◌≡◌, ℕ, ◌+◌, ◌-◌, ◌<◌, ◌==◌, ◌&&◌, Bool, true, false, cond, not, List, [], ◌∷◌, ◌++◌, take, length, slice_index, refl, ap, sym, ◌∙◌, Some, None, Option, is_some, arith}
 use Rattle.std.specs.Prelude.{nat_eq, nat_lt}
 use Rattle.std.specs.Option.{option_eq}
@@ -40,7 +40,7 @@ pub broken_by : (holder : Holder) (stripes : ℕ) (g : List Entry) (e : Entry) (
     → broken holder stripes g e ≡ cond {A = Option ℕ} (not a) (Some 3) (cond {A = Option ℕ} (not b) (Some 1) (cond {A = Option ℕ} (not c) (Some 2) None))
 broken_by holder stripes g e a b c shaped right locked = λ i. cond {A = Option ℕ} (not (shaped i)) (Some 3) (cond {A = Option ℕ} (not (right i)) (Some 1) (cond {A = Option ℕ} (not (locked i)) (Some 2) None))
 
--- In which phases an entry may stand.
+-- The phases in which each kind of entry is allowed.
 only_closed : (s : Seat) (q : Phase) (c t : ℕ) → is_some (row s q (Began c t)) ≡ true → q ≡ Closed
 only_closed s Closed c t h = refl
 only_closed s _ c t h = absurd (false≢true h)
@@ -83,7 +83,7 @@ undone_from s (LeavingTo n) c h = inl (n, refl, ltb-true _ _ (some_if (nat_lt (s
 undone_from s LeavingToEnd c h = inr (refl, ltb-true _ _ (some_if (nat_lt 0 s.standing) _ h))
 undone_from s _ c h = absurd (false≢true h)
 
--- More than none stand where a change is taken back.
+-- At least one change stands if one is taken back.
 pub undone_some : (s : Seat) (q : Phase) (c : ℕ) → is_some (row s q (Undone c)) ≡ true → 0 < s.standing
 undone_some s q c h = elim (undone_from s q c h) [
   | inl to ↦ (let more = to.2 in omega arith)
@@ -102,7 +102,7 @@ aborted_from s LeavingToEnd c h = (refl, eqb-true s.standing 0 (some_if (s.stand
 aborted_from s _ c h = absurd (false≢true h)
 
 module _ {holder : Holder} (stripes : ℕ) (g : List Entry) (legal : IsLegal holder stripes g) (c : ℕ) (seat : Seat) (seat_is : seat_after (own c g) ≡ Some seat) where
-  -- What the right shape of an entry of the caller says of its seat.
+  -- An entry of the caller with the right shape has a row at its seat, and the right number.
   pub in_row : (e : Entry) → caller_of e ≡ c → is_shaped g e ≡ true → (is_some (row seat seat.phase e) ≡ true) × (is_numbered g e ≡ true)
   in_row e mine shaped = and_parts (is_some (row seat seat.phase e)) (is_numbered g e) (sym (is_shaped_is g e seat (ap (λ d. seat_after (own d g)) mine ∙ seat_is)) ∙ shaped)
 
@@ -169,7 +169,8 @@ module _ {holder : Holder} (stripes : ℕ) (g : List Entry) (legal : IsLegal hol
       let from = aborted_from seat seat.phase c (in_row (Aborted c) refl (breaks_none holder stripes g (Aborted c) fine).0).0 in
       entries.aborted stripes g legal c seat seat_is from.0 from.1
 
-  -- Where the caller waits for the reply of an operation, a Did has the right shape, and holds the reply of the map now.
+  -- If the caller waits for an operation and a Did has the right shape, its reply is right exactly
+  -- if it is the map's now.
   pub did_right : (op : Op) (x : Option ℕ) → seat.phase ≡ Waiting op → is_shaped g (Did c x) ≡ true → replies_hold (g ++ Did c x ∷ []) ≡ option_eq nat_eq x (reply_of (now g) op)
   did_right op x waits shaped =
       replies_hold-push stripes g legal (Did c x) shaped

@@ -52,25 +52,26 @@ module _ (broken : List Entry → Entry → Option ℕ) where
   bad_stays told after h e fed None some is = absurd (false≢true some)
   bad_stays told after h e fed (Some bad) some is = first_bad_by-push [] h e 0 ∙ ap (λ o. then_bad o (broken h e) (0 + length h)) is
 
-  -- An entry that breaks a rule where none before does is the first bad one.
+  -- An entry that breaks a rule, after entries that break none, is the first bad one.
   pub bad_now : (h : List Entry) (e : Entry) (i rule : ℕ) → first_bad_by broken [] h 0 ≡ None → i ≡ length h → broken h e ≡ Some rule → first_bad_by broken [] (h ++ e ∷ []) 0 ≡ Some (i, rule)
   bad_now h e i rule none index breaks =
       let here : 0 + length h ≡ i = omega (arith, index) in
       first_bad_by-push [] h e 0 ∙ (λ j. then_bad (none j) (breaks j) (here j))
 
-  -- What the state of a checker tells, where no entry is bad.
+  -- The state of a checker tells the entries if none is bad.
   pub told_of : (told : Type 0) (h : List Entry) (fed : ℕ) (bad : Option (ℕ × Rule)) → first_bad_by broken [] h 0 ≡ None → FedBy broken told h fed bad → told
   told_of told h fed None none is = is.0
   told_of told h fed (Some bad) none is = absurd (cc (sym none ∙ is))
 
-  -- The verdict where no entry is bad, and where one is.
+  -- The verdict if no entry is bad, and if one is.
   pub verdict_by-none : (h : List Entry) (commits count : ℕ) → first_bad_by broken [] h 0 ≡ None → commits ≡ how_many is_commit h → count ≡ length (running (callers_in h) h) → legal.Legal commits count ≡ verdict_by broken h
   verdict_by-none h commits count none commits_are count_is = (λ i. legal.Legal (commits_are i) (count_is i)) ∙ sym (rw (none, verdict_by) refl)
 
   pub verdict_by-some : (h : List Entry) (bad : ℕ × ℕ) → first_bad_by broken [] h 0 ≡ Some bad → legal.Illegal bad.0 bad.1 ≡ verdict_by broken h
   verdict_by-some h bad is = sym (rw (is, verdict_by) refl)
 
-  -- A verdict says that a history is good exactly where it is, if that is where no entry is bad.
+  -- A verdict says that a history is good exactly if it is, given that a history is good exactly if
+  -- no entry is bad.
   pub says : (good : Type 0) (h : List Entry) (v : Verdict) → good ↔ (first_bad_by broken [] h 0 ≡ None) → meaning_of v ≡ verdict_by broken h → SaysLegal v ↔ good
   says good h (Legal commits count) iff is = (λ u. iff.1 (none (first_bad_by broken [] h 0) refl), λ g. tt)
     where

@@ -1,4 +1,4 @@
--- The stripes: which lock entries may stand, and who holds each stripe after them.
+-- The stripes: which lock entries are legal, and who holds each stripe after them.
 use Rattle.std.proofs.Common.{◌≡◌, ◌≢◌, ℕ, ◌<◌, ◌%◌, ◌==◌, ◌&&◌, Bool, true, false, not, cond, List, refl, ap, sym, ◌∙◌, Some, None, Option, arith}
 use Rattle.std.specs.Prelude.{nat_eq}
 use Rattle.std.specs.Option.{option_eq}
@@ -33,7 +33,8 @@ busy-own {holder} stripes h legal c op x is =
     is_locked-busy holder stripes h c op x legal.shape legal.locks
     ∙ ap (λ b. not b && elim holder as (λ r. Bool) [ Now ↦ option_eq nat_eq (holder_of stripes (stripe_of stripes (key_of op)) h) (Some x) | Begun ↦ has_begun x h ]) (eq-eqb x c is)
 
--- Where it names one that has begun, a Busy may stand where another caller than its own has.
+-- If a Busy may name a caller that has begun, one that names another caller is legal exactly if
+-- that caller has.
 pub busy-begun : {holder : Holder} (stripes : ℕ) (h : List Entry) → IsLegal holder stripes h → (c : ℕ) (op : Op) → holder ≡ Begun → (x : ℕ) → x ≢ c → is_locked holder stripes h (Busy c op x) ≡ has_begun x h
 busy-begun {holder} stripes h legal c op begun x other =
     is_locked-busy holder stripes h c op x legal.shape legal.locks
@@ -58,7 +59,7 @@ module _ {holder : Holder} (stripes : ℕ) (h : List Entry) (legal : IsLegal hol
     abbrev asked_test : Option ℕ → Bool
     asked_test o = elim o as (λ o. Bool) [ None ↦ true | Some d ↦ d == c ]
 
-    -- An Asked may stand where the stripe is granted, and not where another caller holds it.
+    -- An Asked is legal if the stripe is granted, and not if another caller holds it.
     pub asked-granted : (new : List (Option ℕ)) → locks.Grants c (key % live.stripes) live.locks new → is_locked holder stripes h (Asked c op) ≡ true
     asked-granted new is = is_locked-asked holder stripes h c op legal.shape legal.locks ∙ elim is.open_to_caller [
       | inl none ↦ ap asked_test (sym held ∙ none)
@@ -68,7 +69,8 @@ module _ {holder : Holder} (stripes : ℕ) (h : List Entry) (legal : IsLegal hol
     pub asked-refused : (other : ℕ) (new : List (Option ℕ)) → locks.Refuses c (key % live.stripes) other live.locks new → is_locked holder stripes h (Asked c op) ≡ false
     asked-refused other new is = is_locked-asked holder stripes h c op legal.shape legal.locks ∙ ap asked_test (sym held ∙ is.held) ∙ ne_eqb other c is.by_another
 
-    -- Where it names a holder of now, a Busy may name the caller that holds the stripe, unless it is its own.
+    -- If a Busy must name a holder of now, it may name the caller that holds the stripe, unless
+    -- that is its own.
     pub busy-held : holder ≡ Now → (x : ℕ) → x ≢ c → is_locked holder stripes h (Busy c op x) ≡ option_eq nat_eq (locks.holder_of live.locks (key % live.stripes)) (Some x)
     busy-held now x other =
         is_locked-busy holder stripes h c op x legal.shape legal.locks

@@ -1,4 +1,4 @@
--- What a change of one key makes of the map.
+-- The map after a change of one key.
 use Rattle.std.proofs.Common.{get_or, vec_len, ◌≡◌, ◌≢◌, ℕ, zero, suc, ◌<◌, ◌==◌, ◌%◌, cond, Option, Some, List, [], ◌∷◌, ap, sym, refl, ◌∙◌, arith}
 use Rattle.std.specs.Prelude.{slice_get}
 use Rattle.std.specs.Option.{IfSome}
@@ -37,7 +37,7 @@ map_at values k tree is =
     let all : vec_len values.maps ≡ 1021 = values.all in
     slice_get_read values.maps.items (vec_len values.maps) (k % 1021) tree values.maps.ok.0 (omega arith) is
 
--- What a key has, in the sorted map of its remainder.
+-- The value of a key, in the sorted map of its remainder.
 pub has-get : (m : Map) (values : Values) (k : ℕ) (tree : BTreeMap ℕ ℕ) → Have m values → tree ≡ get_or values.maps.items (k % 1021) tree → value_at nat_cmp tree k ≡ get m k
 has-get m values k tree has is = at_some (HasOf m (k % 1021)) (slice_get values.maps.items (k % 1021)) tree (map_at values k tree is) (has (k % 1021)) k refl
 

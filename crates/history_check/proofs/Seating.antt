@@ -26,7 +26,7 @@ use Rattle.history_check.specs.Callers.{seat_of, log_in, Enters, HasRoom, HasRoo
 use Rattle.history_check.specs.Logs.{log_entered, log_replied}
 use Rattle.history_check.proofs.EachKind.{did_waits, undone_some}
 
--- What holds of each element, after one is written.
+-- A property of each element, after one is written.
 pub each-set : {A : Type 0} (P : ℕ → A → Type 0) (xs : List A) (i : ℕ) (a : A) → P i a → ((k : ℕ) → k ≢ i → IfSome (slice_get xs k) (P k)) → (k : ℕ) → IfSome (slice_get (set xs i a) k) (P k)
 each-set P [] i a here others k = tt
 each-set P (x ∷ xs) zero a here others zero = here
@@ -34,13 +34,13 @@ each-set P (x ∷ xs) zero a here others (suc k) = others (suc k) (λ is. absurd
 each-set P (x ∷ xs) (suc i) a here others zero = others zero (λ is. absurd (omega arith))
 each-set P (x ∷ xs) (suc i) a here others (suc k) = each-set (λ j. P (suc j)) xs i a here (λ j other. others (suc j) (λ is. other (let same : suc j ≡ suc i = is in omega arith))) k
 
--- What holds of the element that is written.
+-- A property of the element that is written.
 pub set-here : {A : Type 0} (P : A → Type 0) (xs : List A) (i : ℕ) (a : A) → P a → IfSome (slice_get (set xs i a) i) P
 set-here P [] i a here = tt
 set-here P (x ∷ xs) zero a here = here
 set-here P (x ∷ xs) (suc i) a here = set-here P xs i a here
 
--- What holds of an element, from what holds of it otherwise.
+-- A property of an optional element implies a weaker one.
 pub if_some : {A : Type 0} (P Q : A → Type 0) (o : Option A) → ((a : A) → P a → Q a) → IfSome o P → IfSome o Q
 if_some P Q None to is = tt
 if_some P Q (Some a) to is = to a is
@@ -59,11 +59,11 @@ sits_at h callers c caller entered below is = at_some (Sits h c) (slice_get call
 pub room_at : (e : Entry) (callers : Callers) (caller : Caller) → HasRoomFor e callers → caller_of e < 64 → caller ≡ get_or callers.table.items (caller_of e) caller → HasRoom e caller
 room_at e callers caller room below is = at_some (HasRoom e) (slice_get callers.table.items (caller_of e)) caller (caller_at callers (caller_of e) caller below is) room
 
--- What the right shape of an entry says of its caller's seat.
+-- An entry of the right shape has a row at its caller's seat, and the right number.
 pub in_row : (h : List Entry) (e : Entry) (seat : Seat) → seat_after (own (caller_of e) h) ≡ Some seat → is_shaped h e ≡ true → (is_some (row seat seat.phase e) ≡ true) × (is_numbered h e ≡ true)
 in_row h e seat seat_is shaped = and_parts (is_some (row seat seat.phase e)) (is_numbered h e) (sym (is_shaped_is h e seat seat_is) ∙ shaped)
 
--- The seat of an entry's caller, where the entry has the right shape.
+-- The caller of an entry with the right shape has a seat.
 pub seat_there : (h : List Entry) (e : Entry) → is_shaped h e ≡ true → (seat : Seat) × (seat_after (own (caller_of e) h) ≡ Some seat)
 seat_there h e shaped = at (seat_after (own (caller_of e) h)) refl (shaped_seat h e shaped)
   where
@@ -71,7 +71,7 @@ seat_there h e shaped = at (seat_after (own (caller_of e) h)) refl (shaped_seat 
     at None is some = absurd (false≢true some)
     at (Some seat) is some = (seat, is)
 
--- A Did stands only where an operation waits.
+-- A Did has the right shape only if an operation waits.
 pub did_asked : (h : List Entry) (c : ℕ) (x : Option ℕ) (q : Phase) → IsIn h c q → is_shaped h (Did c x) ≡ true → ((op : Op) → q ≡ Waiting op → ⊥) → ⊥
 did_asked h c x q there shaped not_waiting =
     let waits = did_waits there.seat there.seat.phase c x (in_row h (Did c x) there.seat there.seat_is shaped).0 in
@@ -85,7 +85,7 @@ pub first_then : {A : Type 0} (xs : List A) (x : A) → slice_get xs 0 ≡ Some 
 first_then [] x is = absurd (cc is)
 first_then (y ∷ ys) x is = let same : y ≡ x = cc is in ap (λ z. z ∷ ys) same
 
--- An Undone stands only where a change does.
+-- An Undone has the right shape only if a change stands.
 pub undone_newest : (h : List Entry) (c : ℕ) → is_shaped h (Undone c) ≡ true → slice_get (log_of c h) 0 ≡ None → ⊥
 undone_newest h c shaped none =
     let seat = seat_there h (Undone c) shaped in
@@ -138,7 +138,7 @@ entered-push h e old new before after entered shaped below sits enters table_is 
     goes : Enters e before after
     goes = enters there
 
--- No entry more, where a caller's fields say the same.
+-- One entry more is entered if the caller's fields stay the same.
 pub entered-same : (h : List Entry) (old new : Callers) (c : ℕ) (before after : Caller) → HaveEntered h old → Sits h c before → seat_of after ≡ seat_of before → log_in after ≡ log_in before → after.has_begun ≡ before.has_begun
     → new.table.items ≡ set old.table.items c after → new.began ≡ old.began → new.committed ≡ old.committed → HaveEntered h new
 entered-same h old new c before after entered sits seat log begun table_is begins commits = record {

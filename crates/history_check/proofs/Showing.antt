@@ -22,7 +22,7 @@ module _ {holder : Holder} (stripes : ℕ) (h : List Entry) (legal : IsLegal hol
   pub fine : is_locked holder stripes h e ≡ true → broken holder stripes h e ≡ None
   fine locked = broken_by holder stripes h e true true true shaped answered locked
 
-  -- What a map shows that is as the law of the entry's kind says.
+  -- A map that agrees with the law of the entry's kind shows the entry.
   pub followed : (new : LiveMap) (seat : Seat) (log : List (ℕ × Option ℕ)) (committed current : Map) (held : ℕ → Option ℕ) → is_locked holder stripes h e ≡ true → Next holder stripes h e seat log committed current held
       → new.holder ≡ live.holder → new.stripes ≡ live.stripes → Have current new.values → ((s : ℕ) → s < stripes → locks.holder_of new.locks s ≡ held s) → FollowsAt holder stripes h e true new
   followed new seat log committed current held locked next holder_is stripes_are has holds = record {

@@ -1,4 +1,4 @@
--- Which entries a checker was fed.
+-- The entries that a checker was fed.
 use Rattle.std.specs.Prelude.{ℕ, List}
 use Rattle.txn_words.specs.declared.entry.Entry.{Entry}
 use Rattle.txn_words.specs.declared.holder.Holder.{Holder}
@@ -7,8 +7,8 @@ use Rattle.history_check.specs.declared.checker.Checker.{Checker}
 use Rattle.history_check.specs.FirstBad.{FedBy}
 use Rattle.history_check.specs.States.{Tells}
 
--- The checker was fed these entries, in this order, of a map with so many stripes, in which a Busy
--- may name such a caller.
+-- The checker was fed these entries, in this order, of a map with `stripes` stripes, in which
+-- `holder` says whom a Busy may name.
 abbrev pub IsFed : Holder → ℕ → List Entry → Checker → Type 0
 IsFed holder stripes h checker =
     FedBy (broken holder stripes) (Tells holder stripes h checker.state) h checker.fed checker.bad

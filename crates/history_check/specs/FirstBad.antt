@@ -7,8 +7,8 @@ use Rattle.txn_trace.specs.Legal.{Verdict, Legal, Illegal, callers_in, running}
 use Rattle.history_check.specs.declared.verdict.Rule.{Rule}
 use Rattle.history_check.specs.Verdicts.{number_of}
 
--- Of the entries h that come after g, the i-th and following ones, the first that breaks a rule,
--- and the rule's number.
+-- The first of the entries h that breaks a rule, and the rule's number; h follows g, and its first
+-- entry has index i.
 abbrev pub first_bad_by : (List Entry → Entry → Option ℕ)
     → List Entry → List Entry → ℕ → Option (ℕ × ℕ)
 first_bad_by broken g [] i = None
@@ -17,7 +17,7 @@ first_bad_by broken g (e ∷ h) i = elim (broken g e) [
   | None ↦ first_bad_by broken (g ++ e ∷ []) h (i + 1)
 ]
 
--- The verdict on a history: the first bad entry; where none is, the numbers of commits and of
+-- The verdict on a history: the first bad entry; if none is bad, the numbers of commits and of
 -- callers that are not closed.
 abbrev pub verdict_by : (List Entry → Entry → Option ℕ) → List Entry → Verdict
 verdict_by broken h = elim (first_bad_by broken [] h 0) [
@@ -25,8 +25,8 @@ verdict_by broken h = elim (first_bad_by broken [] h 0) [
   | Some bad ↦ Illegal bad.0 bad.1
 ]
 
--- What a checker was fed: as many entries as it counted, of which its state tells; or ones of which
--- the first bad is the one that it noted.
+-- The entries that a checker was fed: its state tells them and it counted them, or the first bad
+-- one among them is the one that it noted.
 abbrev pub FedBy : (List Entry → Entry → Option ℕ)
     → Type 0 → List Entry → ℕ → Option (ℕ × Rule) → Type 0
 FedBy broken told h fed None = told × (fed ≡ length h)

@@ -1,4 +1,4 @@
--- What the live map of a checker says of the entries so far.
+-- The meaning of a checker's live map for the entries so far.
 use Rattle.std.specs.Prelude.{◌≡◌, ℕ, ◌<◌, Bool, true, List, [], ◌∷◌, ◌++◌}
 use Rattle.txn_words.specs.declared.entry.Entry.{Entry}
 use Rattle.txn_words.specs.declared.holder.Holder.{Holder}
@@ -12,7 +12,8 @@ use Rattle.history_check.specs.declared.live_map.LiveMap.{LiveMap}
 use Rattle.history_check.specs.Callers.{HaveEntered}
 use Rattle.history_check.specs.Remainders.{Have}
 
--- Its values are those of the map now, and its stripes have the holders that the history says.
+-- The live map has the values of the map now, and its stripes have the holders that the history
+-- says.
 pub record Shows (holder : Holder) (stripes : ℕ) (h : List Entry) (live : LiveMap) : Type 0 where
   pub holder_is : live.holder ≡ holder
   pub stripes_are : live.stripes ≡ stripes
@@ -25,8 +26,8 @@ Keeps old new =
     (holder : Holder) (stripes : ℕ) (h : List Entry)
     → Shows holder stripes h old → Shows holder stripes h new
 
--- After a legal history an entry of right shape and reply breaks the rule of locks or, where the
--- answer is that it does not, the new map shows one entry more.
+-- After a legal history, for an entry of right shape and reply: the answer is whether it keeps the
+-- rule of locks, and if it does the new map shows one entry more.
 pub record FollowsAt (holder : Holder) (stripes : ℕ) (h : List Entry) (e : Entry) (right : Bool)
     (new : LiveMap) : Type 0 where
   pub locked : is_locked holder stripes h e ≡ right

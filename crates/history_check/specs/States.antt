@@ -1,4 +1,4 @@
--- What the state of a checker says of the entries so far.
+-- The meaning of a checker's state for the entries so far.
 use Rattle.std.specs.Prelude.{◌≡◌, ℕ, Option, None, Some, List, [], ◌∷◌, ◌++◌}
 use Rattle.txn_words.specs.declared.entry.Entry.{Entry}
 use Rattle.txn_words.specs.declared.holder.Holder.{Holder}
@@ -21,13 +21,13 @@ Stays old new =
     (holder : Holder) (stripes : ℕ) (h : List Entry)
     → Tells holder stripes h old → Tells holder stripes h new
 
--- After a history the entry breaks the rule that is named; where none is, the state tells one entry
--- more.
+-- After a history the entry breaks the rule that is named; if none is named, the state tells one
+-- entry more.
 abbrev pub Judged : Holder → ℕ → List Entry → Entry → Option Rule → State → Type 0
 Judged holder stripes h e None new = Tells holder stripes (h ++ e ∷ []) new
 Judged holder stripes h e (Some rule) new = broken holder stripes h e ≡ Some (number_of rule)
 
--- That holds after each history that the old state tells.
+-- The entry is judged as `Judged` says after each history that the old state tells.
 abbrev pub Judges : Entry → State → Option Rule → State → Type 0
 Judges e old rule new =
     (holder : Holder) (stripes : ℕ) (h : List Entry)

@@ -4,6 +4,6 @@ use Rattle.std.specs.Ordering.{nat_cmp}
 use Rattle.std.specs.BTreeMap.{BTreeMap, get as value_at}
 use Rattle.txn_words.specs.Map.{Map, get}
 
--- They have the same value at each key.
+-- The two maps have the same value at each key.
 abbrev pub Has : Map → BTreeMap ℕ ℕ → Type 0
 Has m values = (key : ℕ) → value_at nat_cmp values key ≡ get m key

@@ -1,4 +1,4 @@
--- What the verdict of the checker means.
+-- The meaning of a checker's verdict.
 use Rattle.std.specs.Prelude.{ℕ, ◌≡◌, ◌↔◌, List, ◌++◌, codes, decimal}
 use Rattle.txn_words.specs.declared.entry.Entry.{Entry}
 use Rattle.txn_words.specs.declared.holder.Holder.{Holder}
@@ -35,8 +35,7 @@ abbrev pub SaysLegal : Verdict → Type 0
 SaysLegal (Legal commits running) = Unit {0}
 SaysLegal (Illegal entry rule) = ⊥
 
--- The verdict on a history: the one of the definitions, which says legal exactly where the history
--- is.
+-- The verdict on a history: that of the definitions, which says legal exactly if the history is.
 pub record IsVerdictOn (holder : Holder) (stripes : ℕ) (h : List Entry) (outcome : Verdict) :
     Type 0 where
   pub meaning : meaning_of outcome ≡ legal.verdict holder stripes h

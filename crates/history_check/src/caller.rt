@@ -1,4 +1,4 @@
-//! What a caller's entries so far make of it: its seat, whether it has begun, and the value before
+//! A caller as its entries so far leave it: its seat, whether it has begun, and the value before
 //! each of its standing changes. Going back drops the newest of these.
 ghost use Rattle.std.specs.Prelude.{◌≡◌, ◌<◌, [], true, false, reverse, slice_get, vec_len, vec_capacity, is_some, OnOk};
 ghost use Rattle.txn_words.specs.Kinds.{is_began};
@@ -35,7 +35,7 @@ impl Caller {
         }
     }
 
-    /// Its phase.
+    /// The phase of its seat.
     #[inline(always)]
     pub(crate) fn phase(&self) -> Phase
         ensures { result ≡ (seat_of self.now).phase }
@@ -50,7 +50,7 @@ impl Caller {
         !matches!(self.seat.phase(), Phase::Closed)
     }
 
-    /// Whether an entry of it may come next.
+    /// Whether its next entry may be this one.
     #[inline(always)]
     pub(crate) fn allows(&self, entry: &Entry) -> bool
         ensures { result ≡ is_some (row (seat_of self.now) (seat_of self.now).phase entry.now) }
@@ -81,7 +81,7 @@ impl Caller {
         }
     }
 
-    /// Goes on by an entry of it that may come next.
+    /// Enters an entry that `allows` accepts, for which there is room.
     #[inline(always)]
     pub(crate) fn enter(&mut self, entry: Entry)
         requires { HasRoom entry self.old }

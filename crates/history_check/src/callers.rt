@@ -1,6 +1,6 @@
-//! The callers of a history: the judge of the rule of shape, on which both judges of replies stand.
-//! It keeps each caller's seat and how many transactions began and committed; an entry takes
-//! constant time.
+//! The callers of a history: the judge of the rule of shape, which both judges of replies use. It
+//! keeps each caller's seat and how many transactions began and committed; an entry takes constant
+//! time.
 ghost use Rattle.std.specs.Prelude.{◌≡◌, ℕ, ◌+◌, ◌<◌, ◌==◌, ◌++◌, [], ◌∷◌, List, length, true, slice_get, IfOk, OnOk, vec_len};
 ghost use Rattle.txn_words.specs.Kinds.{caller_of, is_began, is_commit};
 ghost use Rattle.txn_words.specs.Shape.{how_many, is_numbered, is_shaped};
@@ -14,7 +14,7 @@ use txn_trace::{Entry, Phase, Reply};
 /// The 64 callers of a history: the seat of each, with the changes of its transaction that stand,
 /// and how many transactions began and committed.
 ///
-/// It is the judge of the rule of shape: it says which entry may come next, and is fed the entries
+/// It is the judge of the rule of shape: it says which entry may follow, and is fed the entries
 /// that do. A contract sees which it was fed: `HaveEntered h callers`, which says too that they
 /// have the right shape.
 #[derive(Drop)]
@@ -159,7 +159,7 @@ impl Callers {
         self.table[caller as usize].reserve(entry)
     }
 
-    /// Goes on by an entry, for which there is room.
+    /// Enters an entry, for which there is room.
     ///
     /// # Cost
     ///

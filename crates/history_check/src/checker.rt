@@ -18,7 +18,7 @@ use txn_trace::{Entry, Holder};
 #[derive(Drop)]
 pub struct Checker {
     state: State,
-    /// How many entries came before the first bad one, so far.
+    /// How many entries were fed before the first bad one, so far.
     fed: u64,
     /// The first bad entry and the rule that it breaks.
     bad: Option<(u64, Rule)>,
@@ -31,8 +31,8 @@ impl Checker {
     ghost use Rattle.history_check.specs.Callers.{HaveEntered};
     ghost use Rattle.history_check.specs.Fed.{IsFed};
 
-    /// A checker of the history of a map with so many stripes, whose Busy entries may name such a
-    /// caller, before the first entry.
+    /// A checker of the history of a map with `stripes` stripes, before the first entry; `holder`
+    /// says whom its Busy entries may name.
     ///
     /// # Errors
     ///
@@ -58,8 +58,8 @@ impl Checker {
     ///
     /// # Errors
     ///
-    /// `AllocError` if memory is refused, or where 2^64 - 1 entries were fed. Then it was fed no
-    /// entry more, and the same one may be fed again.
+    /// `AllocError` if memory is refused, or 2^64 - 1 entries were fed already. The checker is
+    /// unchanged then, and the same entry may be fed again.
     ///
     /// # Cost
     ///
@@ -86,7 +86,7 @@ impl Checker {
         Ok(())
     }
 
-    /// What it says of the entries so far: the verdict on the history that they are.
+    /// The verdict on the entries so far.
     ///
     /// # Cost
     ///
@@ -104,8 +104,8 @@ impl Checker {
         }
     }
 
-    /// The callers as the entries so far make them, as long as none is bad: of each the phase,
-    /// which says what may come next.
+    /// The callers after the entries so far, as long as none is bad: the phase of each says which
+    /// entries may follow.
     ///
     /// # Cost
     ///

@@ -10,8 +10,8 @@ use crate::verdict::Verdict;
 use std::alloc::{AllocError, Global};
 use txn_trace::{Entry, Holder, SmallEntry};
 
-/// Judges a whole history of a map with so many stripes, whose callers are below 64 and whose Busy
-/// entries may name such a caller.
+/// Judges a whole history of a map with `stripes` stripes, whose callers are below 64; `holder`
+/// says whom its Busy entries may name.
 ///
 /// The verdict is `Legal`, with the number of commits and of callers that are in a transaction at
 /// the end, exactly if the history is legal. Otherwise it is `Illegal`, with the index of the
@@ -45,7 +45,7 @@ pub fn check(
     Ok(checker.verdict())
 }
 
-/// The same as `check`, of entries that are packed.
+/// Judges a whole history of packed entries, as `check` does.
 ///
 /// # Errors
 ///

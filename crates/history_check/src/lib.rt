@@ -1,8 +1,8 @@
 //! A checker of recorded histories of a transactional map.
 //!
 //! A history is a list of `txn_trace`'s entries. It is legal if each open transaction has the
-//! replies of running alone after the committed ones, where a stripe of keys belongs to one open
-//! transaction at a time, and where each caller's entries follow the state table: `IsLegal` of
+//! replies of running alone after the committed ones, a stripe of keys belongs to one open
+//! transaction at a time, and each caller's entries follow the state table: `IsLegal` of
 //! `txn_trace`. In the usual terms these are serializability in the order of commits (which open
 //! transactions must have too), strict two-phase locking of stripes, and well-formed callers. The
 //! checker says which histories are legal, and of any other names the first entry that breaks a
@@ -19,13 +19,13 @@
 //! the stripes, and to the most keys, changes that can be taken back and savepoints that there are
 //! at one time.
 //!
-//! The rule of shape is judged by `Callers`, on which `serial_check`, the judge by the order of
-//! commits, stands too; the rules of replies and locks by the map and its stripes. Both judges
-//! share the verdict and what is proved of the first bad entry (`FirstBad`).
+//! The rule of shape is judged by `Callers`, which `serial_check`, the judge by the order of
+//! commits, uses too; the rules of replies and locks by the map and its stripes. Both judges share
+//! the verdict and what is proved of the first bad entry (`FirstBad`).
 //!
 //! Proved: `check`, `check_packed`, and a `Checker` that was fed the same entries, say what the
-//! definition `verdict` of `txn_trace` says, and they say legal exactly if `IsLegal` holds. An
-//! entry that is refused for want of memory leaves a checker fed with what it was fed before.
+//! definition `verdict` of `txn_trace` says, and they say legal exactly if `IsLegal` holds. If
+//! memory is refused, the entry is not fed and the checker is unchanged.
 #![tactic(auto)]
 
 mod caller;

@@ -1,5 +1,5 @@
-//! The judge of replies and of locks: the map as it is now, and who holds its stripes. Apart from
-//! the judge of shape, since serializable histories need that one and not this.
+//! The judge of replies and of locks: the map as it is now, and who holds its stripes. Separate
+//! from the judge of shape, since serializable histories need that one and not this.
 ghost use Rattle.std.specs.Prelude.{◌≡◌, ℕ, ◌<◌, ◌++◌, [], ◌∷◌, List, length, true, IfOk, OnOk, OnErr};
 ghost use Rattle.txn_words.specs.Kinds.{caller_of};
 ghost use Rattle.txn_trace.specs.Legal.{IsLegal};
@@ -63,8 +63,7 @@ impl LiveMap {
         }
     }
 
-    /// Does what an entry does that has the right shape and reply, or answers that it breaks the
-    /// rule of locks.
+    /// Applies an entry of the right shape and reply, or answers that it breaks the rule of locks.
     #[inline(always)]
     pub(crate) fn follow(&mut self, callers: &Callers, entry: &Entry) -> Result<bool, AllocError>
         requires { caller_of entry.now < 64 }
@@ -105,7 +104,7 @@ impl LiveMap {
         }
     }
 
-    /// Whether a Busy of the caller may name that one.
+    /// Whether the rule of locks lets a Busy of `caller` name `named`.
     #[inline(always)]
     fn may_name(&self, callers: &Callers, caller: u64, op: Op, named: u64) -> bool
         ensures { Follows (Entry.Busy caller op named) callers.now self.now result self.now }

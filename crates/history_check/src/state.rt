@@ -1,5 +1,5 @@
-//! What a checker keeps of the history that it was fed: callers and live map, and whether an entry
-//! was bad. Its view is the history; no list of the entries is kept.
+//! The state of a checker: callers and live map, and whether an entry was bad. Its view is the
+//! history that it was fed; no list of the entries is kept.
 ghost use Rattle.std.specs.Prelude.{◌<◌, [], IfOk, OnErr};
 ghost use Rattle.txn_words.specs.Kinds.{caller_of};
 
@@ -9,7 +9,7 @@ use crate::verdict::Rule;
 use std::alloc::{AllocError, Global};
 use txn_trace::{Entry, Holder};
 
-/// What is needed of a legal history to judge the next entry.
+/// The state of a legal history, enough to judge the next entry.
 #[derive(Drop)]
 pub(crate) struct State {
     /// The callers, by which shape is judged.
@@ -54,7 +54,7 @@ impl State {
         }
     }
 
-    /// The same, of whatever kind the entry is.
+    /// Judges an entry of any kind, and enters it if it breaks no rule.
     #[inline(always)]
     fn judge(&mut self, entry: &Entry) -> Result<Option<Rule>, AllocError>
         requires { caller_of entry.now < 64 }

@@ -77,7 +77,7 @@ impl Values {
         Ok(())
     }
 
-    /// Puts back what a key had. Costs the logarithm of the number of keys.
+    /// Restores the value that a key had. Costs the logarithm of the number of keys.
     #[inline(always)]
     pub(crate) fn restore(&mut self, key: u64, before: Option<u64>) -> Result<(), AllocError>
         ensures ok { OnOk result ((m : Map) → Have m self.old →

@@ -45,8 +45,8 @@ impl fmt::Display for Rule {
 
 impl Error for Rule {}
 
-/// What a checker says of a history. It is printed as `legal 2 commits 0 open`, or as
-/// `illegal entry 12 rule 1`.
+/// The judgement of a history. It is printed as `legal 2 commits 0 open`, or as `illegal entry 12
+/// rule 1`.
 #[derive(Clone, Copy, Debug, PartialEq, Eq)]
 pub enum Verdict {
     /// No entry breaks a rule.

@@ -1,4 +1,4 @@
--- What is known of the bytes of a reader.
+-- The known bytes of a reader, after each read.
 use Rattle.std.proofs.Common.{◌≡◌, ℕ, List, [], ◌++◌, take, Option, Some, None, refl, sym, ap, subst, ◌∙◌, append_assoc, append-nil}
 use Rattle.std.specs.Prelude.{IfSome, option_map}
 use Rattle.std.specs.Io.KnownBytes.{Consumes, IsAtEnd}
@@ -17,7 +17,7 @@ Consumes-more (Some us) None c xs ys p q = absurd p
 Consumes-more (Some us) (Some vs) None xs ys p q = absurd q
 Consumes-more (Some us) (Some vs) (Some ws) xs ys p q = p ∙ ap (λ (s : List ℕ). xs ++ s) q ∙ sym (append_assoc xs ys ws)
 
--- What holds whatever comes after what was read holds of all.
+-- A property of what was read, whatever follows it, is a property of all bytes.
 pub OfAll-early : (P : List ℕ → Type 0) (a b : Option (List ℕ)) (xs : List ℕ) → Consumes a b xs → ((more : List ℕ) → P (xs ++ more)) → (bytes : List ℕ) × IfSome a (λ all. bytes ≡ all) × P bytes
 OfAll-early P None b xs p h = (xs ++ [], tt, h [])
 OfAll-early P (Some us) None xs p h = absurd p

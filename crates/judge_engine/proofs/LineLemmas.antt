@@ -17,7 +17,7 @@ use Rattle.judge_engine.specs.Breaks.{is_break, IsUnbroken}
 use Rattle.judge_engine.specs.LineReads.{those}
 use Rattle.judge_engine.specs.Watchers.{ahead, StandsAt}
 
--- ---- where the first line feed stands
+-- ---- the place of the first line feed
 
 cut_off : (b : Bool) (n : ℕ) → cond b (Some n) None ≡ None → b ≡ false
 cut_off true n e = absurd (cc)
@@ -63,7 +63,7 @@ pub some_line : (xs : List ℕ) → (first : List ℕ) × (rest : List (List ℕ
 some_line [] = ([], [], refl)
 some_line (x ∷ xs) = let s = some_line xs in first_split x xs (is_break x) refl s.0 s.1 s.2
 
--- The first line begins with what stands before any line feed.
+-- The first line begins with all that precedes a line feed.
 pub line_begins : (xs more : List ℕ) → IsUnbroken xs → (first : List ℕ) × (rest : List (List ℕ)) × (lines_of (xs ++ more) ≡ (xs ++ first) ∷ rest)
 line_begins [] more h = some_line more
 line_begins (x ∷ xs) more h =
@@ -123,7 +123,7 @@ history-ended n (line ∷ lines) = empty_last n line lines (entry_on line) refl 
 pub last_line : (bytes : List ℕ) → history_of_lines (bytes ++ 10 ∷ []) ≡ history_of_lines bytes
 last_line bytes = ap (history_from 1) (lines_ended bytes) ∙ history-ended 1 (lines_of bytes)
 
--- ---- where a watcher stands
+-- ---- the place of a watcher
 
 ahead-ahead : (h t : List Entry) (more : List Entry × Option (ℕ × FileFault)) → ahead h (ahead t more) ≡ ahead (h ++ t) more
 ahead-ahead h t more = ap (λ (es : List Entry). (es, more.1)) (sym (append_assoc h t more.0))

@@ -1,4 +1,4 @@
--- A bad entry stays the first bad one, whatever comes after.
+-- A bad entry stays the first bad one, whatever follows.
 use Rattle.std.proofs.Common.{◌≡◌, ℕ, ◌+◌, List, [], ◌∷◌, ◌++◌, Option, Some, None, refl, ◌∙◌}
 use Rattle.txn_words.specs.declared.entry.Entry.{Entry}
 use Rattle.txn_words.specs.declared.holder.Holder.{Holder}
@@ -56,7 +56,7 @@ illegal_stays Commits h more entry rule v =
       serializable = (λ no. absurd no, λ all. let none = (serializable_iff (h ++ more)).0 all in absurd (cc (there, none)));
     }
 
--- What is said to be legal is legal.
+-- A history with the verdict legal is legal.
 pub legal_said : (basis : Basis) (h : List Entry) (commits running : ℕ) → IsVerdictBy basis h (Legal commits running) → IsLegalBy basis h
 legal_said (Locks stripes holder) h commits running v = v.legal.0 tt
 legal_said Commits h commits running v = v.serializable.0 tt

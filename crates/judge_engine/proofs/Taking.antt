@@ -1,4 +1,4 @@
--- What a watcher took in, and what follows for the verdict.
+-- The bytes that a watcher took in, and the verdict on them.
 use Rattle.std.proofs.Common.{◌≡◌, ℕ, ◌+◌, true, false, List, [], ◌∷◌, ◌++◌, Option, Some, None, is_some, refl, sym, ap, subst, ◌∙◌, append-nil}
 use Rattle.std.specs.Option.{SomeIff}
 use Rattle.txn_words.specs.declared.entry.Entry.{Entry}
@@ -49,7 +49,7 @@ pub next_is : (o : Option ℕ) (P : Type 0) (v x : ℕ) → SomeIff o P v → o 
 next_is None P v x may is = absurd (cc is)
 next_is (Some y) P v x may is = let same : y ≡ x = cc is in sym same ∙ may.1
 
--- A line is refused, and what came before is legal.
+-- A line is refused, and all entries before it are legal.
 pub refused_line : (basis : Basis) (bytes more : List ℕ) (h : List Entry) (part : List ℕ) (n number : ℕ) (fault : FileFault) (refused : Option (ℕ × FileFault)) (outcome : Verdict) (commits running : ℕ) → refused ≡ Some (number, fault) → outcome ≡ Legal commits running → StandsAt bytes h part n refused → IsVerdictBy basis h outcome → IsRefusedLine basis (history_of_lines (bytes ++ more)) number fault
 refused_line basis bytes more h part n number fault refused outcome commits running is said s v =
     let there : StandsAt bytes h part n (Some (number, fault)) = subst (StandsAt bytes h part n) is s in

@@ -1,4 +1,4 @@
--- By which rules a history is judged.
+-- The rules by which a history is judged.
 use Rattle.std.specs.Prelude.{◌<◌, List}
 use Rattle.txn_words.specs.declared.entry.Entry.{Entry}
 use Rattle.txn_trace.specs.Legal.{IsLegal}
@@ -13,7 +13,7 @@ use Rattle.judge_engine.specs.declared.basis.Basis.TheVariants.{Locks, Commits}
 use Rattle.judge_engine.specs.declared.judge.Judge.{Judge}
 use Rattle.judge_engine.specs.declared.judge.Judge.TheVariants as judges
 
--- There is a stripe, where there are stripes.
+-- If the rules have stripes, there is at least one.
 abbrev pub HasStripes : Basis → Type 0
 HasStripes (Locks stripes holder) = 0 < stripes
 HasStripes Commits = Unit {0}
@@ -23,7 +23,7 @@ abbrev pub IsLegalBy : Basis → List Entry → Type 0
 IsLegalBy (Locks stripes holder) h = IsLegal holder stripes h
 IsLegalBy Commits h = IsSerializable h
 
--- The verdict on a history: the one of the definitions, which says legal exactly where it is.
+-- The verdict on a history: that of the definitions, which says legal exactly if the history is.
 abbrev pub IsVerdictBy : Basis → List Entry → Verdict → Type 0
 IsVerdictBy (Locks stripes holder) h outcome = locks_verdicts.IsVerdictOn holder stripes h outcome
 IsVerdictBy Commits h outcome = commits_verdicts.IsVerdictOn h outcome

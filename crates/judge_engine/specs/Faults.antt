@@ -14,7 +14,7 @@ status_of NoMemory = 4
 status_of Read = 4
 status_of Write = 4
 
--- What is printed of a fault.
+-- The message of a fault.
 abbrev pub message_of : Fault → List ℕ
 message_of (Input fault) = codes "refused " ++ words_of fault
 message_of (Line number fault) =
@@ -23,7 +23,7 @@ message_of NoMemory = codes "no memory"
 message_of Read = codes "read failed"
 message_of Write = codes "write failed"
 
--- A fault of a file, where want of memory is none of the file's.
+-- The fault of a file; lack of memory is not the file's.
 abbrev pub of_file : FileFault → Fault
 of_file files.NoMemory = NoMemory
 of_file files.NotJson = Input files.NotJson
@@ -31,7 +31,7 @@ of_file files.Member = Input files.Member
 of_file (files.Piece part i) = Input (files.Piece part i)
 of_file files.Limit = Input files.Limit
 
--- What reading may fail with.
+-- The faults with which reading may fail.
 abbrev pub IsReadFault : Fault → Type 0
 IsReadFault NoMemory = Unit {0}
 IsReadFault Read = Unit {0}

@@ -1,4 +1,4 @@
--- What is said of a history file.
+-- The answers about a history file.
 use Rattle.std.specs.Prelude.{◌≡◌, ℕ, Bool, true, false, nat_le, List, take, Option, Ok, Err, IfSome, if◌then◌else◌}
 use Rattle.txn_words.specs.declared.entry.Entry.{Entry}
 use Rattle.txn_words.specs.declared.holder.Holder.{Holder}
@@ -16,7 +16,7 @@ use Rattle.judge_engine.specs.Bases.{IsVerdictBy}
 abbrev pub holder_in : ℕ → Holder
 holder_in version = if nat_le version 2 then Now else Begun
 
--- By which rules a history file is judged.
+-- The rules by which a history file is judged.
 abbrev pub basis_of : Bool → ℕ → ℕ → Basis
 basis_of true stripes version = Commits
 basis_of false stripes version = Locks stripes (holder_in version)
@@ -42,7 +42,8 @@ IsUnjudgedFile bytes Write = ⊥
 abbrev pub max_read : ℕ
 max_read = 16777217
 
--- So of the bytes that a reader had left, or of the first of them, one more than a file may have.
+-- A property of the bytes that a reader had left, or of the first of them, one more than a file may
+-- have.
 abbrev pub OfFile : Option (List ℕ) → (List ℕ → Type 0) → Type 0
 OfFile remaining P = (bytes : List ℕ) × IfSome remaining (λ all. bytes ≡ take max_read all) × P bytes
 

@@ -1,4 +1,4 @@
--- What reading a line does to a judge.
+-- The effect of reading a line on a judge.
 use Rattle.std.specs.Prelude.{◌≡◌, List, [], ◌∷◌, ◌++◌, Option, Some, None, Result, Ok, Err}
 use Rattle.txn_words.specs.declared.entry.Entry.{Entry}
 use Rattle.piece_files.specs.declared.file_fault.FileFault.{FileFault}
@@ -6,7 +6,7 @@ use Rattle.judge_engine.specs.declared.basis.Basis.{Basis}
 use Rattle.judge_engine.specs.declared.judge.Judge.{Judge}
 use Rattle.judge_engine.specs.Bases.{IsFedBy}
 
--- The entries of a line: one, or none where it is blank.
+-- The entries of a line: one, or none if it is blank.
 abbrev pub those : Option Entry → List Entry
 those None = []
 those (Some entry) = entry ∷ []

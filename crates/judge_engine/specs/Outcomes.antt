@@ -1,4 +1,4 @@
--- What is said of the scripts of a script file in a history file.
+-- The outcomes of a script file's scripts in a history file.
 use Rattle.std.specs.Prelude.{◌≡◌, ◌↔◌, ℕ, ◌%◌, Bool, true, false, List, [], ◌∷◌, ◌++◌, length, Option, Some, Ok, Err, slice_get, codes, decimal}
 use Prim.Native.Nat.{suc}
 use Rattle.std.specs.List.{filter}
@@ -31,7 +31,7 @@ outcomes_status HistoryRead = 4
 outcomes_status NoMemory = 4
 outcomes_status Write = 4
 
--- What is printed of a fault.
+-- The message of a fault.
 abbrev pub outcomes_message : OutcomesFault → List ℕ
 outcomes_message (Scripts fault) = codes "scripts refused " ++ words_of fault
 outcomes_message (History fault) = codes "history refused " ++ words_of fault
@@ -40,7 +40,7 @@ outcomes_message HistoryRead = codes "history read failed"
 outcomes_message NoMemory = codes "no memory"
 outcomes_message Write = codes "write failed"
 
--- A fault of a script file, where want of memory is none of the file's.
+-- The fault of a script file; lack of memory is not the file's.
 abbrev pub of_scripts : FileFault → OutcomesFault
 of_scripts files.NoMemory = NoMemory
 of_scripts files.NotJson = Scripts files.NotJson
@@ -48,7 +48,7 @@ of_scripts files.Member = Scripts files.Member
 of_scripts (files.Piece part i) = Scripts (files.Piece part i)
 of_scripts files.Limit = Scripts files.Limit
 
--- The same of a history file.
+-- The fault of a history file; lack of memory is not the file's.
 abbrev pub of_history : FileFault → OutcomesFault
 of_history files.NoMemory = NoMemory
 of_history files.NotJson = History files.NotJson
@@ -101,8 +101,8 @@ abbrev pub IsWell : List (List Action) → List Outcome → Type 0
 IsWell scripts os = (n : ℕ) (script : List Action) → slice_get scripts n ≡ Some script
     → slice_get os n ≡ Some outcomes.GivenUp → has_abort script ≡ true
 
--- The text of the outcomes of a script file's scripts in a history file's history; and it is well
--- exactly where each script that is given up has an abort.
+-- The text of the outcomes of a script file's scripts in a history file's history; `well` is
+-- whether each script that is given up has an abort.
 pub record IsReport (scripts history text : List ℕ) (well : Bool) : Type 0 where
   pub work : Work
   pub stripes : ℕ
@@ -115,7 +115,7 @@ pub record IsReport (scripts history text : List ℕ) (well : Bool) : Type 0 whe
   pub text_is : text ≡ outcomes_text work.sizes.callers found
   pub well_is : (well ≡ true) ↔ IsWell work.scripts found
 
--- The same of the files that two readers had left.
+-- A report on the files that two readers had left.
 abbrev pub Tells : Option (List ℕ) → Option (List ℕ) → List ℕ → Bool → Type 0
 Tells scripts history text well =
     OfFile scripts (λ left. OfFile history (λ right. IsReport left right text well))
@@ -145,8 +145,8 @@ abbrev pub WritesOutcomes : Option (List ℕ) → Option (List ℕ) → Option (
 WritesOutcomes scripts history old new well =
     (text : List ℕ) × Tells scripts history text well × Appends old new text
 
--- What was written at a fault: nothing, and the fault is one of a file or want of memory. Where a
--- write failed there is such a text.
+-- The output at a fault: nothing is written, and the fault is that of a file or lack of memory. If
+-- a write failed there is such a text.
 abbrev pub LeavesOutcomes : Option (List ℕ) → Option (List ℕ) → Option (List ℕ)
     → Option (List ℕ) → OutcomesFault → Type 0
 LeavesOutcomes scripts history old new (Scripts fault) =

@@ -1,4 +1,4 @@
--- What is written of a verdict.
+-- The output for a verdict.
 use Rattle.std.specs.Prelude.{◌≡◌, ℕ, Bool, true, false, List, [], ◌∷◌, ◌++◌, Option}
 use Rattle.std.specs.Io.KnownBytes.{Appends, Keeps}
 use Rattle.history_check.specs.declared.verdict.Verdict.{Verdict}
@@ -16,8 +16,8 @@ abbrev pub says_legal : Verdict → Bool
 says_legal (Legal commits running) = true
 says_legal (Illegal entry rule) = false
 
--- What was written where a verdict was not: nothing for want of memory. Of a write that failed
--- nothing is said.
+-- The output if a verdict was not written: nothing if memory was refused. If a write failed,
+-- nothing is stated.
 abbrev pub FailsToWrite : Option (List ℕ) → Option (List ℕ) → Fault → Type 0
 FailsToWrite old new Write = Unit {0}
 FailsToWrite old new NoMemory = Keeps old new
@@ -38,8 +38,8 @@ WritesLines IsRight legal old new =
     (outcome : Verdict) × (lines : List ℕ) × IsRight outcome × (legal ≡ says_legal outcome)
     × Appends old new (verdict_line outcome ++ lines)
 
--- What was written at a fault: nothing, and the fault is such a one. Where a write failed there is
--- such a verdict.
+-- The output at a fault: nothing is written, and the fault is such a one. If a write failed there
+-- is such a verdict.
 abbrev pub Leaves : (Verdict → Type 0) → (Fault → Type 0) → Option (List ℕ) → Option (List ℕ)
     → Fault → Type 0
 Leaves IsRight IsWrong old new Write =

@@ -1,4 +1,4 @@
--- What a watcher makes of the bytes that it took in.
+-- The entries that a watcher has read from the bytes that it took in.
 use Rattle.std.specs.Prelude.{◌≡◌, ℕ, List, ◌++◌, Option, Some, None}
 use Rattle.txn_words.specs.declared.entry.Entry.{Entry}
 use Rattle.piece_files.specs.declared.file_fault.FileFault.{FileFault}
@@ -13,8 +13,8 @@ abbrev pub ahead : List Entry → List Entry × Option (ℕ × FileFault)
     → List Entry × Option (ℕ × FileFault)
 ahead h more = (h ++ more.0, more.1)
 
--- After the bytes the entries are these, and of the line of this number this part has come; or a
--- line was refused so. It holds whatever bytes come after.
+-- The bytes have these entries, and then this part of the line with this number; or a line was
+-- refused with this fault. It holds whatever bytes follow.
 abbrev pub StandsAt : List ℕ → List Entry → List ℕ → ℕ → Option (ℕ × FileFault) → Type 0
 StandsAt bytes h part number None =
     IsUnbroken part × ((more : List ℕ) → history_of_lines (bytes ++ more)

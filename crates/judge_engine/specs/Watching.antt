@@ -1,4 +1,4 @@
--- What is said of entries that come as lines.
+-- The verdict on entries that are read as lines.
 use Rattle.std.specs.Prelude.{◌≡◌, ℕ, List, Option, Some, None, IfSome}
 use Rattle.txn_words.specs.declared.entry.Entry.{Entry}
 use Rattle.piece_files.specs.declared.file_fault.FileFault.{FileFault}
@@ -11,7 +11,7 @@ use Rattle.judge_engine.specs.declared.fault.Fault.TheVariants.{Input, Line, NoM
 use Rattle.judge_engine.specs.Bases.{IsLegalBy, IsVerdictBy}
 
 -- The verdict on entries that were found, up to the first line that is refused, if there is one:
--- legal is said only where there is none.
+-- legal is said only if no line is.
 pub record IsJudged (basis : Basis) (found : List Entry × Option (ℕ × FileFault))
     (outcome : Verdict) : Type 0 where
   pub verdict : IsVerdictBy basis found.0 outcome
@@ -40,7 +40,7 @@ HasNoVerdict basis found Write = ⊥
 abbrev pub IsUnjudged : Basis → List ℕ → Fault → Type 0
 IsUnjudged basis bytes fault = HasNoVerdict basis (history_of_lines bytes) fault
 
--- So of the bytes that a reader had left, of which not all need have been read.
+-- A property of the bytes that a reader had left; the reader need not have read them all.
 abbrev pub OfAll : Option (List ℕ) → (List ℕ → Type 0) → Type 0
 OfAll remaining P = (bytes : List ℕ) × IfSome remaining (λ all. bytes ≡ all) × P bytes
 

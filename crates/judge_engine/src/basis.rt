@@ -1,8 +1,8 @@
-//! By which rules a history is judged.
+//! The rules by which a history is judged.
 
 use txn_trace::Holder;
 
-/// By which rules a history is judged.
+/// The rules by which a history is judged.
 #[derive(Clone, Copy, Debug, PartialEq, Eq)]
 pub enum Basis {
     /// By exclusive locks: a history is legal if it is `IsLegal` of `txn_trace`.

@@ -14,14 +14,14 @@ use crate::reading::{read_file, watch_lines};
 use std::alloc::Global;
 use std::io::{Read, Write};
 
-/// Reads entries, one a line, judges each as it comes, and writes the verdict as one line that ends
-/// with a line feed, and nothing else: `legal C commits O open` at the end of the input, or
+/// Reads entries, one a line, judges each as it is read, and writes the verdict as one line that
+/// ends with a line feed, and nothing else: `legal C commits O open` at the end of the input, or
 /// `illegal entry I rule R` at the first bad entry. The answer is whether the history is legal.
 ///
 /// A line is the array that an entry is in a history file of the newest version. Blank lines are
 /// passed over, and a last line without its line feed is read as a line. There may be any number of
-/// lines. Nothing is read after the bytes in which the first bad entry comes, and no call of the
-/// reader or the writer is made again after it failed.
+/// lines. Nothing is read after the bytes with the first bad entry, and no call of the reader or
+/// the writer is made again after it failed.
 ///
 /// # Errors
 ///
@@ -94,7 +94,7 @@ pub fn check<R: Read + Drop, W: Write>(
 /// lines that lead to the bad entry. The answer is whether the history is legal.
 ///
 /// Of a file that is refused it writes one line: the JSON path to the first element at fault, what
-/// stands there, and what may stand there, with the range. The element is that of `bad_file`.
+/// that element is, and what is allowed there, with the range. The element is that of `bad_file`.
 ///
 /// # Errors
 ///

@@ -18,7 +18,7 @@ pub enum Fault {
     NoMemory,
     /// A read failed, or the file could not be opened.
     Read,
-    /// A write failed, or took nothing of the bytes that there were.
+    /// A write failed, or took none of the bytes.
     Write,
 }
 

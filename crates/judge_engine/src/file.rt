@@ -1,4 +1,4 @@
-//! A history file.
+//! The verdict on a history file, with the lines that lead to its bad entry.
 ghost use Rattle.std.specs.Prelude.{◌≡◌, ◌<◌, IfOk, IfErr};
 ghost use Rattle.std.specs.List.{All};
 ghost use Rattle.txn_words.specs.Kinds.{caller_of};
@@ -81,8 +81,8 @@ pub(crate) fn judge_file(alloc: Global, by_commits: bool, bytes: Vec<u8>) -> Res
     Ok(by_locks(alloc, entries, stripes, holder_in(version))?)
 }
 
-/// The verdict on the history file that bytes are, and the lines that lead to the bad entry, of
-/// which there are none for a verdict of legal.
+/// The verdict on the history file that bytes are, and the lines that lead to the bad entry; none
+/// for a verdict of legal.
 ///
 /// # Errors
 ///

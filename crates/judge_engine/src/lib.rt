@@ -1,4 +1,4 @@
-//! What the program `judge` does, from a reader's bytes to a writer's.
+//! The program `judge`, from a reader's bytes to a writer's.
 #![tactic(auto)]
 
 mod basis;

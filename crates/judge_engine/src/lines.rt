@@ -38,7 +38,7 @@ impl fmt::Display for TxnOf {
     }
 }
 
-/// What became of a change, in a word.
+/// The fate of a change, in a word.
 fn word_of(fate: Fate) -> &'static str {
     match fate {
         Fate::Open => "open",
@@ -98,7 +98,7 @@ fn put_entries_on(
     Ok(())
 }
 
-/// Adds the entries on a key since the last commit that changed what it has.
+/// Adds the entries on a key since the last commit that changed its value.
 fn put_since_commit(
     alloc: Global,
     text: &mut String,
@@ -164,7 +164,7 @@ fn put_last(text: &mut String, key: u64, last: Option<(Change, Fate)>) -> Result
     }
 }
 
-/// The last change of a key, and what became of it.
+/// The last change of a key, and its fate.
 fn last_in(
     alloc: Global,
     entries: &[SmallEntry],
@@ -209,7 +209,7 @@ fn put_holder(text: &mut String, stripe: u64, holder: Option<Held>) -> Result<()
     }
 }
 
-/// Adds what may stand in place of an entry of a caller in this phase.
+/// Adds the line of the entries that a caller may add in this phase.
 fn put_shape(
     text: &mut String,
     caller: u64,

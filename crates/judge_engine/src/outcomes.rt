@@ -1,5 +1,5 @@
-//! What became of each script of a script file in a history file. Apart from the judges, since no
-//! rule of histories is asked here.
+//! The outcomes of a script file's scripts in a history file. Separate from the judges, since no
+//! rule of histories is checked here.
 ghost use Rattle.std.specs.Prelude.{◌≡◌, ◌↔◌, ◌++◌, ◌<◌, true, Ok, IfOk, IfErr, OnOk, length, string_bytes};
 ghost use Rattle.txn_files.specs.HistoryFile.{history_of};
 ghost use Rattle.txn_files.specs.ScriptFile.{scripts_of};
@@ -29,7 +29,7 @@ pub enum OutcomesFault {
     HistoryRead,
     /// Memory was refused.
     NoMemory,
-    /// A write failed, or took nothing of the bytes that there were.
+    /// A write failed, or took none of the bytes.
     Write,
 }
 
@@ -174,7 +174,7 @@ fn text_of(alloc: Global, workers: usize, outcomes: &[Outcome]) -> Result<String
     Ok(text)
 }
 
-/// The fault of a script file, where want of memory is none of the file's. Constant time.
+/// The fault of a script file; lack of memory is not the file's. Constant time.
 fn of_scripts(fault: FileFault) -> OutcomesFault
     ensures { result ≡ of_scripts fault }
 {
@@ -186,7 +186,7 @@ fn of_scripts(fault: FileFault) -> OutcomesFault
     }
 }
 
-/// The same of a history file. Constant time.
+/// The fault of a history file; lack of memory is not the file's. Constant time.
 fn of_history(fault: FileFault) -> OutcomesFault
     ensures { result ≡ of_history fault }
 {

@@ -1,4 +1,4 @@
-//! What is written.
+//! The output of a verdict, with the lines after it, or of a fault.
 ghost use Rattle.std.specs.Prelude.{◌≡◌, ◌⊎◌, ◌++◌, IfErr, IfOk, string_bytes};
 ghost use Rattle.std.specs.Io.KnownBytes.{Appends};
 ghost use Rattle.judge_engine.specs.declared.fault.Fault.TheVariants as faults;
@@ -82,8 +82,8 @@ pub(crate) fn write_explained<W: Write>(
     }
 }
 
-/// Writes what is wrong with a history file, in one line, if that is why there is no verdict. The
-/// bytes are those of the file. The answer is the same fault, or `NoMemory` if memory is refused, or
+/// Writes the flaw of a history file, in one line, if that is why there is no verdict. The bytes
+/// are those of the file. The answer is the same fault, or `NoMemory` if memory is refused, or
 /// `Write` if the writer fails or takes nothing.
 pub(crate) fn tell<W: Write>(alloc: Global, fault: Fault, bytes: &[u8], output: &mut W) -> Fault
     ensures { (result ≡ fault) ⊎ ((result ≡ faults.NoMemory) ⊎ (result ≡ faults.Write)) }

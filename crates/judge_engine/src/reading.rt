@@ -51,8 +51,8 @@ fn buffer(alloc: Global) -> Result<Vec<u8>, AllocError>
     vec![in alloc; 0u8; CHUNK]
 }
 
-/// Hands a watcher, before its first byte, all that a reader gives, until there is a verdict. The
-/// buffer is that of the reads.
+/// Hands a new watcher all that a reader gives, until there is a verdict. The buffer is that of the
+/// reads.
 fn read_on<R: Read>(
     input: &mut R,
     watcher: &mut Watcher,

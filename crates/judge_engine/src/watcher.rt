@@ -1,4 +1,4 @@
-//! Entries that come as lines, in parts of any length: what is kept between two parts.
+//! Entries that are read as lines, in parts of any length: the state between two parts.
 ghost use Rattle.std.specs.Prelude.{◌≡◌, ◌++◌, [], ◌∷◌, ℕ, List, Option, Some, None, Ok, IfOk, IfErr, OnOk, IfSome, MatchResult};
 ghost use Rattle.std.specs.List.{position};
 ghost use Rattle.txn_words.specs.declared.entry.Entry.{Entry};
@@ -49,9 +49,9 @@ fn read_line(
     }
 }
 
-/// What is kept of lines that come in parts of any length: the judge of the entries so far, the
-/// part of a line that has come, and the first line that was refused, after which nothing is taken
-/// in any more.
+/// Reads lines that arrive in parts of any length: keeps the judge of the entries so far, the part
+/// of the present line that was read, and the first line that was refused, after which nothing more
+/// is taken in.
 #[derive(Drop)]
 pub(crate) struct Watcher {
     judge: Judge,
@@ -96,8 +96,8 @@ impl Watcher {
         Ok(())
     }
 
-    /// Reads the present line, of which this is the rest. It is read where it lies, unless a part
-    /// of it came before.
+    /// Reads the present line; `rest` is the rest of it. The line is not copied unless an earlier
+    /// part of it was kept.
     fn read_rest(&mut self, rest: &[u8]) -> Result<Option<FileFault>, Fault>
         ensures ok { IfOk result (λ fault. (basis : Basis) (h : List Entry) →
             IsFedBy basis h self.old.judge →
@@ -184,8 +184,7 @@ impl Watcher {
         }
     }
 
-    /// The verdict if no further byte comes. A last line without its line feed is read as a
-    /// line.
+    /// The verdict if no further byte follows. A last line without its line feed is read as a line.
     ///
     /// # Errors
     ///

@@ -1,4 +1,4 @@
--- What the words ask for, by what `clap` makes of them.
+-- The call that the words ask for, by the parse of `clap`.
 use Rattle.std.proofs.Common.{◌≡◌, ◌⊎◌, inl, inr, true, List, [], ◌∷◌, Option, Some, None, refl, sym, ap, ap₂, subst, ◌∙◌}
 use Rattle.std.specs.Prelude.{IfOk, IfErr, option_map, option_and_then}
 use Rattle.std.specs.Option.{ok_or}
@@ -27,7 +27,7 @@ by_kind : (kinds : Kinds) (found : Option (Text × List Row)) (kind : ErrorKind)
 by_kind [] found kind what among is = absurd among
 by_kind (first ∷ kinds) found kind what among is = (kind, among, is)
 
--- What an error that is no want of memory says that the words ask for.
+-- The call that the words ask for if the parse fails, and not for memory.
 pub refused : (app : App) (words : List Text) (error : Error) (what : Option Asked) → app ≡ command_line → (is_simple_and_free app ≡ true → HasKind (fault_of app words) error) → (kind_of error ≡ OutOfMemory → ⊥)
     → what ≡ answer_to (kind_of error) → Asks words what
 refused app words error what same fails other is = elim (fails (ap is_simple_and_free same ∙ simple_and_free)) [
@@ -41,7 +41,7 @@ no_answer DisplayHelp no_help no_version = absurd (no_help refl)
 no_answer DisplayVersion no_help no_version = absurd (no_version refl)
 no_answer kind no_help no_version = refl
 
--- What a parse that passes finds is asked for.
+-- The call that the words ask for if the parse passes.
 pub found : (app : App) (words : List Text) (met : Option (Text × List Row)) (what : Option Asked) → app ≡ command_line → (is_simple_and_free app ≡ true → fault_of app words ≡ []) → (is_simple app ≡ true → met ≡ subcommand_of app words)
     → what ≡ look met → Asks words what
 found app words met what same passes meets is =

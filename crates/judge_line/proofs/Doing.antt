@@ -1,4 +1,5 @@
--- What comes of each command: its engine ran on the open source, it failed, or the source was not opened.
+-- The outcome of each command: its engine ran on the open source, it failed, or the source was not
+-- opened.
 use Rattle.std.proofs.Common.{◌≡◌, ◌⊎◌, inl, inr, ℕ, Bool, List, Option, Some, None, Ok, Err, refl, sym, subst, ◌∙◌, codes}
 use Rattle.std.specs.Result.{IsErrAnd}
 use Rattle.std.specs.Io.KnownBytes.{Keeps}
@@ -27,7 +28,7 @@ failed : (IsDone : Bool → Type 0) (P : EngineFault → Type 0) (outcome : Outc
 failed IsDone P (Ok well) fault holds err = absurd err
 failed IsDone P (Err e) fault holds err = subst (ByFault P) (sym err) holds
 
--- A source that is not opened: want of memory, or a failed read.
+-- A source that is not opened: memory was refused, or a read failed.
 not_opened : (IsDone : Bool → Type 0) (P : EngineFault → Type 0) (outcome : Outcome) (failure : Failure) → P faults.NoMemory → P faults.Read → (failure ≡ Fault faults.NoMemory) ⊎ (failure ≡ Fault faults.Read)
     → IsErrAnd outcome (λ e. e ≡ failure) → Ends IsDone P outcome
 not_opened IsDone P (Ok well) failure memory read which err = absurd err

@@ -1,4 +1,4 @@
--- What a run of the program comes to.
+-- The outcome of a run of the program.
 use Rattle.std.proofs.Common.{◌≡◌, ◌⊎◌, inl, inr, ℕ, List, Option, Some, None, Ok, Err, refl, sym, subst}
 use Rattle.std.specs.Prelude.{IfSome}
 use Rattle.std.specs.Result.{IsErrAnd}
@@ -12,12 +12,12 @@ use Rattle.judge_line.specs.Words.{Asked, Asks}
 use Rattle.judge_line.specs.Runs.{Does, DoesNothing, Files, Outcome, Runs, memory_or}
 use Rattle.judge_line.proofs.Doing.{keeps_same}
 
--- Want of memory is a failure of its own.
+-- `memory_or` is `NoMemory` or the other failure.
 pub memory_or_is : (kind : ErrorKind) (other : Failure) → (memory_or kind other ≡ Fault faults.NoMemory) ⊎ (memory_or kind other ≡ other)
 memory_or_is OutOfMemory other = inl refl
 memory_or_is kind other = inr refl
 
--- What holds of the words holds of the words that are known.
+-- A property of the words is one of the words that are known.
 of_known : (spoken : Option (List Text)) (words : List Text) (P : List Text → Type 0) → IfSome spoken (λ known. words ≡ known) → P words → IfSome spoken P
 of_known None words P same holds = tt
 of_known (Some known) words P same holds = subst P same holds

@@ -1,4 +1,5 @@
--- What is said of a source's bytes is said of the bytes that the file of its name is known to have.
+-- A statement about a source's bytes is one about the bytes that the file of its name is known to
+-- have.
 use Rattle.std.proofs.Common.{◌≡◌, ℕ, Bool, List, Option, Some, None, take, subst}
 use Rattle.std.specs.Prelude.{IfSome}
 use Rattle.history_check.specs.declared.verdict.Verdict.{Verdict}
@@ -26,7 +27,7 @@ of_file known bytes P same (read, is, holds) = (read, read_same known bytes (λ 
 pub of_all : (known bytes : Option (List ℕ)) (P : List ℕ → Type 0) → Holds known bytes → OfAll bytes P → OfAll known P
 of_all known bytes P same (read, is, holds) = (read, read_same known bytes (λ all. read ≡ all) same is, holds)
 
--- What follows for verdicts follows for what is written of them.
+-- A property of verdicts carries over to the line that is written.
 pub writes_line : (P Q : Verdict → Type 0) (well : Bool) (old new : Option (List ℕ)) → ((v : Verdict) → P v → Q v) → WritesLine P well old new → WritesLine Q well old new
 writes_line P Q well old new follows (v, right, says, grows) = (v, follows v right, says, grows)
 
@@ -61,7 +62,7 @@ fails_to_watch basis known bytes NoMemory same h = h
 fails_to_watch basis known bytes Read same h = h
 fails_to_watch basis known bytes Write same h = h
 
--- The same of the two files of `outcomes`.
+-- A report on the two sources of `outcomes` is one on the two files.
 tells : (s h left right : Option (List ℕ)) (text : List ℕ) (well : Bool) → Holds s left → Holds h right → Tells left right text well → Tells s h text well
 tells s h left right text well one two (read, is, more) =
     (read, read_same s left (λ all. read ≡ take max_read all) one is, of_file h right (λ right_read. IsReport read right_read text well) two more)

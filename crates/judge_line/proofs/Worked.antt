@@ -1,4 +1,4 @@
--- What is asked for by words that are written out: the rows of the usage, and words that ask for nothing that there is.
+-- The calls of words that are written out: the rows of the usage, and words that are no call.
 use Rattle.std.proofs.Common.{true, false, inl, List, [], ◌∷◌, Some, None, codes, refl}
 use Rattle.clap.specs.declared.error.kind.ErrorKind.TheVariants.{ArgumentConflict, DisplayHelp, DisplayVersion, MissingRequiredArgument, MissingSubcommand, UnknownArgument}
 use Rattle.clap.specs.Words.{Text}

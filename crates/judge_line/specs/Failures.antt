@@ -12,7 +12,7 @@ status_of Usage = 2
 status_of (Fault fault) = engine.status_of fault
 status_of (Outcomes fault) = outcomes_status fault
 
--- What is printed.
+-- The message of a failure.
 abbrev pub message_of : Failure → List ℕ
 message_of Usage = USAGE.now
 message_of (Fault fault) = engine.message_of fault

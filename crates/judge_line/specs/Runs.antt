@@ -1,4 +1,4 @@
--- What the program does with the words of a call, and how it ends.
+-- The effect of the words of a call, and how the program ends.
 use Rattle.std.specs.Prelude.{◌≡◌, ◌⊎◌, ℕ, Bool, true, false, List, [], ◌∷◌, ◌++◌, Option, IfSome}
 use Rattle.std.specs.Prelude.{Some, None, Result, Ok, Err, MatchResult, codes}
 use Rattle.std.specs.Result.{IsErrAnd}
@@ -19,7 +19,7 @@ use Rattle.judge_line.specs.declared.program.TheConstants.{VERSION}
 use Rattle.judge_line.specs.Failures.{message_of, status_of}
 use Rattle.judge_line.specs.Words.{Asked, Asks, Check, Why, Watch, Outcomes, Help, Version}
 
--- What a run comes to: whether all is well, or a failure.
+-- The outcome of a run: whether all is well, or a failure.
 abbrev pub Outcome : Type 0
 Outcome = Result Bool Failure
 
@@ -27,7 +27,7 @@ Outcome = Result Bool Failure
 abbrev pub Files : Type 0
 Files = Text → Option (List ℕ)
 
--- What was found holds, or the failure is a fault of the engine of which that holds.
+-- The failure is a fault of the engine with this property.
 abbrev pub ByFault : (Fault → Type 0) → Failure → Type 0
 ByFault P (failures.Fault fault) = P fault
 ByFault P failure = ⊥
@@ -39,8 +39,7 @@ Ends IsDone HasFailed outcome = MatchResult outcome IsDone (ByFault HasFailed)
 abbrev pub Shows : Text → Option (List ℕ) → Option (List ℕ) → Bool → Type 0
 Shows text old new well = (well ≡ true) × Appends old new (text ++ 10 ∷ [])
 
--- Why nothing is said of the scripts of one file in the history of another: for a fault of one of the
--- two, or for want of memory.
+-- The output if `outcomes` fails: that of its fault, or nothing if memory was refused.
 abbrev pub LeavesBoth : Option (List ℕ) → Option (List ℕ) → Option (List ℕ) → Option (List ℕ)
     → Failure → Type 0
 LeavesBoth scripts history old new (failures.Outcomes fault) =
@@ -49,7 +48,7 @@ LeavesBoth scripts history old new (failures.Fault fault) =
     (fault ≡ faults.NoMemory) × Keeps old new
 LeavesBoth scripts history old new failures.Usage = ⊥
 
--- What standard output gets if what was asked for is done with these files, and what comes of it.
+-- The output and the outcome of a call with these files.
 abbrev pub Does : Asked → Files → Option (List ℕ) → Option (List ℕ) → Outcome → Type 0
 Does (Check by_commits file) files old new = Ends
     (λ well. WritesLine (Checks by_commits (files file)) well old new)
@@ -66,27 +65,27 @@ Does (Outcomes scripts history) files old new = λ outcome. MatchResult outcome
 Does Help files old new = Ends (Shows USAGE.now old new) (λ fault. fault ≡ faults.Write)
 Does Version files old new = Ends (Shows VERSION.now old new) (λ fault. fault ≡ faults.Write)
 
--- Nothing was done: memory was refused, or the words, if they are known, ask for nothing that there
--- is. Nothing was written.
+-- Nothing was done: memory was refused, or the words, if they are known, give no call. Nothing was
+-- written.
 abbrev pub DoesNothing : Option (List Text) → Option (List ℕ) → Option (List ℕ) → Failure → Type 0
 DoesNothing spoken old new failures.Usage =
     Keeps old new × IfSome spoken (λ words. Asks words None)
 DoesNothing spoken old new (failures.Fault fault) = Keeps old new × (fault ≡ faults.NoMemory)
 DoesNothing spoken old new (failures.Outcomes fault) = ⊥
 
--- It was done what the words ask for, if they are known.
+-- The call that the words ask for, if they are known, was done.
 pub record DoesAsked (spoken : Option (List Text)) (files : Files) (old new : Option (List ℕ))
     (outcome : Outcome) : Type 0 where
   pub what : Asked
   pub asks : IfSome spoken (λ words. Asks words (Some what))
   pub does : Does what files old new outcome
 
--- What a run comes to.
+-- The output and the outcome of a run.
 abbrev pub Runs : Option (List Text) → Files → Option (List ℕ) → Option (List ℕ) → Outcome → Type 0
 Runs spoken files old new outcome =
     DoesAsked spoken files old new outcome ⊎ IsErrAnd outcome (DoesNothing spoken old new)
 
--- Want of memory if an error of the system is that, else the other failure.
+-- `NoMemory` if an error of the system is that memory was refused, else the other failure.
 abbrev pub memory_or : ErrorKind → Failure → Failure
 memory_or OutOfMemory other = failures.Fault faults.NoMemory
 memory_or kind other = other
@@ -97,8 +96,7 @@ status_after (Ok true) = 0
 status_after (Ok false) = 1
 status_after (Err failure) = status_of failure
 
--- What standard error gets: the line of a failure, unless it did not take all of it, and else
--- nothing.
+-- The text on standard error: the line of a failure, unless not all of it was taken; else nothing.
 abbrev pub Tells : Option (List ℕ) → Option (List ℕ) → Bool → Outcome → Type 0
 Tells old new is_told (Ok well) = Keeps old new × (is_told ≡ true)
 Tells old new is_told (Err failure) =

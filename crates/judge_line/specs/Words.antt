@@ -1,4 +1,4 @@
--- What the words of a command line ask for, by the rules of `clap`.
+-- The call that the words of a command line ask for, by the rules of `clap`.
 use Rattle.std.specs.Prelude.{◌≡◌, ℕ, ◌&&◌, Bool, true, false, List, [], codes}
 use Rattle.std.specs.Prelude.{Option, Some, None, if◌then◌else◌, nat_le, option_map}
 use Rattle.std.specs.Prelude.{option_and_then}
@@ -18,9 +18,9 @@ use Rattle.judge_engine.specs.Bases.{HasStripes}
 use Rattle.judge_line.specs.declared.words.Call.{Call}
 use Rattle.judge_line.specs.declared.words.Call.TheVariants as calls
 
--- What words ask for: to judge the history file of a name, by the order of commits or not, or to say
--- why it is bad; to judge the entries of standard input by such rules; to tell the outcomes of a
--- script file in a history file; or to show the usage or the version.
+-- A call: to judge the history file of a name, by the order of commits or not, or to say why it is
+-- bad; to judge the entries of standard input by such rules; to tell the outcomes of a script file
+-- in a history file; or to show the usage or the version.
 pub data Asked : Type 0 where
   Check : Bool → Text → Asked
   Why : Bool → Text → Asked
@@ -91,7 +91,7 @@ abbrev pub is_set : Option Text → Bool
 is_set None = false
 is_set (Some word) = bytes_eq word (codes "true")
 
--- The most locks that keys may be shared out to, and how many they are if no number is given.
+-- The greatest number of locks, which is also the default.
 abbrev pub max_stripes : ℕ
 max_stripes = 4096
 
@@ -118,7 +118,7 @@ outcomes_for scripts history =
     if bytes_eq scripts (codes "-") && bytes_eq history (codes "-")
     then None else Some (Outcomes scripts history)
 
--- What a command of this name asks for, by what was found for its arguments.
+-- The call of a command of this name, by what was found for its arguments.
 abbrev pub asked_in : Text → List Row → Option Asked
 asked_in name rows =
     let by_commits = is_set (first_of (codes "serializable") rows) in
@@ -133,23 +133,22 @@ asked_in name rows =
     then option_map (Why by_commits) (first_of (codes "FILE") rows)
     else None
 
--- What the words ask for if `clap` answers with an error of this kind: help and the version are
--- such.
+-- The call if `clap` answers with an error of this kind: help and the version are such errors.
 abbrev pub answer_to : ErrorKind → Option Asked
 answer_to DisplayHelp = Some Help
 answer_to DisplayVersion = Some Version
 answer_to kind = None
 
--- An error of this kind, which is no want of memory, is answered so.
+-- An error of this kind, if it is not that memory was refused, gives this call.
 abbrev pub IsAnswered : ErrorKind → Option Asked → Type 0
 IsAnswered kind what = (kind ≡ OutOfMemory → ⊥) × (what ≡ answer_to kind)
 
--- What the words ask for, by the kinds of error that they may give, and by the command that was
--- found if they give none.
+-- The call by the kinds of error that the words may give, or by the command that was found if they
+-- give none.
 abbrev pub AsksBy : Kinds → Option (Text × List Row) → Option Asked → Type 0
 AsksBy [] found what = what ≡ option_and_then (λ command. asked_in command.0 command.1) found
 AsksBy kinds found what = (kind : ErrorKind) × IsAmong kind kinds × (what ≡ answer_to kind)
 
--- The words, of which the first is the program's name, ask for this; or for nothing that there is.
+-- The words, the first of which is the program's name, ask for this call; or they are no call.
 abbrev pub Asks : List Text → Option Asked → Type 0
 Asks words what = AsksBy (fault_of command_line words) (subcommand_of command_line words) what

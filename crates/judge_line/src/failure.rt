@@ -1,4 +1,4 @@
-//! Why a call of the program has no verdict, and the usage, which is printed of words that are no
+//! Why a call of the program has no verdict, and the usage, which is printed for words that are no
 //! call.
 ghost use Rattle.std.specs.Prelude.{◌≡◌};
 ghost use Rattle.judge_line.specs.Failures.{message_of, status_of};
@@ -8,7 +8,7 @@ use judge_engine::{Fault, OutcomesFault};
 use std::alloc::AllocError;
 use std::fmt;
 
-/// What is printed of words that are none of the program's, and of a call for help.
+/// The text that is printed for words that are no call of the program, and for a call for help.
 pub(crate) const USAGE: &str = "usage: judge check [--serializable] FILE
        judge watch [--serializable | --stripes N]
        judge why [--serializable] FILE

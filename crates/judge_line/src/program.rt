@@ -18,7 +18,7 @@ use std::alloc::Global;
 use std::io;
 use std::io::{Read, Write};
 
-/// What is printed of a call for the version.
+/// The text that is printed for a call for the version.
 const VERSION: &str = "judge 1.0.0";
 
 /// How a run of the program ended.
@@ -27,7 +27,7 @@ pub struct Ending {
     /// The exit status: 0 if all is well, 1 for an illegal history or a script that was given up,
     /// else that of the failure.
     pub status: u8,
-    /// Whether standard error took all that there was to say.
+    /// Whether standard error took the whole message.
     pub is_told: bool,
 }
 
@@ -42,7 +42,7 @@ fn show<W: Write>(output: &mut W, text: &str) -> Result<bool, Failure>
     }
 }
 
-/// Want of memory if the error is that, else the other failure.
+/// `NoMemory` if the error is that memory was refused, else the other failure.
 fn memory_or(error: &io::Error, other: Failure) -> Failure
     ensures { result ≡ memory_or (error_kind error.now) other }
 {
@@ -52,7 +52,8 @@ fn memory_or(error: &io::Error, other: Failure) -> Failure
     }
 }
 
-/// Opens the source of this name; if that fails but for want of memory, with this failure.
+/// Opens the source of this name. If that fails, answers `NoMemory` if memory was refused, else
+/// this failure.
 fn open<S: System>(system: &S, name: &str, failure: Failure) -> Result<S::Input, Failure>
     ensures ok { IfOk result (λ source. IfSome (S.bytes system.now name.now)
         (λ known. S.Input.remaining source ≡ Some known)) }
@@ -128,8 +129,8 @@ fn outcomes_in<S: System, W: Write>(
     Ok(tell_outcomes(alloc, scripts, history, output)?)
 }
 
-/// Does what a call asks for. The answer is whether all is well: of an illegal history it is not,
-/// nor of a script without an abort that was given up.
+/// Does what a call asks for. The answer is whether all is well: it is not if a history is illegal,
+/// or a script without an abort was given up.
 fn answer<S: System, W: Write>(
     alloc: Global,
     system: &S,
@@ -169,7 +170,7 @@ fn run_words<S: System, W: Write>(
     answer(alloc, system, call, output)
 }
 
-/// The exit status after a run that came to this. Constant time.
+/// The exit status after a run with this outcome. Constant time.
 fn status_of(outcome: &Result<bool, Failure>) -> u8
     ensures { result ≡ status_after outcome.now }
 {

@@ -19,7 +19,7 @@ use judge_engine::{Basis, Fault};
 use std::alloc::{AllocError, Global};
 use txn_words::Holder;
 
-/// What the words of a call ask for.
+/// A call of the program: the work that its words ask for.
 #[derive(Clone, Copy, Debug, PartialEq, Eq)]
 pub enum Call<'a> {
     /// To judge the history of a file.
@@ -57,7 +57,7 @@ pub enum Call<'a> {
 /// The name of standard input.
 pub(crate) const STANDARD: &str = "-";
 
-/// The most locks that keys may be shared out to, and how many they are if it is not said.
+/// The greatest number of locks, which is also the default.
 const MAX_STRIPES: u64 = 4096;
 
 /// The flag that asks for a judgement by the order of commits.
@@ -185,7 +185,7 @@ fn outcomes_of<'a>(scripts: &'a str, history: &'a str) -> Option<Call<'a>>
     }
 }
 
-/// The call of the command of this name, by what was found of its arguments.
+/// The call of the command of this name, by what was found for its arguments.
 fn call_named<'a>(name: &str, found: &ArgMatches<'a>) -> Option<Call<'a>>
     ensures call { option_map asked_of result ≡ asked_in name.now (rows_of (found_of found.now)) }
     ensures stripes { IfSome result (λ call. IsReady (asked_of call)) }
@@ -213,8 +213,8 @@ fn call_named<'a>(name: &str, found: &ArgMatches<'a>) -> Option<Call<'a>>
     }
 }
 
-/// The call that words are which `clap` answers with an error of this kind: help and the version
-/// are such.
+/// The call of words that `clap` answers with an error of this kind: help and the version are such
+/// errors.
 fn call_for<'a>(kind: ErrorKind) -> Result<Call<'a>, Failure>
     ensures call { IfOk result (λ call. IsAnswered kind (Some (asked_of call))) }
     ensures stripes { IfOk result (λ call. IsReady (asked_of call)) }
@@ -229,7 +229,7 @@ fn call_for<'a>(kind: ErrorKind) -> Result<Call<'a>, Failure>
     }
 }
 
-/// What the words ask for, of which the first is the program's name, by the rules of `clap`.
+/// The call that the words ask for, by the rules of `clap`; the first word is the program's name.
 ///
 /// # Errors
 ///

@@ -9,7 +9,7 @@ use Rattle.key_words.specs.declared.view.View.{View}
 abbrev pub view : ℕ → ℕ → List ℕ → List (ℕ × ℕ) → View
 view number made held notes = record { number = number; made = made; held = held; notes = notes }
 
--- How many times a stripe stands in a list.
+-- How often a stripe occurs in a list.
 abbrev pub times : ℕ → List ℕ → ℕ
 times stripe [] = 0
 times stripe (first ∷ rest) = cond (first == stripe) 1 0 + times stripe rest
@@ -18,7 +18,7 @@ times stripe (first ∷ rest) = cond (first == stripe) 1 0 + times stripe rest
 abbrev pub Holds : View → ℕ → Type 0
 Holds v stripe = 0 < times stripe v.held
 
--- One if the word is that of the seat with this number, else none.
+-- 1 if the word is that of the seat with this number, else 0.
 abbrev pub once_for : ℕ → ℕ → ℕ
 once_for number word = cond (word == number + 1) 1 0
 

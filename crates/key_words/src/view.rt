@@ -1,5 +1,5 @@
-//! The view of a seat in the rule of the words. It exists only in proofs; each atomic step says
-//! what it becomes.
+//! The view of a seat in the rule of the words. It exists only in proofs; each atomic step gives
+//! the view after it.
 use std::collections::LinkedList;
 
 /// A seat's view. It exists only in proofs, and no value of it is made.

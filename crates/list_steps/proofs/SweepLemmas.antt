@@ -35,7 +35,7 @@ not_marked : (b : Bool) → (b ≡ true → ⊥) → b ≡ false
 not_marked true never = absurd (never refl)
 not_marked false never = refl
 
--- A node is unmarked if it does not stand behind a node that all marked ones stand behind.
+-- A node is unmarked if it is not behind a node that precedes all marked ones.
 unmarked_up_to : (n m : NodeAt) → IsNotBefore n.at m.at → (m.marked ≡ true → IsBefore n.at m.at) → m.marked ≡ false
 unmarked_up_to n m not_before before = not_marked m.marked (λ marked. before_not_before n.at m.at (before marked) not_before)
 
@@ -62,7 +62,7 @@ without_first_marked-append (n ∷ front) m rest passed marked =
     without_first_marked-cons n (front ++ m ∷ rest) passed.0
     ∙ ap (λ ns. n ∷ ns) (without_first_marked-append front m rest passed.1 marked)
 
--- The sweep begins at a node that all marked ones stand behind.
+-- The sweep begins at a node that precedes all marked ones.
 pub sweeping_from : (nodes : List NodeAt) (place : ℕ) → IsRising nodes → IsBeforeMarks nodes place → IsSweeping nodes place
 sweeping_from nodes place rising start =
     let node = start.node in
@@ -75,7 +75,7 @@ sweeping_from nodes place rising start =
       passed = clean_up_to at.front node at.rest (subst R at.is rising) (subst B at.is start.before);
     }
 
--- All marked nodes stand behind an unmarked node that has no marked one before it.
+-- An unmarked node that has no marked one before it precedes all marked nodes.
 behind_rest : (n : NodeAt) (rest : List NodeAt) → AllByRecursion (IsNodeBefore n) rest → AllByRecursion (λ m. m.marked ≡ true → IsBefore n.at m.at) rest
 behind_rest n [] before = tt
 behind_rest n (m ∷ rest) before = ((λ marked. before.0), behind_rest n rest before.1)
@@ -91,7 +91,7 @@ behind_all P (m ∷ front) n rest rising unmarked never each = (
   behind_all P front n rest rising.1 unmarked never each.1,
 )
 
--- All marked nodes stand behind the first node.
+-- The first node precedes all marked nodes.
 pub head_before_marks : (l : Listing) → IsSound l → IsBeforeMarks l.nodes l.head
 unfolding IsRising
 head_before_marks l sound =
@@ -115,9 +115,9 @@ early_low bucket at before = elim (lower_from at (dummy_at bucket) before) [
   | inr both ↦ absurd (omega (arith, both.1))
 ]
 
--- All marked nodes stand behind a dummy that is no later than the one of a bucket, if that one's
--- split key is not above the answer of `NodeList::marks_begin`. So a sweep may start at the nearest
--- stored dummy of the answer's bucket.
+-- A dummy that is not behind that of a bucket precedes all marked nodes, if the split key of the
+-- bucket's dummy is not above the answer of `NodeList::marks_begin`. So a sweep may start at the
+-- nearest stored dummy of the answer's bucket.
 pub before_marks : (l : Listing) (place bucket split : ℕ) (node : NodeAt) → IsSound l → node_of l.nodes place ≡ Some node → node.kind ≡ Dummy → IsNotBefore (dummy_at bucket) node.at → reversed bucket ≤ split → AreMarksFrom split l.nodes → IsBeforeMarks l.nodes place
 before_marks l place bucket split node sound is dummy not_behind order from =
     let at = found_at l.nodes place node is in

@@ -19,7 +19,7 @@ changes_of c = c.changes
 abbrev pub pred_of : Cursor → ℕ
 pred_of c = c.pred.place
 
--- The node that now stands behind the cursor's first one.
+-- The node that is now behind the cursor's first one.
 abbrev pub behind : Listing → Cursor → Option NodeAt
 behind l c = next_of l.nodes (pred_of c)
 

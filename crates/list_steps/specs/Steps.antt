@@ -65,7 +65,7 @@ MarksThere old new c value = IsSomeAnd (node_there old c) (λ n. Marks old new n
 abbrev pub SwapsThere : Listing → Listing → Cursor → ℕ → ℕ → Type 0
 SwapsThere old new c was now = IsSomeAnd (node_there old c) (λ n. Swaps old new n.place was now)
 
--- A node that all marked ones stand behind is linked at this place.
+-- A node that precedes all marked ones is linked at this place.
 pub record IsBeforeMarks (nodes : List NodeAt) (place : ℕ) : Type 0 where
   pub node : NodeAt
   pub is : node_of nodes place ≡ Some node

@@ -27,8 +27,9 @@
 //!
 //! Calls take constant time and no memory, except that a seek visits each node from its start to
 //! the position once, and a sweep walks to the first marked node: `sweep` from the first node of
-//! the list, `sweep_from` from any node that all marked ones stand behind. Every dummy that stands
-//! no later than `NodeList::marks_begin` says is such a node (the lemma `before_marks`).
+//! the list, `sweep_from` from any node that precedes all marked ones. Every dummy that is not
+//! behind the position that `NodeList::marks_begin` answers is such a node (the lemma
+//! `before_marks`).
 #![tactic(auto)]
 
 mod at_cursor;

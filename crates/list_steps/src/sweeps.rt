@@ -1,5 +1,5 @@
-//! The sweep: unlinks the first marked node, or answers that no node is marked. It stands apart
-//! from the other steps, since it needs no cursor.
+//! The sweep: unlinks the first marked node, or answers that no node is marked. It is separate from
+//! the other steps, since it needs no cursor.
 ghost use Rattle.std.specs.Prelude.{◌≡◌, ◌↔◌, false};
 ghost use Rattle.std.specs.List.{AllByRecursion};
 ghost use Rattle.node_list.specs.Follow.{Follows};
@@ -18,7 +18,7 @@ pub enum SweepOutcome {
     Clean,
 }
 
-/// The node before the first marked one, sought from a node that all marked ones stand behind.
+/// The node before the first marked one, sought from a node that precedes all marked ones.
 fn before_first_marked(list: &NodeList, start: NodeRef) -> NodeRef
     requires start { IsBeforeMarks list.now.nodes start }
     requires some { ¬ AllByRecursion (λ n. n.marked ≡ false) list.now.nodes }
@@ -57,8 +57,8 @@ pub fn sweep(list: &mut NodeList) -> SweepOutcome
     sweep_from(list, head)
 }
 
-/// A `sweep` that begins at a node that all marked ones stand behind, so that the walk need not
-/// begin at the first node.
+/// A `sweep` that begins at a node that precedes all marked ones, so that the walk need not begin
+/// at the first node.
 ///
 /// # Cost
 ///

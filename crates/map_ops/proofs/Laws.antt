@@ -21,7 +21,7 @@ use Rattle.map_ops.proofs.RemoveLemmas.{remove-absent}
 pub still_owned : (old new : TableAt) (spare : SpareAt) → KeepsSpares old new → Owns old spare → Owns new spare
 still_owned old new spare keeps owned = keeps spare.place ∙ owned
 
--- It still belongs to the table if another spare is given or spent.
+-- A spare still belongs to the table if another spare is given or spent.
 pub other_owned : (old new : TableAt) (spare : SpareAt) (place : ℕ) → KeepsOthers old new place → spare.place ≢ place → Owns old spare → Owns new spare
 other_owned old new spare place keeps other owned = keeps spare.place other ∙ owned
 

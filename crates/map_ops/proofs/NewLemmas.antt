@@ -68,7 +68,7 @@ is_new l d largest helpers nodes_is none changes last d_is least most =
       none_out = none;
     })
 
--- Its one node is at its position.
+-- The one node of a new list is at its position.
 pub first_belongs : (l : Listing) (head : ℕ) → l.nodes ≡ first_dummy head 0 ∷ [] → Belong l.nodes
 first_belongs l head is = subst Belong (sym is) (record {
   keyed = (keyed_dummy (first_dummy head 0) refl, tt);

@@ -58,7 +58,7 @@ module _ (l : Listing) (c : Cursor) (key : ℕ) (sound : IsSound l) (belong : Be
   get-absent absent =
       get-map_of (pairs l.nodes) key rises ∙ value_at-absent key l.nodes belong.keyed (subst (λ (s : SortKey). AllByRecursion (λ (n : NodeAt). n.at ≢ s) l.nodes) same absent.others)
 
-  -- A look at the cursor tells where the key's node is, or where it belongs.
+  -- A look at the cursor tells the node of the key, or its place.
   pub stands : (found : Option ℕ) → Finds l c found → Stands l key (pred_of c) found
   stands None absent = record { vacant = subst (IsVacant l.nodes (pred_of c)) same absent.vacant; none = get-absent absent }
   stands (Some place) at =

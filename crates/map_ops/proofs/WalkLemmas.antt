@@ -27,7 +27,7 @@ pairs_none : pairs [] ≡ []
 unfolding pairs
 pairs_none = refl
 
--- It begins at the first node, a dummy.
+-- A walk begins at the first node, a dummy.
 pub walk_first : (l : Listing) → IsSound l → IsWalking l.nodes l.head []
 walk_first l sound =
     let is = first_is l.nodes sound.first.node sound.first.first in
@@ -38,7 +38,7 @@ walk_first l sound =
     }
 
 module _ (nodes : List NodeAt) (place : ℕ) (found : List (ℕ × ℕ)) (walking : IsWalking nodes place found) where
-  -- It moves on to the next node.
+  -- A walk moves on to the next node.
   pub walk_next : (m : NodeAt) (more : List (ℕ × ℕ)) → IsSpread nodes → next_of nodes place ≡ Some m → more ≡ found ++ pair_of m → IsWalking nodes m.place more
   walk_next m more spread is more_is =
       let next = sym (next_at nodes place walking.node walking.at) ∙ is in

@@ -24,7 +24,7 @@ abbrev pub Spends : TableAt → TableAt → Option SpareAt → Type 0
 Spends old new None = KeepsSpares old new
 Spends old new (Some spare) = (spare_out new spare.place ≡ None) × KeepsOthers old new spare.place
 
--- A new spare is out, with the next stamp, at a place where none was.
+-- A new spare is out, with the next stamp, at a place that had none.
 pub record GivesSpare (old new : TableAt) (spare : SpareAt) : Type 0 where
   pub room : last_of old < 2 ^ 64 - 2
   pub stamp : spare.stamp ≡ last_of old + 1

@@ -132,11 +132,11 @@ spare_out t place = out_at t.list place
 abbrev pub Owns : TableAt → SpareAt → Type 0
 Owns t spare = spare_out t spare.place ≡ Some spare.stamp
 
--- The same spares are out, except those at this place.
+-- The spares that are out have not changed, except at this place.
 abbrev pub KeepsOthers : TableAt → TableAt → ℕ → Type 0
 KeepsOthers old new place = (other : ℕ) → other ≢ place → spare_out new other ≡ spare_out old other
 
--- The same spares are out.
+-- The spares that are out have not changed.
 abbrev pub KeepsSpares : TableAt → TableAt → Type 0
 KeepsSpares old new = (place : ℕ) → spare_out new place ≡ spare_out old place
 
@@ -197,8 +197,8 @@ pub record Follows (old new : TableAt) : Type 0 where
   pub last : last_of old ≤ last_of new
   pub placed : (cursor : Cursor) (key : ℕ) → IsPlaced old cursor key → IsPlaced new cursor key
 
--- An empty table of two buckets, of which bucket 0 is stored, and of idle helpers. Only its dummy
--- is linked, and no spare is out.
+-- An empty table of two buckets, the first of them stored, and of idle helpers. Only its dummy is
+-- linked, and no spare is out.
 pub record IsNew (t : TableAt) (largest helpers : ℕ) : Type 0 where
   pub nodes_are : nodes_of t ≡ first_dummy t.list.head 0 ∷ []
   pub regular_is : regular t ≡ []

@@ -243,7 +243,7 @@ fn put_key(
     }
 }
 
-/// Puts a value if the key has what is expected; if not, leaves it unchanged.
+/// Puts a value if the key has the expected one; if not, leaves the key unchanged.
 fn put_if_key(
     list: &mut NodeList,
     pred: NodeRef,

@@ -54,8 +54,8 @@ impl Table {
     ghost use Rattle.map_ops.specs.Changes.{ActWrites, Acts, Applies, GivesBack, IsRefused, OwnsIf, Places, Prepares, SeeksAndUndoes, SeeksNear, Sweeps, TakesBack, UndoWrites, Undoes};
     ghost use Rattle.map_ops.specs.Buckets.{Doubles, LinkChanges, LinkWrites, SeekChanges, SeekWrites, StoreChanges, double_answer, link_answer_of, seek_answer, store_answer, LacksSegment};
 
-    /// An empty table of two buckets, of which bucket 0 is initialised, with `callers` idle
-    /// helpers. It can grow to `max` buckets, a power of two.
+    /// An empty table of two buckets, the first of them initialised, with `callers` idle helpers.
+    /// It can grow to `max` buckets, a power of two.
     ///
     /// # Errors
     ///
@@ -425,9 +425,9 @@ impl Table {
 
     /// Doubles the size. No node moves.
     ///
-    /// Three tests come first, in this order, and if one of them holds nothing changes: the size is
-    /// not the one seen (`Moved`); it is the largest (`AtLimit`); there are at most twice as many
-    /// keys as buckets (`Light`).
+    /// Three tests are made first, in this order, and if one of them holds nothing changes: the
+    /// size is not the one seen (`Moved`); it is the largest (`AtLimit`); there are at most twice
+    /// as many keys as buckets (`Light`).
     pub fn double(&mut self, seen: u64) -> Double
         ensures answer { result
             ≡ double_answer (size_of self.old) (largest_of self.old)

@@ -4,7 +4,7 @@ use Rattle.node_list.specs.declared.node.Kind.TheVariants.{Dummy}
 use Rattle.node_list.specs.Nodes.{NodeAt, Listing, node_of, out_at}
 use Rattle.node_list.specs.Sound.{IsSound}
 
--- The same node at two times: only its value and its mark may differ.
+-- One node at two times: only its value and its mark may differ.
 pub record IsSameNode (n m : NodeAt) : Type 0 where
   pub place : n.place ≡ m.place
   pub at : n.at ≡ m.at

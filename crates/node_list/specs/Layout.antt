@@ -79,7 +79,7 @@ pub record StartsAt (nodes : List NodeAt) (head : ℕ) : Type 0 where
   pub at : node.at ≡ dummy_at 0
   pub kind : node.kind ≡ Dummy
 
--- These are the linked nodes.
+-- The slots hold these linked nodes, in the order of the list.
 pub record IsLaidOut (slab : Slab SlotAt) (head : ℕ) (nodes : List NodeAt) : Type 0 where
   pub chain : IsChain (get slab) nodes
   pub starts : StartsAt nodes head

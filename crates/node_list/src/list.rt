@@ -158,7 +158,7 @@ impl NodeList {
     }
 
     /// Unlinks the marked node behind a linked node, and frees its place.
-    // A function of its own, so that a seek is small enough to be compiled into its callers.
+    // A separate function, so that a seek is small enough to be compiled into its callers.
     #[inline(never)]
     pub fn unlink_after(&mut self, pred: NodeRef)
         requires { IsBeforeMarked self.old.nodes pred }

@@ -1,4 +1,4 @@
--- What the calls of a transaction keep, as their contracts say it.
+-- The facts that a transaction's calls keep, by their contracts.
 use Rattle.std.proofs.Common.{◌≡◌, ℕ, Bool, ◌++◌, ◌∷◌, [], refl, sym, ap, subst, ◌∙◌, Option}
 use Rattle.std.specs.Prelude.{Result, Ok, Err, OnErr}
 use mathlib.Core.Logic.{inl, inr}
@@ -64,7 +64,7 @@ back_on c old between new goes_on back = record {
   beside = only.after c old between new goes_on.beside back.beside;
 }
 
--- What an operation did still holds after the table has grown.
+-- The effect of an operation still holds after the table has grown.
 pub grew_done : (op : Op) (x : Option ℕ) (old between new : State) → HasDone op x old between → IsGrown between new → HasDone op x old new
 grew_done op x old between new done is = record { replied = done.replied; changed = ap now is.history ∙ done.changed }
 

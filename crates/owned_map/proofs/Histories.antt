@@ -1,4 +1,5 @@
--- What each entry of a transaction that no other caller interrupts does to it, by the laws of histories.
+-- The effect of each entry on a transaction that no other caller interrupts, by the laws of
+-- histories.
 use Rattle.std.proofs.Common.{◌≡◌, ℕ, ◌+◌, ◌<◌, Bool, true, false, cond, List, [], ◌∷◌, ◌++◌, length, Option, Some, None, is_some, refl, sym, ap, subst, ◌∙◌, arith}
 use Rattle.std.specs.Prelude.{nat_le}
 use Rattle.std.proofs.lemmas.Bool.{false≢true, and_parts, cases_eq, ne_eqb}

@@ -1,4 +1,4 @@
--- What a step or a plain call does to a transaction that no other caller interrupts.
+-- The effect of a step or a plain call on a transaction that no other caller interrupts.
 use Rattle.std.proofs.Common.{◌≡◌, ℕ, zero, suc, Bool, true, false, cond, List, [], ◌∷◌, ◌++◌, Option, Some, None, refl, sym, ap, subst, ◌∙◌, arith}
 use Rattle.std.specs.Prelude.{nat_le, nat_lt, not, ◌||◌, unwrap_or}
 use Rattle.std.proofs.lemmas.Bool.{false≢true, and_parts, ltb-true, lt-ltb}
@@ -251,7 +251,7 @@ ends old new c base stands (changes, moves) =
     no_more zero is = refl
     no_more (suc n) is = absurd (false≢true (sym (ap not (lt-ltb 0 (suc n) (omega arith))) ∙ is))
 
--- A caller with such a transaction aborts, and the map is the one before it.
+-- A caller that can abort does so, and the map is the one before its transaction.
 aborts_all : (old new : State) (c : ℕ) (base : Map) → CanAbort c base old → Aborts old c answers.Aborted new → (now new.history ≡ base) × IsIdle c new
 aborts_all old new c base (inl stands) (left, leaves, ended) =
     let leave : Event old (Abort c) answers.Leaving left = subst (λ b. Leaves b old c left) (phase_of old c base Opened stands is_at_end) leaves in
@@ -260,7 +260,7 @@ aborts_all old new c base (inr stands) (left, leaves, ended) =
     let same : left ≡ old = subst (λ b. Leaves b old c left) (phase_of old c base LeavingToEnd stands is_at_end) leaves in
     ends left new c base (to_state c base LeavingToEnd old left same stands) ended
 
--- Such a caller's abort is not refused.
+-- The abort of a caller that can abort is not refused.
 never_refused : (old new : State) (c : ℕ) (base : Map) (refusal : Refusal) → CanAbort c base old → Aborts old c (answers.Refused refusal) new → ⊥
 never_refused old new c base refusal (inr stands) (on, move) = false≢true (sym on ∙ phase_of old c base LeavingToEnd stands is_at_end)
 never_refused old new c base refusal (inl stands) (on, event) = never event.move.allowed

@@ -125,7 +125,7 @@ left_alone keys m None p alike k out = refl
 left_alone keys m (Some r) None alike k out = absurd alike
 left_alone keys m (Some r) (Some s) alike k out = alike.last.left k out
 
--- So the map has no key that is refused.
+-- The map has no key that is refused.
 pub none_there : (half : Bool) (h : List Entry) → asks_well half h ≡ true → HasTakenKeys half (now h)
 none_there half h well k bad = get-now h k ∙ differing (open_txns h) ∙ committed (commits h) empty refl
   where

@@ -63,7 +63,7 @@ put_once old new k v x legal (s1, ask, (s2, seek, (s3, did, last))) fresh =
 pub committed_first : (old new : State) (p : ℕ) → Move old (Commit 0) (answers.Committed p) new → new.history ≡ old.history ++ Committed 0 (how_many is_commit old.history + 1) ∷ []
 committed_first old new p move = ap history_of move.state ∙ ap (λ n. old.history ++ Committed 0 n ∷ []) move.allowed.1
 
--- It is the first commit.
+-- The entries before the commit have no commit.
 none_committed : (pairs : List (ℕ × ℕ)) → how_many is_commit (flat_map put_new pairs) ≡ 0
 none_committed [] = refl
 none_committed (pair ∷ pairs) = none_committed pairs
@@ -151,7 +151,7 @@ put_all pairs h i all put = subst (λ es. HasPut es h) (take_all i pairs all) pu
 pub same_listed : (pairs : List (ℕ × ℕ)) (h : List Entry) → HasPut pairs h → (m : Map) → pairs ≡ ordered m → now h ≡ m
 same_listed pairs h put m is = same_map (now h) m (λ q. put.values q ∙ ap (value_at q) is ∙ value_at-ordered m q)
 
--- Nobody owes anything exactly if nobody has a transaction.
+-- No entry is owed exactly if no caller has a transaction.
 closed_in : (n : ℕ) (q : Phase) → owed_in n q ≡ 0 → is_closed q ≡ true
 closed_in n Closed is = refl
 closed_in n Opened is = absurd (omega (arith, is))
@@ -206,7 +206,7 @@ some_open s owes =
     let (c, within, some) = some_owes (λ d. owed_by (seat_after (own d s.history))) s.limits.callers 0 owes in
     (c, omega (arith, within), open_by (seat_after (own c s.history)) some)
 
--- What follows if a call is done.
+-- A property follows from another if the call is done.
 pub on_ok : {T E P Q : Type 0} (result : Result T E) → (P → Q) → OnOk result P → OnOk result Q
 on_ok (Ok value) follows holds = follows holds
 on_ok (Err e) follows holds = tt

@@ -1,4 +1,4 @@
--- What the calls of a transaction do to the core: which steps it takes, and with which answers.
+-- The effect of a transaction's calls on the core: which steps they take, and with which answers.
 use Rattle.std.specs.Prelude.{ℕ, ◌≡◌, Option}
 use Rattle.txn_words.specs.declared.answer.Answer.{Answer}
 use Rattle.txn_words.specs.declared.answer.Answer.TheVariants as answers
@@ -13,7 +13,7 @@ use Rattle.boost_core.specs.Machine.{Event}
 use Rattle.boost_core.specs.Plain.{Operates, Aborts}
 use Rattle.owned_map.specs.Within.{IsBeside, IsGrown}
 
--- The core's answer of which a call makes a stop.
+-- The core's answer for which a call returns this stop.
 abbrev pub answer_of : Stop → Answer
 answer_of (stops.Busy holder) = answers.Busy holder
 answer_of (stops.Refused refusal) = answers.Refused refusal

@@ -28,7 +28,7 @@
 //!   taken back and its stripes given back (`IsTakenBack`). `commit` and `abort` take it by value,
 //!   so it cannot be used afterwards.
 //! - The table grows by itself, by at most a bucket with each new key, and no growth changes the
-//!   history. If memory is refused to it, the table stays as it is.
+//! history. If memory is refused to it, the table is unchanged.
 //!
 //! One definition, `Keeps`, says what every call of a work keeps: it is still the same transaction,
 //! and it went on. `proofs/Calls.antt` has `keeps_stay` and `keeps_on`, by which the check joins

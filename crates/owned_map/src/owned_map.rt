@@ -223,7 +223,7 @@ impl OwnedMap {
         self.core.abort(caller);
     }
 
-    /// How many buckets are to be initialised for the keys that there are.
+    /// The number of buckets that should be initialised for the present keys.
     fn wanted(&self) -> u64 {
         let keys = self.core.count();
         let few = FEW_BUCKETS.min(keys / 2);
@@ -271,8 +271,8 @@ impl OwnedMap {
     }
 
     /// Runs the work in a transaction of a caller, and commits it. If the work answers an error,
-    /// the transaction is aborted and the error is returned. So the work can take everything back
-    /// by an error of its own type.
+    /// the transaction is aborted and the error is returned. So the work takes everything back by
+    /// an error of its own type.
     ///
     /// # Errors
     ///

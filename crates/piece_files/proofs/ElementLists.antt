@@ -1,4 +1,4 @@
--- Elements that are read one after the other, of which the plain ones are kept.
+-- Elements that are read one after the other; the plain ones are kept.
 use Rattle.std.proofs.Common.{◌≡◌, ℕ, zero, suc, ◌≤◌, List, [], ◌∷◌, ◌++◌, length, Bool, true, false, ◌&&◌, Option, Some, None, refl, ap, arith}
 use Rattle.std.proofs.lemmas.List.{map-append, length-map}
 use Rattle.json.specs.Token.{Token}

@@ -35,7 +35,8 @@ pieces-last of part i j (e ∷ ds) d at =
     let later : j ≡ suc i + length ds = omega (arith, at) in
     rw (pieces-last of part (suc i) j ds d later) (first_stays (piece_at of part i e) (pieces_from of part (suc i) ds) (piece_at of part j d))
 
--- What is read so far: all are pieces, or those before the first that is none; the first are kept, and all are counted.
+-- The pieces read so far: all elements, or those before the first that is no piece; the first are
+-- kept, and all are counted.
 pub record IsRead {P : Type 0} (of : List Data → Option P) (part : Part) (most : ℕ) (are_all : Bool) (pieces : List P) (count : ℕ) (ds : List Data) : Type 0 where
   pub all : List P
   pub found : pieces_from of part 0 ds ≡ outcome part are_all all

@@ -1,4 +1,4 @@
--- The number of a text with a sign, of one with none, and of one of digits alone.
+-- The number of a text with a sign, of one with none, and of one with digits only.
 use Rattle.std.proofs.Common.{◌≡◌, ℕ, ◌+◌, ◌-◌, ◌^◌, ◌<◌, ◌≤◌, ◌&&◌, if◌then◌else◌, true, false, ◌==◌, nat_lt, List, [], ◌∷◌, ◌++◌, length, get_or, take, Some, option_map, refl, sym, ap, subst, ◌∙◌, arith}
 use Rattle.std.specs.Prelude.{slice_range}
 use Rattle.std.specs.Str.Parse.{AllDigits, IsNumeral, digits_value}
@@ -27,7 +27,7 @@ pub nothing_left : (s : List ℕ) → length s ≡ 0 → s ≡ []
 nothing_left [] e = refl
 nothing_left (x ∷ s) e = absurd (omega (arith, e))
 
--- A text of digits alone is its whole part.
+-- The parts of a text that has only digits: they are its whole part.
 abbrev digits_alone : List ℕ → Parts
 digits_alone bs = record { whole = bs; point = false; fraction = []; exponent_negative = false; exponent = []; len = length bs }
 

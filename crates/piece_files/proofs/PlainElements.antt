@@ -1,4 +1,4 @@
--- What elements are read as, they are plain, and no more than so many.
+-- Elements are read as values: they are plain, and at most `MOST`.
 use Rattle.std.proofs.Common.{◌≡◌, ℕ, zero, suc, List, [], ◌∷◌, length, Bool, true, false, ◌==◌, ◌&&◌, Option, Some, None, option_map, if◌then◌else◌, refl, ap, arith}
 use Rattle.std.specs.Prelude.{⊤}
 use Rattle.serde_json.specs.Data.{unsigned, negative, float, Data, null, boolean, number, string, array, object}

@@ -76,7 +76,7 @@ one_passed bytes before rest x first space h =
     let b = blank x rest space in
     record { same = h.same ∙ ap (lex between) first ∙ b.0; ended = λ e. h.ended (ap ends_word first ∙ b.1) }
 
--- ---- what stands behind a value
+-- ---- the bytes behind a value
 
 -- Nothing but white space is left.
 pub all_passed : (bytes : List ℕ) (at end : ℕ) → Passed (drop at bytes) (drop end bytes) → end ≡ length bytes → Passed (drop at bytes) []

@@ -1,4 +1,4 @@
--- What is found of members, with one member more.
+-- The findings in members, after one member more.
 use Rattle.std.proofs.Common.{◌≡◌, ℕ, zero, suc, ◌+◌, ◌<◌, ◌≤◌, nat_lt, cond, List, [], ◌∷◌, length, map, replicate, get_or, Bool, true, false, ◌&&◌, not, bytes_eq, true≢false, Option, Some, None, option_and_then, refl, sym, ap, subst, ◌∙◌, arith}
 use Rattle.std.proofs.Math.ListN.{set}
 use Rattle.std.specs.List.{list_all, position, prefix_len}
@@ -80,7 +80,7 @@ numbers_set key d ms (name ∷ names) (suc i) lt same apart =
     let differs : bytes_eq key name ≡ false = apart_back name key (ap (bytes_eq name) (sym same) ∙ apart_at name names i (omega (arith, lt)) parts.0) in
     rw (number_other key name d ms differs, ← numbers_set key d ms names i (omega (arith, lt)) same parts.1) refl
 
--- ---- where a key stands among names
+-- ---- the index of a key among names
 
 prefix_len-map : {X Y : Type 0} (p : Y → Bool) (f : X → Y) (xs : List X) → prefix_len (λ x. p (f x)) xs ≡ prefix_len p (map f xs)
 prefix_len-map p f [] = refl
@@ -123,7 +123,7 @@ stands_nowhere key names e =
 
 -- ---- what was found, with one member more
 
--- That no name of a kind's members stands twice.
+-- No name of a kind's members occurs twice.
 pub record Apart {P : Type 0} (kind : FileKind P) : Type 0 where
   pub first : bytes_eq version kind.pieces ≡ false
   pub from_version : is_none version kind.numbers ≡ true

@@ -44,7 +44,7 @@ fails_first (Piece part i) r next h = ap (λ x. x >>= next) h
 fails_first Limit r next h = ap (λ x. x >>= next) h
 fails_first NoMemory r next h = tt
 
--- What a `?` hands on.
+-- The result after a `?` that hands on a fault.
 pub gives_fault : {X Y : Type 0} (seen : X → Y) (r : Result X FileFault) (fault : FileFault) (wanted : Result Y FileFault) → IsErrAnd r (λ e. e ≡ fault) → Fails fault wanted → Gives seen r wanted
 gives_fault seen (Ok x) fault wanted and h = absurd and
 gives_fault seen (Err e) fault wanted and h = subst (λ f. Fails f wanted) (sym and) h

@@ -1,10 +1,10 @@
--- Faults of a file: what they are called, and what a reader gives that may also lack memory.
+-- Faults of a file: their names, and the answer of a reader that may also lack memory.
 use Rattle.std.specs.Prelude.{◌≡◌, ℕ, List, ◌++◌, Option, Some, None, Result, Ok, Err, codes, decimal}
 use Rattle.piece_files.specs.declared.part.Part.TheVariants as parts
 use Rattle.piece_files.specs.declared.file_fault.FileFault.{FileFault}
 use Rattle.piece_files.specs.declared.file_fault.FileFault.TheVariants.{NotJson, Member, Piece, Limit, NoMemory}
 
--- A fault's number, and the place where there is one.
+-- A fault's number, and the place if it has one.
 abbrev pub words_of : FileFault → List ℕ
 words_of NotJson = codes "20"
 words_of Member = codes "21"
@@ -21,12 +21,12 @@ abbrev pub ◌>>=◌ : {A B : Type 0}
 (Ok x) >>= f = f x
 (Err e) >>= f = Err e
 
--- What is there, or this fault.
+-- The value if it is there, else this fault.
 abbrev pub or_fault : {A : Type 0} → FileFault → Option A → Result A FileFault
 or_fault fault (Some x) = Ok x
 or_fault fault None = Err fault
 
--- The fault is the one that is wanted, unless memory was refused.
+-- The fault is the one that the file has, unless memory was refused.
 abbrev pub Fails : {Y : Type 0} → FileFault → Result Y FileFault → Type 0
 Fails NoMemory wanted = Unit {0}
 Fails NotJson wanted = wanted ≡ Err NotJson
@@ -34,7 +34,7 @@ Fails Member wanted = wanted ≡ Err Member
 Fails (Piece part i) wanted = wanted ≡ Err (Piece part i)
 Fails Limit wanted = wanted ≡ Err Limit
 
--- What a reader returned, as it is seen, is what is wanted, unless memory was refused.
+-- The answer of a reader, as it is seen, is that of the file, unless memory was refused.
 abbrev pub Gives : {X Y : Type 0} → (X → Y) → Result X FileFault → Result Y FileFault → Type 0
 Gives seen (Ok x) wanted = wanted ≡ Ok (seen x)
 Gives seen (Err e) wanted = Fails e wanted

@@ -20,7 +20,7 @@ pub record FileKind (P : Type 0) : Type 0 where
   pub part : Part
   pub most : ℕ
 
--- The member that says how the others are to be read.
+-- The member that says how to read the others.
 abbrev pub version : List ℕ
 version = codes "version"
 
@@ -28,12 +28,12 @@ version = codes "version"
 abbrev pub names_of : {P : Type 0} → FileKind P → List (List ℕ)
 names_of kind = version ∷ kind.pieces ∷ kind.numbers
 
--- Whether no name stands twice.
+-- Whether no name occurs twice.
 abbrev pub are_apart : List (List ℕ) → Bool
 are_apart [] = true
 are_apart (name ∷ names) = list_all (λ other. not (bytes_eq name other)) names && are_apart names
 
--- The numbers, where each is there.
+-- The numbers, if all are there.
 abbrev pub all_of : List (Option ℕ) → Option (List ℕ)
 all_of [] = Some []
 all_of (number ∷ numbers) = option_and_then (λ n. option_map (λ ns. n ∷ ns) (all_of numbers)) number

@@ -1,4 +1,4 @@
--- What is found of the members of an object.
+-- The members of an object, and the findings in them.
 use Rattle.std.specs.Prelude.{◌≡◌, ℕ, Bool, List, map, Option, Some, None, option_and_then, Result, Err}
 use Rattle.serde_json.specs.Data.{Data, null, boolean, number, string, array, object, Members, no_members}
 use Rattle.serde_json.specs.Find.{get_member}
@@ -12,7 +12,7 @@ use Rattle.piece_files.specs.Files.{FileKind, version}
 use Rattle.piece_files.specs.Pieces.{pieces_from, old_of}
 use Rattle.piece_files.specs.Tokens.{FindsBoth}
 
--- The members of a value, which are none where it is no object.
+-- The members of a value; none if it is no object.
 abbrev pub members_within : Data → Members
 members_within null = no_members
 members_within (boolean b) = no_members
@@ -33,7 +33,7 @@ ArePiecesOf of is_old part most (Some p) d =
     (ds : List Data) × (elements_of d ≡ Some ds)
     × FindsBoth part most p (pieces_from (old_of is_old of) part 0 ds) (pieces_from of part 0 ds)
 
--- Pieces that are read of a member, where it is there.
+-- Pieces that are read from a member, if it is there.
 abbrev pub ArePiecesIn : {P : Type 0} → (List Data → Option P) → (P → Bool) → Part → ℕ
     → Option (Pieces P) → Option Data → Type 0
 ArePiecesIn of is_old part most found None = found ≡ None
@@ -51,7 +51,7 @@ kind_named names of is_old part most = record {
   most = most;
 }
 
--- What was found is what the last members of the kind's names hold.
+-- The findings are those of the last members of the kind's names.
 pub record AreFound {P : Type 0} (kind : FileKind P) (n : Option ℕ) (numbers : List (Option ℕ))
     (pieces : Option (Pieces P)) (ms : Members) : Type 0 where
   pub the_version : n ≡ last_number ms version
@@ -59,8 +59,7 @@ pub record AreFound {P : Type 0} (kind : FileKind P) (n : Option ℕ) (numbers :
   pub the_pieces :
       ArePiecesIn kind.of kind.is_old kind.part kind.most pieces (get_member kind.pieces ms)
 
--- What was found of the member of pieces is of these pieces, as version 1 wants them and as version
--- 2 does.
+-- The finding in the member of pieces has these pieces, by version 1 and by version 2.
 abbrev pub FindsIn : {P : Type 0} → Part → ℕ → Option (Pieces P)
     → Result (List P) FileFault → Result (List P) FileFault → Type 0
 FindsIn part most None old new = (old ≡ Err Member) × (new ≡ Err Member)

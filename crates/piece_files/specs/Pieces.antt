@@ -25,7 +25,7 @@ pieces_from of part i (d ∷ ds) = do
 abbrev pub old_of : {P : Type 0} → (P → Bool) → (List Data → Option P) → List Data → Option P
 old_of is_old of ds = option_and_then (λ p. if is_old p then Some p else None) (of ds)
 
--- What a file of this version has, of what version 1 has and what all others have.
+-- The value for a file of this version: version 1 has its own, and all others have the new one.
 abbrev pub in_version : {A : Type 0} → ℕ → A → A → A
 in_version version old new = if version == 1 then old else new
 

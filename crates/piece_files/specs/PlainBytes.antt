@@ -12,45 +12,45 @@ use Rattle.piece_files.specs.Tokens.{items_from, value_at}
 abbrev pub tokens_at : Place → List ℕ → List Token
 tokens_at place bytes = punctuate place (lex between bytes)
 
--- ---- what stands between values
+-- ---- the bytes between values
 
 -- The bytes are white space, and then the rest.
 pub record Passed (bytes rest : List ℕ) : Type 0 where
   pub same : lex between bytes ≡ lex between rest
   pub ended : ends_word rest ≡ true → ends_word bytes ≡ true
 
--- The bytes may stand behind a value: they do not go on its word, and make no key of it.
+-- The bytes may follow a value: they do not go on its word, and make no key of it.
 pub record EndsValue (bytes : List ℕ) : Type 0 where
   pub ended : ends_word bytes ≡ true
   pub no_colon : begins_colon (lex between bytes) ≡ false
 
--- Behind a value comes a comma, and then the rest.
+-- The bytes behind a value are a comma, and then the rest.
 pub record Comma (bytes rest : List ℕ) : Type 0 where
   pub ends : EndsValue bytes
   pub left : tokens_at after_value bytes ≡ tokens_at after_comma rest
 
--- Behind a value comes the bracket that closes an array, and then the rest.
+-- The bytes behind a value are the bracket that closes an array, and then the rest.
 pub record Closes (bytes rest : List ℕ) : Type 0 where
   pub ends : EndsValue bytes
   pub left : tokens_at after_value bytes ≡ end_array ∷ tokens_at after_value rest
 
--- Behind a value comes the brace that closes an object, and nothing else.
+-- The bytes behind a value are the brace that closes an object, and nothing else.
 pub record Finishes (bytes : List ℕ) : Type 0 where
   pub ends : EndsValue bytes
   pub left : tokens_at after_value bytes ≡ end_object ∷ []
 
--- The bytes open an array, and then come the rest.
+-- The bytes open an array, and the rest follows.
 abbrev pub Opens : List ℕ → List ℕ → Type 0
 Opens bytes rest = lex between bytes ≡ token begin_array ∷ lex between rest
 
--- The bytes open an object, and then come the rest.
+-- The bytes open an object, and the rest follows.
 abbrev pub OpensObject : List ℕ → List ℕ → Type 0
 OpensObject bytes rest = lex between bytes ≡ token begin_object ∷ lex between rest
 
 -- ---- values and keys
 
--- Wherever a value may begin, the bytes are this value, and then the rest, if the rest may stand
--- behind a value.
+-- Wherever a value may begin, the bytes are this value, and then the rest, if the rest may follow a
+-- value.
 abbrev pub IsValue : ℕ → List ℕ → Data → List ℕ → Type 0
 IsValue depth bytes d rest =
     EndsValue rest → (place : Place) → may_begin place ≡ true
@@ -71,7 +71,7 @@ AreLeft depth ts ds others =
     (n : ℕ) → length ts ≤ n
     → converted of_items (items (value depth) n ts) ≡ Some (items_from ds, others)
 
--- So are the bytes, wherever an element may begin.
+-- The bytes are the elements that are left of an array, wherever an element may begin.
 abbrev pub Begin : ℕ → List ℕ → List Data → List Token → Type 0
 Begin depth bytes ds others =
     (place : Place) → may_begin place ≡ true → AreLeft depth (tokens_at place bytes) ds others

@@ -1,4 +1,4 @@
--- What tokens begin with, in the words of `serde_json`, and the tokens after it.
+-- The value that tokens begin with, in the words of `serde_json`, and the tokens after it.
 use Rattle.std.specs.Prelude.{◌≡◌, ℕ, zero, suc, List, [], ◌∷◌, length, take, map, Bool, true, false, ◌&&◌, Option, Some, None}
 use Rattle.json.specs.Token.{Token}
 use Rattle.json.specs.Json.{value, items, members}
@@ -25,7 +25,7 @@ abbrev pub members_at : ℕ → List Token → Option (Members × List Token)
 members_at depth ts =
     converted (λ ms. of_members ms no_members) (members (value depth) (length ts) ts)
 
--- Null, a text, or a whole number below 2^64: what is kept of elements.
+-- Null, a text, or a whole number below 2^64: the elements that are kept.
 abbrev pub is_whole : Num → Bool
 is_whole (unsigned n) = true
 is_whole (negative z) = false
@@ -45,7 +45,7 @@ are_plain n [] = true
 are_plain zero (d ∷ ds) = false
 are_plain (suc n) (d ∷ ds) = is_plain d && are_plain n ds
 
--- A value where it is plain.
+-- A value, if it is plain.
 abbrev pub IsPlain : Option Plain → Data → Type 0
 IsPlain (Some v) d = (data_of v ≡ d) × (is_plain d ≡ true)
 IsPlain None d = is_plain d ≡ false
@@ -65,8 +65,8 @@ abbrev pub outcome : {P : Type 0} → Part → Bool → List P → Result (List 
 outcome part true pieces = Ok pieces
 outcome part false pieces = Err (Piece part (length pieces))
 
--- Of the pieces that are wanted, or those before the first that is wrong, the first are kept and
--- all are counted.
+-- Of all pieces, or those before the first element that is no piece, the first are kept and all are
+-- counted.
 abbrev pub Finds : {P : Type 0} → Part → ℕ → List P → ℕ → Bool → Result (List P) FileFault → Type 0
 Finds {P} part most pieces count are_all wanted =
     (all : List P) × (wanted ≡ outcome part are_all all) × (count ≡ length all)
@@ -78,7 +78,7 @@ abbrev pub FindsOld : {P : Type 0} → Part → Option ℕ
 FindsOld part None old new = old ≡ new
 FindsOld part (Some i) old new = old ≡ Err (Piece part i)
 
--- What is found of the pieces that version 1 wants, and of those that version 2 does.
+-- The findings of both versions: those of version 2, and those of version 1.
 abbrev pub FindsBoth : {P : Type 0} → Part → ℕ → Pieces P
     → Result (List P) FileFault → Result (List P) FileFault → Type 0
 FindsBoth part most p old new =

@@ -8,8 +8,8 @@ ghost use Rattle.piece_files.specs.Elements.{optional_of};
 
 use crate::plain::Plain;
 
-/// The first element, which is a whole number below 2^64, and the elements after it. None where
-/// there is no element, or the first is no such number.
+/// The first element, which is a whole number below 2^64, and the elements after it. None if there
+/// is no element, or the first is no such number.
 ///
 /// # Cost
 ///
@@ -58,7 +58,7 @@ pub fn one_in(values: &[Plain<'_>]) -> Option<u64>
     if rest.is_empty() { Some(number) } else { None }
 }
 
-/// That there is no element. None if there is one.
+/// `Some` if there is no element, else None.
 ///
 /// # Cost
 ///
@@ -91,8 +91,8 @@ pub fn leading_optional_in<'v, 'a>(
     }
 }
 
-/// The one element, which is a whole number below 2^64, or `null`, which is none within. None where
-/// there is no element, another one, or more than one.
+/// The one element: a whole number below 2^64, or `null`, which is none within. None if there is no
+/// element, another one, or more than one.
 ///
 /// # Cost
 ///

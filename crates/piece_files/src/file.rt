@@ -19,7 +19,7 @@ use std::alloc::Global;
 /// The length that a file may have, in bytes.
 const MAX_BYTES: usize = 16_777_216;
 
-/// The numbers, where each is there.
+/// The numbers, if all are there.
 fn all_numbers<const N: usize>(found: [Option<u64>; N]) -> Option<[u64; N]>
     ensures { result ≡ all_of found.entry }
 {
@@ -40,7 +40,7 @@ fn is_version(version: u64) -> bool
     1 <= version && version <= MAX_VERSION
 }
 
-/// The pieces in a member, where all its elements are pieces of this version.
+/// The pieces in a member, if all its elements are pieces of this version.
 fn pieces_found<K: PieceKind>(
     found: Option<Pieces<K::Piece>>,
     version: u64,
@@ -102,12 +102,12 @@ fn contents_found<K: PieceKind, const N: usize>(
 ///   version 1 has.
 /// - `Limit` if the version is not 1 to 3 or there are more pieces than there may be.
 ///
-/// `NoMemory` if memory is refused. It can come in place of any answer, but for bytes that are
-/// too many or not UTF-8.
+/// `NoMemory` if memory is refused. It can replace any other answer, except for bytes that are too
+/// many or not UTF-8.
 ///
 /// # Cost
 ///
-/// Time in proportion to the bytes, where that of `K::read` and `K::is_old` is so; memory for the
+/// Time in proportion to the bytes, if that of `K::read` and `K::is_old` is so; memory for the
 /// pieces, and for the longest text in the file that is written with escapes.
 pub fn read_file<'n, K: PieceKind, const N: usize>(
     alloc: Global,

@@ -1,5 +1,5 @@
-//! Why a file is refused, with the numbers that users see. The order in which faults are looked for
-//! stands in the contract of `read_file`.
+//! Why a file is refused, with the numbers that users see. The contract of `read_file` gives the
+//! order in which faults are looked for.
 ghost use Rattle.std.specs.Prelude.{◌≡◌};
 ghost use Rattle.piece_files.specs.Faults.{words_of};
 ghost use Rattle.piece_files.specs.declared.file_fault.FileFault.TheVariants.{NoMemory};
@@ -15,7 +15,7 @@ pub enum FileFault {
     NotJson,
     /// 21: the file is no object, or a member is missing or of the wrong kind.
     Member,
-    /// 21, with the index from 0: the first piece that has not the shape that it should have.
+    /// 21, with the index from 0: the first piece with a wrong shape.
     Piece(Part, usize),
     /// 22: the file is too long, or a number in it or the number of its pieces is out of range.
     Limit,

@@ -1,8 +1,8 @@
 //! Files that are an object in JSON: a version, some numbers, and an array of pieces. A kind of
 //! file is a table: the names of its numbers in the written order, the name of its pieces, and what
 //! a piece is (`PieceKind`). Version 1 of a kind of file may lack some of the pieces that version 2
-//! has: in a file of version 1 these are wrong. Of steps, scripts and entries nothing is known here
-//! but the words by which a fault names them (`Part`).
+//! has: in a file of version 1 these are wrong. This crate knows nothing of steps, scripts and
+//! entries but the words by which a fault names them (`Part`).
 //!
 //! The model is a function of the bytes, `contents` of `specs/Files.antt`: the value that they are
 //! (`json_of`), the numbers in its members, and the pieces of an array or the first that is wrong

@@ -31,13 +31,13 @@ pub(crate) const MAX_DEPTH: usize = 127;
 /// The names of a file's members, besides `version`.
 #[derive(Clone, Copy)]
 pub(crate) struct Names<'a> {
-    /// Those of the numbers, in the written order.
+    /// The names of the numbers, in the written order.
     pub(crate) numbers: &'a [&'a str],
-    /// That of the array of pieces.
+    /// The name of the array of pieces.
     pub(crate) pieces: &'a str,
 }
 
-/// What was found of a file's members. Of two with one name the last counts.
+/// The findings in a file's members. Of two with one name the last counts.
 #[derive(Drop)]
 pub(crate) struct Found<P, const N: usize> {
     pub(crate) version: Option<u64>,
@@ -45,7 +45,7 @@ pub(crate) struct Found<P, const N: usize> {
     pub(crate) pieces: Option<Pieces<P>>,
 }
 
-/// What is found of no members.
+/// The findings in no members.
 pub(crate) fn nothing_found<P, const N: usize>() -> Found<P, N>
     requires { N ≤ 64 }
     ensures version { result.version ≡ None }
@@ -214,7 +214,7 @@ fn take_value<K: PieceKind, const N: usize>(
     }
 }
 
-/// What is found of the members of the object that a text is, by the reader of JSON.
+/// The findings in the members of the object that a text is, by the reader of JSON.
 fn indexed_members_in<K: PieceKind, const N: usize>(
     alloc: Global,
     text: &str,
@@ -245,7 +245,7 @@ fn indexed_members_in<K: PieceKind, const N: usize>(
     }
 }
 
-/// What is found of the members of the object that a text is. A text in plain form is read straight
+/// The findings in the members of the object that a text is. A text in plain form is read straight
 /// from its bytes.
 pub(crate) fn members_in<K: PieceKind, const N: usize>(
     alloc: Global,

@@ -9,7 +9,7 @@ ghost use Rattle.std.specs.Str.Parse.{IsNumeral, digits_value};
 
 use fast_float::Numeral;
 
-/// So many digits always are a number below 2^64.
+/// The most digits with which a number is always below 2^64.
 const FEW: usize = 19;
 
 /// The number that a text of few digits and nothing else is. None of any other text, which may be a

@@ -1,5 +1,5 @@
 //! The names of the pieces that a kind of file has, as a fault prints them.
-/// What the pieces of a file are, which a fault names with the index of a piece.
+/// The kind of pieces that a file has. A fault names it with the index of a piece.
 #[derive(Clone, Copy, Debug, PartialEq, Eq)]
 pub enum Part {
     /// A step of a step file.

@@ -14,7 +14,7 @@ use json::{Invalid, Reader, Token};
 ///
 /// # Errors
 ///
-/// `Invalid` if no value of JSON comes in which arrays and objects nest no deeper than `depth`,
+/// `Invalid` if this is no value of JSON in which arrays and objects nest no deeper than `depth`,
 /// or a number is too large for a float. The reader is then anywhere in the text.
 ///
 /// # Cost

@@ -19,7 +19,7 @@ use crate::stop::Stop;
 use json::{Reader, Token};
 use std::alloc::{AllocError, Global};
 
-/// A kind of pieces, of which a file has an array. Each piece is an array itself, and its elements
+/// A kind of pieces; a file has an array of them. Each piece is an array itself, and its elements
 /// say what it is. A kind has no value; it is named where pieces are read.
 pub trait PieceKind {
     /// A piece of this kind.
@@ -31,7 +31,7 @@ pub trait PieceKind {
     /// Whether version 1 has a piece too.
     ghost is_old: { Self.Piece → Bool };
 
-    /// What a fault calls a piece of this kind.
+    /// The name of this kind of pieces in a fault.
     ghost part: { Part };
 
     /// How many pieces a file may have.
@@ -40,7 +40,7 @@ pub trait PieceKind {
     /// Whether memory may be taken to read a piece.
     ghost takes_memory: { Bool };
 
-    /// What a fault calls a piece of this kind. Constant time.
+    /// The name of this kind of pieces in a fault. Constant time.
     fn part() -> Part
         ensures { result ≡ part };
 
@@ -56,12 +56,13 @@ pub trait PieceKind {
     fn most() -> usize
         ensures { result ≡ most };
 
-    /// The piece whose elements come next, after the bracket that opens it, or none if no piece
-    /// of this kind has them in version 2. The reader is then behind the bracket that closes it.
+    /// The piece with the elements that follow, after the bracket that opens it, or none if no
+    /// piece of this kind has them in version 2. The reader is then behind the bracket that closes
+    /// it.
     ///
     /// # Errors
     ///
-    /// `NotJson` if what comes is not the rest of an array in which arrays and objects nest no
+    /// `NotJson` if the tokens are not the rest of an array in which arrays and objects nest no
     /// deeper than `depth`; `NoMemory` if memory is refused, and only of a kind that
     /// `takes_memory`. The reader is then anywhere in the text.
     ///
@@ -80,10 +81,10 @@ pub trait PieceKind {
         ensures memory { result ≡ Err NoMemory → takes_memory ≡ true }
         ensures shorter { OnOk result (length reader.new < length reader.old) };
 
-    /// The piece whose elements stand at a place of a text in plain form, after the bracket that
-    /// opens it. The place is then behind the bracket that closes it. None if no piece stands there,
-    /// or the elements have no plain form: the place is then anywhere, and `read` decides. A kind
-    /// may always answer none.
+    /// The piece with the elements at a place of a text in plain form, after the bracket that opens
+    /// it. The place is then behind the bracket that closes it. None if no piece is there, or the
+    /// elements have no plain form: the place is then anywhere, and `read` decides. A kind may
+    /// always answer none.
     ///
     /// # Errors
     ///
@@ -116,7 +117,7 @@ pub struct Pieces<P> {
     pub count: usize,
     /// Whether all elements of the array are pieces.
     pub are_all: bool,
-    /// The index of the first of them that version 1 has not, if there is one.
+    /// The index of the first of them that version 1 lacks, if there is one.
     pub first_new: Option<usize>,
 }
 
@@ -170,14 +171,13 @@ fn next_count(count: usize) -> Result<usize, Stop>
 ///
 /// # Errors
 ///
-/// `NotJson` if what comes is not the rest of an array in which arrays and objects nest no
-/// deeper than `depth`; `NoMemory` if memory is refused. The reader is then anywhere in the
-/// text.
+/// `NotJson` if the tokens are not the rest of an array in which arrays and objects nest no deeper
+/// than `depth`; `NoMemory` if memory is refused. The reader is then anywhere in the text.
 ///
 /// # Cost
 ///
-/// Time in proportion to the text that is read, where that of `K::read` and `K::is_old` is so;
-/// memory for the pieces that are kept, and what `K::read` takes.
+/// Time in proportion to the text that is read, if that of `K::read` and `K::is_old` is so; memory
+/// for the pieces that are kept, and what `K::read` takes.
 pub fn pieces_in<K: PieceKind>(
     alloc: Global,
     reader: &mut Reader<'_>,

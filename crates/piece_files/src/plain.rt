@@ -1,4 +1,4 @@
-//! Plain values, of which elements are kept: null, a text, or a whole number below 2^64. An element
+//! Plain values, the elements that are kept: null, a text, or a whole number below 2^64. An element
 //! takes no memory.
 
 ghost use Rattle.std.specs.Prelude.{◌≡◌, ◌∷◌, ◌<◌, ◌≤◌, List, length, Some, None, option_map, IfOk, OnOk, OnErr};
@@ -78,9 +78,8 @@ pub(crate) fn plain_value<'a>(
 ///
 /// # Errors
 ///
-/// `Invalid` if what comes is not the rest of an array in which arrays and objects nest no
-/// deeper than `depth`, or a number is too large for a float. The reader is then anywhere in the
-/// text.
+/// `Invalid` if the tokens are not the rest of an array in which arrays and objects nest no deeper
+/// than `depth`, or a number is too large for a float. The reader is then anywhere in the text.
 ///
 /// # Cost
 ///

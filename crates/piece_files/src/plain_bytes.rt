@@ -1,7 +1,7 @@
 //! JSON in plain form, read straight from its bytes: white space, commas and brackets, keys, and
-//! plain values, of which a text has no escapes and a number has at most 19 digits. The reader of
-//! JSON makes an index of the whole text first, which costs more than all else. It reads what has
-//! another form: each function here answers none, or that nothing is there, if it meets any.
+//! plain values; a text has no escapes, and a number at most 19 digits. The reader of JSON makes an
+//! index of the whole text first, which costs more than all else. It reads what has another form:
+//! each function here answers none, or that nothing is there, if it meets any.
 ghost use Rattle.std.specs.Prelude.{◌≡◌, ◌+◌, ◌∷◌, ◌<◌, ◌≤◌, [], ℕ, true, length, take, drop, get_or, IfSome};
 ghost use Rattle.std.specs.List.{All};
 ghost use Rattle.std.specs.Str.Parse.{AllDigits, digits_value};
@@ -15,7 +15,7 @@ ghost use Rattle.piece_files.specs.PlainBytes.{Passed, Comma, Closes, Finishes, 
 
 use crate::plain::Plain;
 
-/// So many digits always are a number below 2^64.
+/// The most digits with which a number is always below 2^64.
 const FEW: usize = 19;
 
 /// Whether a byte is white space.
@@ -26,7 +26,7 @@ fn is_space(byte: u8) -> bool
     byte == b' ' || byte == b'\t' || byte == b'\n' || byte == b'\r'
 }
 
-/// Where white space at a place ends.
+/// The end of the white space at a place.
 #[inline(always)]
 fn spaces_end(bytes: &[u8], start: usize) -> usize
     requires { start ≤ length bytes.now }
@@ -40,7 +40,7 @@ fn spaces_end(bytes: &[u8], start: usize) -> usize
     at
 }
 
-/// Whether a byte stands at a place.
+/// Whether a byte is at a place.
 #[inline(always)]
 fn is_at(bytes: &[u8], at: usize, byte: u8) -> bool
     ensures { result ≡ true
@@ -49,7 +49,7 @@ fn is_at(bytes: &[u8], at: usize, byte: u8) -> bool
     at < bytes.len() && bytes[at] == byte
 }
 
-/// Whether nothing but white space stands from a place on.
+/// Whether only white space follows a place.
 #[tactic(auto, using(crate::proofs::PlainLemmas::all_passed))]
 pub(crate) fn is_over(bytes: &[u8], at: usize) -> bool
     requires { at ≤ length bytes.now }
@@ -58,7 +58,7 @@ pub(crate) fn is_over(bytes: &[u8], at: usize) -> bool
     spaces_end(bytes, at) == bytes.len()
 }
 
-/// Where the next element or member begins, if a comma comes next.
+/// The place of the next element or member, if a comma is next.
 #[inline(always)]
 pub(crate) fn after_comma(bytes: &[u8], at: usize) -> Option<usize>
     requires { at ≤ length bytes.now }
@@ -72,7 +72,7 @@ pub(crate) fn after_comma(bytes: &[u8], at: usize) -> Option<usize>
     Some(spaces_end(bytes, comma + 1))
 }
 
-/// Where an array ends, if its closing bracket comes next.
+/// The end of an array, if its closing bracket is next.
 #[inline(always)]
 pub(crate) fn after_bracket(bytes: &[u8], at: usize) -> Option<usize>
     requires { at ≤ length bytes.now }
@@ -86,7 +86,7 @@ pub(crate) fn after_bracket(bytes: &[u8], at: usize) -> Option<usize>
     Some(bracket + 1)
 }
 
-/// Whether the closing brace of an object comes next, and nothing after it.
+/// Whether the closing brace of an object is next, and nothing after it.
 #[tactic(auto, using(crate::proofs::PlainLemmas::finishing))]
 pub(crate) fn is_last_brace(bytes: &[u8], at: usize) -> bool
     requires { at ≤ length bytes.now }
@@ -99,7 +99,7 @@ pub(crate) fn is_last_brace(bytes: &[u8], at: usize) -> bool
     is_over(bytes, brace + 1)
 }
 
-/// Where the first element begins, if the opening bracket of an array stands at a place.
+/// The place of the first element, if the opening bracket of an array is at a place.
 #[inline(always)]
 #[tactic(auto, using(crate::proofs::PlainLemmas::opening))]
 pub(crate) fn after_open(bytes: &[u8], at: usize) -> Option<usize>
@@ -112,7 +112,7 @@ pub(crate) fn after_open(bytes: &[u8], at: usize) -> Option<usize>
     Some(spaces_end(bytes, at + 1))
 }
 
-/// Where the first member begins, if the bytes open an object.
+/// The place of the first member, if the bytes open an object.
 #[tactic(auto, using(crate::proofs::PlainLemmas::opening_object))]
 pub(crate) fn after_open_brace(bytes: &[u8]) -> Option<usize>
     ensures place { IfSome result (λ start. start ≤ length bytes.now) }
@@ -162,7 +162,7 @@ fn digits_in(bytes: &[u8]) -> (u64, usize)
     (number, len)
 }
 
-/// The number at a place, and where it ends.
+/// The number at a place, and its end.
 #[inline(always)]
 fn number_at(bytes: &[u8], at: usize) -> Option<(u64, usize)>
     requires { at ≤ length bytes.now }
@@ -177,7 +177,7 @@ fn number_at(bytes: &[u8], at: usize) -> Option<(u64, usize)>
     Some((number, at + len))
 }
 
-/// Where `null` at a place ends.
+/// The end of `null`, if it is at a place.
 #[inline(always)]
 fn null_at(bytes: &[u8], at: usize) -> Option<usize>
     requires { at ≤ length bytes.now }
@@ -196,7 +196,7 @@ fn null_at(bytes: &[u8], at: usize) -> Option<usize>
     Some(at + 4)
 }
 
-/// The text at a place, and where it ends.
+/// The text at a place, and its end.
 #[inline(always)]
 fn text_at(text: &str, at: usize) -> Option<(&str, usize)>
     ensures place { IfSome result (λ found. (at < found.1) × (found.1 ≤ length text.now)) }
@@ -215,7 +215,7 @@ fn text_at(text: &str, at: usize) -> Option<(&str, usize)>
     Some((&text[start..end], end + 1))
 }
 
-/// The plain value at a place, and where it ends.
+/// The plain value at a place, and its end.
 #[inline(always)]
 pub(crate) fn plain_at(text: &str, at: usize) -> Option<(Plain<'_>, usize)>
     requires { at ≤ length text.now }
@@ -234,7 +234,7 @@ pub(crate) fn plain_at(text: &str, at: usize) -> Option<(Plain<'_>, usize)>
     Some((Plain::Null, end))
 }
 
-/// The key at a place, and where its value begins.
+/// The key at a place, and the place of its value.
 #[tactic(auto, using(crate::proofs::PlainLemmas::key_is))]
 pub(crate) fn key_at(text: &str, at: usize) -> Option<(&str, usize)>
     requires { at ≤ length text.now }

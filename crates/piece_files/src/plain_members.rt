@@ -16,8 +16,8 @@ use crate::plain_bytes::{
 use crate::plain_pieces::pieces_at;
 use std::alloc::{AllocError, Global};
 
-/// The array of pieces at a place, which is then behind it. None if none stands there in plain
-/// form.
+/// The array of pieces at a place, which is then behind it. None if no array in plain form is
+/// there.
 fn array_at<K: PieceKind>(
     alloc: Global,
     text: &str,
@@ -37,7 +37,7 @@ fn array_at<K: PieceKind>(
     pieces_at::<K>(alloc, text, at, MAX_DEPTH - 2)
 }
 
-/// Takes a further member of this key, whose value stands at a place, which is then behind it.
+/// Takes a further member with this key, whose value is at a place, which is then behind it.
 /// Answers whether it has plain form.
 fn take_plain_member<K: PieceKind, const N: usize>(
     found: &mut Found<K::Piece, N>,
@@ -80,7 +80,7 @@ fn take_plain_member<K: PieceKind, const N: usize>(
     Ok(true)
 }
 
-/// What is found of the members of the object that a text is. None if the text has no plain form.
+/// The findings in the members of the object that a text is. None if the text has no plain form.
 pub(crate) fn plain_members_in<K: PieceKind, const N: usize>(
     alloc: Global,
     text: &str,

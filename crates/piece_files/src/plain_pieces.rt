@@ -1,5 +1,5 @@
-//! Pieces in plain form, read one after the other: one loop for all kinds of pieces. Where a piece
-//! is none, or there are more than a kind keeps, this reader gives up, and the reader of JSON
+//! Pieces in plain form, read one after the other: one loop for all kinds of pieces. If an element
+//! is no piece, or there are more than a kind keeps, this reader gives up, and the reader of JSON
 //! decides what is wrong.
 ghost use Rattle.std.specs.Prelude.{◌≡◌, ◌^◌, ◌<◌, ◌≤◌, List, length, drop, Some, IfOk, IfSome, option_and_then};
 ghost use Rattle.json.specs.Lex.{after_value};
@@ -17,7 +17,7 @@ use std::alloc::{AllocError, Global};
 /// room again and again costs more than to read some pieces.
 const FIRST_ROOM: usize = 16;
 
-/// The piece at a place, which is then behind it. None if no piece stands there in plain form.
+/// The piece at a place, which is then behind it. None if no piece in plain form is there.
 #[inline(always)]
 fn piece_at<K: PieceKind>(
     alloc: Global,
@@ -52,8 +52,8 @@ fn piece_at<K: PieceKind>(
 ///
 /// # Cost
 ///
-/// Time in proportion to the text that is read, where that of `K::read_plain` and `K::is_old` is
-/// so; memory for the pieces, for 16 at least, and what `K::read_plain` takes.
+/// Time in proportion to the text that is read, if that of `K::read_plain` and `K::is_old` is so;
+/// memory for the pieces, for 16 at least, and what `K::read_plain` takes.
 pub fn pieces_at<K: PieceKind>(
     alloc: Global,
     text: &str,

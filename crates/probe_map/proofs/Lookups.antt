@@ -1,4 +1,4 @@
--- What the pairs of the slots have at a key, if at most one slot has it.
+-- The value that the pairs of the slots have at a key, if at most one slot has it.
 use Rattle.std.proofs.Common.{◌≡◌, ◌≢◌, ℕ, zero, suc, ◌+◌, ◌<◌, false, cond, List, [], ◌∷◌, length, Option, None, Some, count_by, sym, refl, ◌∙◌, ap, nat_eq, arith, eq-eqb, ne_eqb, set, get_or, drop, replicate, ◌≤◌}
 use Rattle.std.specs.List.{AllByRecursion, IsDistinct}
 use Rattle.std.specs.Map.{keys_of, lookup}
@@ -58,7 +58,7 @@ length-pairs_of (Empty ∷ slots) = length-pairs_of slots ∙ sym (sum_by-cons (
 length-pairs_of (Removed k ∷ slots) = length-pairs_of slots ∙ sym (sum_by-cons (λ s. cond (is_full s) 1 0) (Removed k) slots ∙ omega arith)
 length-pairs_of (Full k v ∷ slots) = let rest = length-pairs_of slots in let sum = sum_by-cons (λ s. cond (is_full s) 1 0) (Full k v) slots in omega arith
 
--- Where no key is in two slots, the pairs have different keys.
+-- If no key is in two slots, the pairs have different keys.
 others : (slots : List Slot) (key : ℕ) → ((m : ℕ) → m < length slots → key_at slots m ≢ Some key) → AllByRecursion (λ other. nat_eq key other ≡ false) (keys_of (pairs_of slots))
 others [] key none = tt
 others (Empty ∷ slots) key none = others slots key (λ m lt. none (suc m) (omega arith))

@@ -14,7 +14,7 @@ use Rattle.probe_map.specs.MapAt.{map_of}
 abbrev Pair : Type 0
 Pair = ℕ × ℕ
 
--- It has at each key the value of the key's first pair.
+-- The map of pairs has at each key the value of the key's first pair.
 pub get-map_of : (pairs : List Pair) (q : ℕ) → get (map_of pairs) q ≡ lookup (nat_eq q) pairs
 get-map_of [] q = refl
 get-map_of (pair ∷ pairs) q = get-insert (map_of pairs) pair.0 pair.1 q ∙ ap (cond (q == pair.0) (Some pair.1)) (get-map_of pairs q)
@@ -25,7 +25,7 @@ same_eqb a b = elim (cases_eq a b) [
   | inr other ↦ ne_eqb a b other ∙ sym (ne_eqb b a (λ e. other (sym e)))
 ]
 
--- Where one key has another value, and each other key the same, that key was set.
+-- If one key has another value, and each other key the same, that key was set.
 pub set_lookups : (es fs : List Pair) (key : ℕ) (value : Option ℕ) → ((q : ℕ) → lookup (nat_eq q) fs ≡ cond (nat_eq key q) value (lookup (nat_eq q) es)) → map_of fs ≡ set_at (map_of es) key value
 set_lookups es fs key value sets = same_map (map_of fs) (set_at (map_of es) key value) (λ q.
     get-map_of fs q ∙ sets q ∙ ap (λ b. cond b value (lookup (nat_eq q) es)) (same_eqb key q)

@@ -1,4 +1,4 @@
--- What follows from where the probes stop: a key is at one place, and at none if its probe stops at
+-- Consequences of where the probes stop: a key is at one place, and at none if its probe stops at
 -- an empty place; and the probes of all others go on as before if a key is put there.
 use Rattle.std.proofs.Common.{◌≡◌, ◌≢◌, ℕ, ◌<◌, ◌≤◌, ◌⊎◌, true, false, Option, Some, None, inl, inr, ⊎_elim, arith, refl, sym, ap, subst, ◌∙◌, eq-eqb}
 use Rattle.std.proofs.lemmas.Bool.{cases_eq, cases_lt, eqb-true, false≢true}

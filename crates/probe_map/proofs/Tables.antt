@@ -1,4 +1,5 @@
--- What a sound table has at a key, and what a write at the place where the key's probe stops leaves.
+-- The value of a key in a sound table, and the table after a write at the place where the key's
+-- probe stops.
 use Rattle.std.proofs.Common.{◌≡◌, ◌≢◌, ℕ, suc, ◌+◌, ◌-◌, ◌<◌, ◌≤◌, Bool, true, false, cond, List, [], ◌∷◌, length, Option, None, Some, count_by, set, get_or, refl, sym, ap, subst, ◌∙◌, ⊎_elim, arith, nat_eq, IsPermutation, not, is_some}
 use Rattle.std.specs.List.{IsDistinct}
 use Rattle.std.specs.Map.{keys_of}
@@ -114,7 +115,7 @@ removed_none m key none = same_map m (set_at m key None) (λ q. ⊎_elim
     (λ (e : q ≡ key). ap (get m) e ∙ none ∙ sym (get-set_at m key None q ∙ ap (λ b. cond b None (get m q)) (eq-eqb q key e)))
     (λ (ne : q ≢ key). sym (get-set_at m key None q ∙ ap (λ b. cond b None (get m q)) (ne_eqb q key ne))) (cases_eq q key))
 
--- Where there is an empty slot, a probe stops.
+-- A probe stops at an empty slot.
 in_use : (slot : Slot) (key : ℕ) → stops (key_in slot) key ≡ false → is_empty slot ≡ false
 in_use Empty key goes = absurd (false≢true (sym goes))
 in_use (Removed k) key goes = refl
@@ -146,7 +147,7 @@ all_empty slots room shift none few full = record {
   len_is = sym full;
 }
 
--- What is read at a place.
+-- The slot that is read at a place.
 read_is : (slots : List Slot) (place : ℕ) (slot : Slot) → place < length slots → slot ≡ get_or slots place slot → slot ≡ slot_at slots place
 read_is slots place slot lt read = read ∙ get_or_default slots place slot Empty lt
 

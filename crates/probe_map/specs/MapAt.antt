@@ -8,7 +8,7 @@ use base.Stored.{coded_via}
 use Rattle.txn_words.specs.Map.{Map, empty, insert}
 use Rattle.txn_words.proofs.Maps.{same_map}
 
--- The content, and how many keys can be put without memory that are not there.
+-- The content, and how many new keys can be put without memory.
 pub record MapAt : Type 0 where
   pub content : Map
   pub spare : ℕ

@@ -1,5 +1,5 @@
--- A probe for a key: the places that it looks at, one after the other, and where it stops. What
--- keys the places have is a function, so that nothing here depends on how they are stored.
+-- A probe for a key: the places that it looks at, one after the other, and where it stops. The keys
+-- of the places are a function, so that nothing here depends on how they are stored.
 use Rattle.std.specs.Prelude.{◌≡◌, ℕ, ◌==◌, ◌<◌, ◌≤◌, ◌⊎◌, Bool, true, false, Option, Some, None}
 
 -- Whether a probe for a key stops at a place that has this key, or none: the place is empty, or it
@@ -8,12 +8,12 @@ abbrev pub stops : Option ℕ → ℕ → Bool
 stops None key = true
 stops (Some other) key = other == key
 
--- A probe that begins at `home` and goes round comes to `j` before it comes to `i`.
+-- A probe that begins at `home` and goes round reaches `j` before `i`.
 abbrev pub IsBefore : ℕ → ℕ → ℕ → Type 0
 IsBefore home j i =
     ((home ≤ j) × (j < i)) ⊎ (((j < i) × (i < home)) ⊎ ((i < home) × (home ≤ j)))
 
--- A probe for a key, over the first `count` places, does not stop before it comes to `i`.
+-- A probe for a key, over the first `count` places, does not stop before it reaches `i`.
 abbrev pub LeadsTo : (ℕ → Option ℕ) → ℕ → ℕ → ℕ → ℕ → Type 0
 LeadsTo keys count home key i =
     (j : ℕ) → j < count → IsBefore home j i → stops (keys j) key ≡ false

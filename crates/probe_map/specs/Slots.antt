@@ -1,4 +1,4 @@
--- What the slots of a map hold, and when they are sound.
+-- The content of a map's slots, and when they are sound.
 use Rattle.std.specs.Prelude.{◌≡◌, ℕ, ◌*◌, ◌/◌, ◌%◌, ◌^◌, ◌-◌, ◌<◌, ◌≤◌, Bool, true, false, Option, Some, None, List, [], ◌∷◌, length, count_by, slice_index_or, nat_lt, if◌then◌else◌}
 use Rattle.probe_map.specs.declared.slot.Slot.{Slot}
 use Rattle.probe_map.specs.declared.slot.Slot.TheVariants.{Empty, Removed, Full}
@@ -52,8 +52,8 @@ pub record StopsAt (slots : List Slot) (start key place : ℕ) : Type 0 where
   pub stops : stops (key_at slots place) key ≡ true
   pub leads : LeadsTo (key_at slots) (length slots) start key place
 
--- The slots are sound: each key is where its probe stops, there are enough empty slots for the keys
--- that there is said to be room for, and `len` slots have a value.
+-- The slots are sound: each key is where its probe stops, there are at least `room` empty slots,
+-- and `len` slots have a value.
 pub record IsTable (slots : List Slot) (room len shift : ℕ) : Type 0 where
   pub probed : IsProbed (key_at slots) (length slots) (home (length slots) shift)
   pub room_is : room ≤ count_by is_empty slots

@@ -50,7 +50,7 @@ impl Model for ProbeMap {
     ghost invariant = { λ m. IsTable m.slots.items m.room m.len m.shift };
 }
 
-/// How many slots an array has that has room for these keys: they leave an eighth of them empty.
+/// The number of slots of an array with room for these keys: they leave an eighth of them empty.
 fn count_for(keys: usize) -> Option<usize>
     ensures { IfSome result (λ count. keys ≤ most_used count) }
 {
@@ -60,8 +60,8 @@ fn count_for(keys: usize) -> Option<usize>
         .checked_next_power_of_two()
 }
 
-/// For how many keys a map that grows is made anew, so that at most half of its slots have a key at
-/// first, and of a map of few keys at most a quarter.
+/// The number of keys for which a map that grows is made again, so that at most half of its slots
+/// have a key at first, and of a map of few keys at most a quarter.
 fn grown(len: usize, more: usize) -> Option<usize>
     ensures { IfSome result (λ keys. len + more ≤ keys) }
 {
@@ -154,7 +154,7 @@ impl ProbeMap {
     ///
     /// # Cost
     ///
-    /// Constant time on the average, but for keys whose homes collide: the hash is fixed.
+    /// Constant time on the average, except for keys whose homes collide: the hash is fixed.
     #[inline(always)]
     pub fn get(&self, key: u64) -> Option<u64>
         ensures { result ≡ get self.now.content key }
@@ -172,7 +172,7 @@ impl ProbeMap {
         self.len
     }
 
-    /// Gives a key a value, and answers the value before it. Wants room for a key (`reserve`).
+    /// Gives a key a value, and answers the value before it. Needs room for a key (`reserve`).
     ///
     /// # Cost
     ///

@@ -37,7 +37,7 @@ fn first_stop(slots: &[Slot], key: u64) -> Option<usize>
     None
 }
 
-/// The place at which a probe stops, if it does not come back to its start.
+/// The place at which a probe stops, if it stops within one round.
 #[inline(always)]
 fn probe(slots: &[Slot], start: usize, key: u64) -> Option<usize>
     requires { start ≤ length slots.now }
@@ -52,7 +52,7 @@ fn probe(slots: &[Slot], start: usize, key: u64) -> Option<usize>
     }
 }
 
-/// The place at which the probe for a key stops, if it does not come back to the key's home.
+/// The place at which the probe for a key stops, if it stops within one round.
 #[inline(always)]
 pub(crate) fn find(slots: &Vec<Slot>, shift: u32, key: u64) -> Option<usize>
     ensures some { IfSome result (λ place.

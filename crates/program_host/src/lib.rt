@@ -1,4 +1,4 @@
-//! What the programs share, below their command lines: the system that a program runs on.
+//! The system that a program runs on; all programs share it, below their command lines.
 //!
 //! `System` is what a program needs of it, the words of the call and files, so that a program can be
 //! tried on a system in memory; `Host` is the system behind a runtime. `specs/Words.antt` has two

@@ -100,7 +100,7 @@ const NOT_JSON: Option<FileFault> = Some(FileFault::NotJson);
 
 const WRONG_STEP: Option<FileFault> = Some(FileFault::Piece(Part::Step, 0));
 
-/// Values nested in more than 127 levels, where the object of the file is one, and the array of its
+/// Values nested in more than 127 levels; the object of the file is one level, and the array of its
 /// steps another; and more than 10,000 scripts or actions, which is found only after the wrong
 /// script behind them.
 const GROWN: &[Grown] = &[

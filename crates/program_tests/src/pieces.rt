@@ -14,8 +14,7 @@ use std::alloc::{AllocError, Global};
 use std::process::Abort;
 use std::test::Fail;
 
-/// Points, two numbers each, of which a file may have three. Version 1 has none whose second number
-/// is 0.
+/// Points, two numbers each; a file may have three. Version 1 has none whose second number is 0.
 struct PointKind;
 
 impl PieceKind for PointKind {
@@ -544,7 +543,7 @@ fn values_in_a_row(rt: HostRuntime) -> Result<(), Fail> {
     compare_row(&rt, rt.alloc(), &mut reader)
 }
 
-/// Texts behind an opening bracket, and where an array of at most two plain elements ends.
+/// Texts behind an opening bracket, and the end of an array of at most two plain elements.
 const PLAIN: &[(&str, Option<usize>)] = &[
     ("1,2],3", Some(4)),
     ("null]", Some(5)),

@@ -46,7 +46,7 @@ first_live ws w is = record {
   lives = ap (λ b. cond b 1 0) is;
 }
 
--- At a place of the list stands the number of the worker at this place among the live ones.
+-- The list has at a place the number of the worker at this place among the live ones.
 abbrev Stands : List Worker → ℕ → List ℕ → ℕ → ℕ → Type 0
 Stands ws n numbers place d = (i : ℕ) × (get_or numbers place d ≡ n + i) × IsAtPlace ws place i
 

@@ -28,7 +28,7 @@ live_from n (worker ∷ workers) =
 abbrev pub AreDone : List Worker → Type 0
 AreDone workers = All (λ (worker : Worker). worker.task ≡ None) workers
 
--- The worker of this number is live, and `place` live ones stand before it.
+-- The worker of this number is live, and `place` live ones precede it.
 pub record IsAtPlace (workers : List Worker) (place number : ℕ) : Type 0 where
   pub within : number < length workers
   pub before : live (take number workers) ≡ place

@@ -51,7 +51,7 @@ pub play_lower : (w : ℕ) (scripts : List (List Action)) (c low low' : ℕ) (pa
 play_lower w scripts c low low' [] less play = tt
 play_lower w scripts c low low' (part ∷ parts) less play = (play.0, play.1, less play.0 play.2 play.3.mine, play.3, play.4, play.5)
 
--- What is known of the outcomes of a caller's scripts.
+-- The facts about the outcomes of a caller's scripts.
 pub record Known (w : ℕ) (scripts : List (List Action)) (h : List Entry) (c next turn fed : ℕ) (os : List Outcome) : Type 0 where
   pub each : (n : ℕ) (script : List Action) (o : Outcome) → IsScriptOf w scripts c n script → slice_get os n ≡ Some o → HasCome c script h o
   pub past : (n : ℕ) (o : Outcome) → n % w ≡ c → slice_get os n ≡ Some o → IsPast next turn fed n o
@@ -132,7 +132,7 @@ known_written w scripts h c next turn fed next' turn' os os' number x is within 
     read : (n : ℕ) (o : Outcome) → slice_get os' n ≡ Some o → ((n ≡ number) × (o ≡ x)) ⊎ (slice_get os n ≡ Some o)
     read n o there = read_written os number x n o within (ap (λ ys. slice_get ys n) (sym is) ∙ there)
 
--- What is known of a caller's scripts after the first entries.
+-- The facts about a caller's scripts after the first entries.
 pub record Follows (w : ℕ) (scripts : List (List Action)) (h : List Entry) (c fed : ℕ) (os : List Outcome) (way : Way) : Type 0 where
   pub part : way.part.items ≡ last_of c (take fed h)
   pub next : way.next % w ≡ c
@@ -325,7 +325,7 @@ own_follows w scripts h c fed (entries.Aborted d) os os' old new at mine sized g
 own_follows w scripts h c fed e os os' old new at mine sized goes f =
     quiet_follows w scripts h c fed e at os os' old new mine sized f goes.part goes.on refl goes.counts.0 goes.counts.1
 
--- What is known of each worker after the first entries.
+-- The facts about each worker after the first entries.
 pub record AllFollow (w : ℕ) (scripts : List (List Action)) (h : List Entry) (fed : ℕ) (os : List Outcome) (ways : List Way) : Type 0 where
   pub size : length ways ≡ w
   pub one_each : length os ≡ length scripts

@@ -33,13 +33,13 @@ pub record Aborts (c : ℕ) (script : List Action) (entry : ℕ) (h : List Entry
   pub at : slice_get h entry ≡ Some (entries.Aborted c)
   pub did : AbortsItself script (last_of c (take (entry + 1) h))
 
--- What an outcome says of the history.
+-- The meaning of an outcome for the history.
 abbrev pub HasCome : ℕ → List Action → List Entry → Outcome → Type 0
 HasCome c script h (Committed place entry) = Commits c script place entry h
 HasCome c script h (Aborted entry) = Aborts c script entry h
 HasCome c script h GivenUp = Unit {0}
 
--- Two commits, or two aborts, of an earlier and a later script stand in this order.
+-- Two commits, or two aborts, of an earlier and a later script are in this order.
 abbrev pub AreInOrder : Outcome → Outcome → Type 0
 AreInOrder (Committed place entry) (Committed later_place later) = entry < later
 AreInOrder (Aborted entry) (Aborted later) = entry < later
@@ -73,10 +73,9 @@ AreCounted callers c fed h outcomes =
     (entry place : ℕ) → entry < fed → slice_get h entry ≡ Some (entries.Committed c place)
     → (n : ℕ) × (n % callers ≡ c) × (slice_get outcomes n ≡ Some (Committed place entry))
 
--- The outcomes of a caller's scripts in a history. Each is true of the history. Commits stand in
--- the order of the scripts, and so do aborts, so each transaction is counted for at most one
--- script. If the caller's transactions that commit play its scripts in order, each of them is
--- counted.
+-- The outcomes of a caller's scripts in a history. Each is true of the history. Commits are in the
+-- order of the scripts, and so are aborts, so each transaction is counted for at most one script.
+-- If the caller's transactions that commit play its scripts in order, each of them is counted.
 pub record AreOutcomesOf (callers : ℕ) (scripts : List (List Action)) (h : List Entry)
     (outcomes : List Outcome) (c : ℕ) : Type 0 where
   pub each : (n : ℕ) (script : List Action) (outcome : Outcome)

@@ -104,7 +104,7 @@ pub record Aborts (workers : ℕ) (scripts : List (List Action)) (entry : ℕ) (
       → AbortsItself script old.part.items))
       ⊎ (outcomes' ≡ outcomes)
 
--- What an entry with this index changes in the outcomes, if the transaction is this part after it.
+-- The change of the outcomes by an entry with this index, if the transaction is this part after it.
 abbrev pub CountsAt : ℕ → List (List Action) → Entry → ℕ → List Entry → Way → Way
     → List Outcome → List Outcome → Type 0
 CountsAt workers scripts (entries.Committed c place) entry part old new outcomes outcomes' =

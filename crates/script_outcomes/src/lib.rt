@@ -13,8 +13,8 @@
 //!   transaction by its number (`laws::committed_plays`).
 //! - One that is called aborted has an Aborted entry of its worker, whose transaction did exactly
 //!   the script's actions up to its own abort.
-//! - Commits stand in the order of the scripts, and so do aborts, so each transaction is counted
-//!   for at most one script.
+//! - Commits are in the order of the scripts, and so are aborts, so each transaction is counted for
+//!   at most one script.
 //! - If the caller's commits play its scripts in order, each of them is counted. So no commit is
 //!   missed in a history that `mix` prints (`laws::commits_are_counted`).
 //!

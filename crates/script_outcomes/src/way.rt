@@ -9,8 +9,7 @@ use crate::outcome::Outcome;
 use std::alloc::{AllocError, Global};
 use txn_trace::{Entry, Script};
 
-/// Scripts, where script `i` belongs to worker `i` modulo `workers`, and how often each is tried
-/// again.
+/// Scripts, and how often each is tried again; script `i` belongs to worker `i` modulo `workers`.
 #[derive(Drop)]
 pub(crate) struct Work<'a> {
     pub(crate) scripts: &'a [Script],

@@ -33,7 +33,7 @@ busy_fewer n m es le busy = let many = busy.enough in record { nothing = busy.no
 pub front_begun : (c : ℕ) (script : List Action) (txn : ℕ) → IsFront c script script txn [] (Began c txn ∷ [])
 front_begun c script txn = record { inner = []; whole = refl; quiet = refl; replied = refl; goes = λ rest plays. plays }
 
--- It has played some more actions.
+-- A transaction has played some more actions.
 pub front_more : (c : ℕ) (script left fewer : List Action) (txn : ℕ) (replies : List (Option ℕ)) (es added : List Entry) → CommitNothing added
     → ((rest : List Entry) → ArePlayed fewer rest → ArePlayed left (without_undone added ++ rest))
     → IsFront c script left txn replies es → IsFront c script fewer txn (replies ++ replies_in added) (es ++ added)
@@ -47,7 +47,7 @@ front_more c script left fewer txn replies es added quiet asked front = record {
       (front.goes (without_undone added ++ rest) (asked rest plays));
 }
 
--- It is committed.
+-- A transaction is committed.
 pub front_committed : (c : ℕ) (script : List Action) (txn place : ℕ) (replies : List (Option ℕ)) (es : List Entry) → IsFront c script [] txn replies es
     → IsPlayedBy c script txn place replies (es ++ Committed c place ∷ [])
 front_committed c script txn place replies es front = record {

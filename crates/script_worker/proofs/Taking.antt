@@ -24,7 +24,7 @@ after_other : (answer : Answer) (second : Option Step) → (answer ≡ Placed �
 after_other Placed second not = absurd (not refl)
 after_other answer second not = refl
 
--- What is left of a turn: its next step, and the step that may follow that one.
+-- The rest of a turn: its next step, and the step that may follow that one.
 abbrev pub TakesThen : {X : Type 0} → (X → Step → Answer → X → Type 0) → X → Option Step → X → Type 0
 TakesThen takes y None z = z ≡ y
 TakesThen takes y (Some step) z = (answer : Answer) × takes y step answer z

@@ -129,7 +129,7 @@ tolds_of (script ∷ scripts) (outcome ∷ outcomes) =
 tolds_of scripts outcomes = []
 
 -- The outcomes of all scripts are true of the history. Every `callers`-th script is a caller's,
--- beginning with the one of the caller's own number.
+-- beginning with the one that has the caller's number.
 abbrev pub AreAllTrue : ℕ → ℕ → List (List Action) → List Outcome → List Entry → Type 0
 AreAllTrue callers tries scripts outcomes h = (c : ℕ) → c < callers
     → AreTrue c tries h (tolds_of (every callers c scripts) (every callers c outcomes))

@@ -35,8 +35,8 @@ KeepsAt tries workers scripts w None seen =
     × AreAccounts w tries (tolds_of (every workers w scripts) outcomes) seen
 KeepsAt tries workers scripts w (Some task) seen = KeepsTask tries workers scripts w task seen
 
--- The worker's entries in the history so far are those of its scripts, each of which is tried again
--- this often.
+-- The worker's entries in the history so far are those of its scripts; each script is tried again
+-- at most `tries` times.
 pub record Keeps (scripts : List (List Action)) (tries : ℕ) (worker : Standing)
     (seen : List Entry) : Type 0 where
   pub number : worker.number < worker.limits.callers

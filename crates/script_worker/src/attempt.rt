@@ -9,12 +9,12 @@ use txn_trace::{Action, PackedAction, Refusal};
 /// The stage of an attempt at a script.
 #[derive(Clone, Copy, Debug, PartialEq, Eq)]
 pub enum Stage {
-    /// The transaction is to begin.
+    /// The next call is the begin.
     Beginning,
-    /// The action of this index, from 0, is to be done; if the script has no such action, the
-    /// transaction is to commit.
+    /// The next call is the action of this index, from 0; if the script has no such action, it is
+    /// the commit.
     Acting(usize),
-    /// The transaction is to abort, since a call was refused with this.
+    /// The next call is the abort, since a call was refused with this.
     Leaving(Refusal),
 }
 
@@ -155,7 +155,7 @@ impl Attempt {
         }
     }
 
-    /// The same attempt at another stage.
+    /// This attempt at another stage.
     fn goes_to(self, stage: Stage) -> Progress
         ensures { result ≡ Progress.Next (record { again = self.again; stage = stage }) }
     {

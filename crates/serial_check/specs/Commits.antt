@@ -19,13 +19,13 @@ use Rattle.serial_check.specs.Serializable.{txn_in, commits_right}
 use Rattle.serial_check.specs.Footprints.{FootsIf}
 use Rattle.serial_check.specs.Kept.{IsFresh, cell_of}
 
--- It is the footprint of the caller's transaction, if one is open.
+-- The footprint is that of the caller's transaction, if one is open.
 abbrev pub IsOfTxn : List Entry → ℕ → Footprint → Type 0
 IsOfTxn h c foot =
     (t : ℕ) → txn_in h c ≡ Some t → is_open t h ≡ true
     → FootsIf foot.is_torn (of t h) (cell_of foot) (log_of c h)
 
--- It is the footprint of the caller; it is empty if the caller is in no transaction.
+-- The footprint is that of the caller; it is empty if the caller is in no transaction.
 pub record IsOfCaller (h : List Entry) (c : ℕ) (foot : Footprint) : Type 0 where
   pub idle : is_running (seat_after (own c h)) ≡ false → IsFresh foot
   pub of_txn : IsOfTxn h c foot
@@ -36,7 +36,7 @@ pub record Keeps (h : List Entry) (commits : Commits) : Type 0 where
   pub values : Has (serial h) commits.values
   pub footprints : (c : ℕ) → IfSome (slice_get commits.footprints.items c) (IsOfCaller h c)
 
--- The new ones keep all that the old ones keep.
+-- The new commits keep all that the old ones keep.
 abbrev pub Stays : Commits → Commits → Type 0
 Stays old new = (h : List Entry) → Keeps h old → Keeps h new
 
@@ -46,7 +46,8 @@ pub record JudgesAt (h : List Entry) (e : Entry) (right : Bool) (new : Commits) 
   pub right_is : commits_right h e ≡ right
   pub keeps : right ≡ true → Keeps (h ++ e ∷ []) new
 
--- This holds after each history that the callers have entered, for an entry of right shape.
+-- The entry, if its shape is right, is judged as `JudgesAt` says after each history that the
+-- callers have entered.
 abbrev pub Judges : Entry → Callers → Commits → Bool → Commits → Type 0
 Judges e callers old right new =
     (h : List Entry) → HaveEntered h callers → Keeps h old → is_shaped h e ≡ true

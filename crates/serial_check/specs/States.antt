@@ -24,6 +24,6 @@ abbrev pub Judged : List Entry → Entry → Option Rule → State → Type 0
 Judged h e None new = Tells (h ++ e ∷ []) new
 Judged h e (Some rule) new = broken h e ≡ Some (number_of rule)
 
--- This holds after each history that the old state tells.
+-- The entry is judged as `Judged` says after each history that the old state tells.
 abbrev pub Judges : Entry → State → Option Rule → State → Type 0
 Judges e old rule new = (h : List Entry) → Tells h old → Judged h e rule new

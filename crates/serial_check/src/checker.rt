@@ -104,7 +104,7 @@ impl Checker {
     }
 
     /// The callers after the entries so far, as long as none is bad: the phase of each says which
-    /// entries may come next.
+    /// entries may follow.
     pub fn callers(&self) -> &Callers
         ensures { (h : List Entry) →
             IsFed h self.now → IsSerializable h → HaveEntered h result.now }

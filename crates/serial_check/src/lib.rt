@@ -12,9 +12,9 @@
 //! No transaction is run again, and no entry is kept. The replies of a transaction fit a map
 //! exactly if each key had, before the transaction's first operation there, that operation's reply:
 //! every later reply at that key follows from the transaction's own operations, or fits no map. So
-//! the checker keeps a *footprint* of each caller: for each key the value that it must have been
+//! the checker keeps a *footprint* of each caller: for each key the value that it must have had
 //! before, and its value now. A return to a savepoint restores the value now, but not the one that
-//! it must have been. The footprint is about every map, not only the present one, so another
+//! it must have had. The footprint is about every map, not only the present one, so another
 //! caller's commit changes none. At a Committed the keys are compared with the committed map, and
 //! written only if all fit. Comparing reads with the committed state is the validation of Kung and
 //! Robinson, "On Optimistic Methods for Concurrency Control" (TODS 1981).
@@ -27,7 +27,7 @@
 //! Proved: `check`, `check_packed`, and a `Checker` that was fed the same entries, answer what the
 //! definition `verdict` says, with the first bad entry, and they answer legal exactly if
 //! `IsSerializable` holds. An entry that is refused for lack of memory was not fed to the checker.
-//! What is legal by locks is serializable: `serializable`.
+//! A history that is legal by locks is serializable: `serializable`.
 #![tactic(auto)]
 
 mod checker;

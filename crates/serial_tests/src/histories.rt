@@ -209,8 +209,8 @@ fn feed_to(
     Ok(())
 }
 
-/// Whether a verdict may be found after the entry of a place, where the last one is wanted: legal
-/// up to the first bad entry, and from there on that entry.
+/// Whether a verdict is right after the entry of a place, if the last verdict is `wanted`: legal up
+/// to the first bad entry, and from there on that entry.
 fn may_be(found: Verdict, place: usize, wanted: Verdict) -> bool {
     match wanted {
         Verdict::Illegal { entry, .. } if entry <= place as u64 => found == wanted,

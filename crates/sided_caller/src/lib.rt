@@ -1,5 +1,6 @@
-//! A caller of a striped map with a *side value*: a value of the caller's own, as a count or a
-//! place in a file, whose changes are taken back with the transaction that they were made in.
+//! A caller of a striped map with a *side value*: a value that belongs to the caller, such as a
+//! count or a place in a file, whose changes are taken back with the transaction that they were
+//! made in.
 //!
 //! The model is the caller (`striped_map`) beside the side value with its levels (`undo_log`).
 //! Invariant: the side value has as many levels as the transaction, the beginning and each
@@ -7,7 +8,7 @@
 //!
 //! Proved: each call does to the map what the caller's own call does, and nothing else. The side
 //! value has after `back` the words that it had at that level, and after `abort`, and if an
-//! operation was busy, those that it had as the transaction began; `begin`, `commit` and all
+//! operation was busy, those that it had when the transaction began; `begin`, `commit` and all
 //! refusals leave it unchanged, and so do operations. No words are stored and none is copied: each
 //! change brings a job that takes it back (`Side`).
 //!

@@ -1,5 +1,5 @@
-//! A caller beside its side value. Each call is the caller's own, and then the side value follows
-//! what it answered.
+//! A caller beside its side value. Each call is made on the caller, and then the side value follows
+//! the answer.
 ghost use Rattle.std.specs.Prelude.{◌≡◌, ℕ, ◌+◌, ◌≤◌, ◌<◌, ◌%◌, ◌^◌, true, false, [], ◌∷◌, IfOk, IfErr, OnOk, OnErr, Some, None, length, if◌then◌else◌};
 ghost use mathlib.Core.List.{IsPrefix};
 ghost use Rattle.txn_words.specs.declared.entry.Entry.TheVariants.{Began, Asked, Did, Saved, Leave, Returned, Committed, Aborted};
@@ -129,8 +129,8 @@ impl<S: Side> SidedCaller<S> {
     ///
     /// # Errors
     ///
-    /// Those of `Caller::get`. If it was busy the side value has the words that it had as the
-    /// transaction began; of a refusal it is unchanged.
+    /// Those of `Caller::get`. If it was busy the side value has the words that it had when the
+    /// transaction began; after a refusal it is unchanged.
     ///
     /// # Cost
     ///
@@ -293,7 +293,7 @@ impl<S: Side> SidedCaller<S> {
     }
 
     /// Commits the transaction, gives its stripes back, and answers its place among all commits,
-    /// counted from 1, modulo 2^64. The side value stays as it is.
+    /// counted from 1, modulo 2^64. The side value is unchanged.
     ///
     /// # Errors
     ///
@@ -345,8 +345,8 @@ impl<S: Side> SidedCaller<S> {
         Ok(())
     }
 
-    /// Lets this caller see all that another caller of the map has seen, as `Caller::catch_up` does.
-    /// Transactions that are open and both side values stay as they are.
+    /// Lets this caller see all that another caller of the map has seen, as `Caller::catch_up`
+    /// does. Open transactions and both side values are unchanged.
     ///
     /// # Cost
     ///

@@ -1,5 +1,5 @@
 -- Parents and ancestors of buckets: an ancestor has some of the bucket's lowest bits and no other,
--- so its dummy stands before the bucket's.
+-- so its dummy precedes the bucket's.
 use Prim.Native.Nat.{zero, suc}
 use Rattle.std.proofs.Common.{◌≡◌, ◌≢◌, ℕ, ◌+◌, ◌*◌, ◌-◌, ◌/◌, ◌%◌, ◌^◌, ◌<◌, ◌≤◌, refl, sym, ◌∙◌, ap, arith, pow-suc, div-add-mod', add-mul, inl, inr}
 use Rattle.std.proofs.lemmas.Bool.{cases_lt}
@@ -86,7 +86,7 @@ pub IsAncestor-parent_of : (ancestor descendant : ℕ) → IsAncestor ancestor d
 unfolding ancestor_of
 IsAncestor-parent_of ancestor descendant is = record { steps = suc is.steps; reached = ap parent_of is.reached }
 
--- The dummy of an ancestor, other than the bucket itself, stands before the bucket's.
+-- The dummy of an ancestor, other than the bucket itself, precedes the bucket's.
 pub ancestor_before : (ancestor bucket : ℕ) → bucket < 2 ^ 32 → IsAncestor ancestor bucket → ancestor ≢ bucket → reversed ancestor < reversed bucket
 ancestor_before ancestor bucket small is other =
     let lowest = ancestor_of_lowest is.steps bucket small in
@@ -96,7 +96,7 @@ ancestor_before ancestor bucket small is other =
       | inr longer ↦ rw low (lowest_before lowest.0 bucket (omega (arith, lowest.1)) (omega arith) longer)
     ]
 
--- The dummies of the key's bucket and of its ancestors stand before the key.
+-- The dummies of the key's bucket and of its ancestors precede the key.
 pub ancestor_before_key : (ancestor key exponent : ℕ) → exponent ≤ 32 → IsAncestor ancestor (key % 2 ^ exponent) → reversed ancestor < split key
 ancestor_before_key ancestor key exponent small is =
     let within = mod_below key (2 ^ exponent) (pow_pos exponent) in
@@ -106,7 +106,7 @@ ancestor_before_key ancestor key exponent small is =
     let low : ancestor ≡ key % 2 ^ twice.0 = is.reached ∙ lowest.2 ∙ twice.2 in
     rw low (lowest_before_key twice.0 key (omega (arith, twice.1)))
 
--- No dummy of a word's lowest bits, or of an ancestor of these, stands behind the word.
+-- No dummy of a word's lowest bits, or of an ancestor of these, is behind the word.
 pub ancestor_not_behind : (ancestor word exponent : ℕ) → exponent ≤ 32 → word < 2 ^ 64 → IsAncestor ancestor (word % 2 ^ exponent) → reversed ancestor ≤ reversed word
 ancestor_not_behind ancestor word exponent small fits is =
     let within = mod_below word (2 ^ exponent) (pow_pos exponent) in

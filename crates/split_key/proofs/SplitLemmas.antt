@@ -151,7 +151,7 @@ split_odd key =
 pub reversed_even : (bucket : ℕ) → bucket < 2 ^ 63 → reversed bucket % 2 ≡ 0
 reversed_even bucket fits = omega (arith, bit_at_lowest (reversed bucket), bit_at-reversed bucket 0 (omega arith))
 
--- If a word has a 1 above its lowest `j` bits, these stand before the word.
+-- If a word has a 1 above its lowest `j` bits, these precede the word.
 pub lowest_before : (j word : ℕ) → j ≤ 64 → word < 2 ^ 64 → 2 ^ j ≤ word → reversed (word % 2 ^ j) < reversed word
 unfolding reversed
 lowest_before j word small fits longer =
@@ -169,7 +169,7 @@ lowest_before j word small fits longer =
     let at : (n : ℕ) → reversed_low 64 n ≡ reversed_low (j + k) n = λ n. ap (λ w. reversed_low w n) (sym width) in
     omega (arith, at low, at word, alone, whole, more, reversed_low_of_zero k)
 
--- The key's lowest bits stand before the key.
+-- The key's lowest bits precede the key.
 pub lowest_before_key : (bits key : ℕ) → bits ≤ 63 → reversed (key % 2 ^ bits) < split key
 unfolding split
 lowest_before_key bits key small =

@@ -1,4 +1,4 @@
--- A sort key as contracts see it, and what its fields stand for.
+-- A sort key as contracts see it, and the meaning of its fields.
 use Rattle.std.specs.Prelude.{◌≡◌, ℕ, ◌+◌, ◌%◌, ◌^◌, ◌<◌, ◌==◌, Bool, true, false, List, length, slice_index_or, nat_le, if◌then◌else◌}
 use Rattle.std.specs.Int.{w64, to_le_bytes, from_le_bytes}
 use Rattle.std.proofs.Common.{refl, arith, inl, inr, ne_eqb, eq-eqb}
@@ -33,7 +33,7 @@ seen bytes is_upper = record {
   key = key_in (word_of bytes) is_upper;
 }
 
--- These are eight bytes, and no dummy is of the upper half.
+-- The list has eight bytes, and no dummy is of the upper half.
 pub record IsPacked (bytes : List ℕ) (is_upper : Bool) : Type 0 where
   pub width : length bytes ≡ 8
   pub small : (place : ℕ) → slice_index_or bytes place 0 < 256

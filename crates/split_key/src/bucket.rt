@@ -22,8 +22,8 @@ pub fn parent(bucket: u32) -> u32
 }
 
 /// The bucket of a key in a table of this size, a power of two: the key's lowest bits. The dummies
-/// of the bucket and of all its ancestors stand before the key, so a search for the key may begin
-/// at any of them.
+/// of the bucket and of all its ancestors precede the key, so a search for the key may begin at any
+/// of them.
 pub fn bucket_of(key: Key, size: u32) -> u32
     requires { IsPowerOfTwo size }
     ensures value { result ≡ key % size }

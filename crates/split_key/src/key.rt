@@ -1,5 +1,5 @@
-//! Keys. A key is a number of 64 bits with a type of its own, so that it is not mistaken for a
-//! position, a bucket or a value. Files of version 1 hold only half keys, those below 2^63.
+//! Keys. A key is a number of 64 bits with its own type, so that it is not mistaken for a position,
+//! a bucket or a value. Files of version 1 hold only half keys, those below 2^63.
 ghost use Rattle.std.specs.Prelude.{◌≡◌, ℕ, ◌<◌, ◌≤◌, ◌^◌, MatchResult};
 ghost use Rattle.split_key.specs.Text.{bad_key_text};
 

@@ -4,9 +4,9 @@
 //! nodes, and parents of buckets.
 //!
 //! A split key is 64 bits in reverse order: a key's with its top bit set first, so that it is odd,
-//! or a bucket's unchanged, so that it is even. Sorted by split keys, the keys of one bucket stand
+//! or a bucket's unchanged, so that it is even. Sorted by split keys, the keys of one bucket are
 //! together, whatever power of two the table's size is, right behind the dummy node of the bucket:
-//! the digits of a split key begin with the lowest bits of the key, which say its bucket. The list
+//! the digits of a split key begin with the lowest bits of the key, which give its bucket. The list
 //! of a table of size 4 with the keys 0 to 7 is as follows; a number is shown by its lowest four
 //! bits, a split key by its first four and its last four:
 //!
@@ -35,12 +35,12 @@
 //! keys that differ only in that bit, as 1 and 2^63 + 1, share a split key. The list is therefore
 //! ordered by sort keys: by the split key, and if the split keys are equal by the key.
 //!
-//! A contract sees a key as its number, and the definitions stand in `specs/Split.antt` and
+//! A contract sees a key as its number; the definitions are in `specs/Split.antt` and
 //! `specs/Sort.antt`. Proved: each call answers what its definition says; two keys share a split
 //! key exactly if they agree below the top bit; different keys have different sort keys, and
-//! different buckets different split keys; the dummies of a bucket's ancestors stand before its
-//! own, and all of these before each of the bucket's keys; and a `BadKey` prints its text. Each
-//! call takes constant time and no memory.
+//! different buckets different split keys; the dummies of a bucket's ancestors precede its own, and
+//! all of these precede each of the bucket's keys; and a `BadKey` prints its text. Each call takes
+//! constant time and no memory.
 #![tactic(auto)]
 
 mod bucket;

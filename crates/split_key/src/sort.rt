@@ -16,7 +16,7 @@ use std::mem::size_of;
 /// by key. A dummy has key 0 here. No two nodes of a list have the same sort key.
 ///
 /// It takes 9 bytes, at any address. A split key tells all bits of its key but the top one, which
-/// stands beside it: so a node need not have the key again.
+/// is kept beside it: so a node need not have the key again.
 #[derive(Clone, Copy, Debug)]
 pub struct SortKey {
     split: [u8; 8],
@@ -121,8 +121,8 @@ impl SortKey {
         if self.is_upper { low + HALF } else { low }
     }
 
-    /// Whether this stands before the other: its split key is lower, or the split keys are equal
-    /// and its key is lower.
+    /// Whether this precedes the other: its split key is lower, or the split keys are equal and its
+    /// key is lower.
     pub fn is_before(self, other: SortKey) -> bool
         ensures { result ≡ is_before self other }
     {

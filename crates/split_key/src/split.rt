@@ -1,5 +1,5 @@
 //! Split keys of keys and of dummies. A key's ends in 1 and a dummy's in 0, so a bucket's dummy
-//! stands before the keys of the bucket.
+//! precedes the keys of the bucket.
 ghost use Rattle.std.specs.Prelude.{◌≡◌, ◌≢◌, ℕ, ◌%◌, ◌^◌, ◌<◌};
 ghost use Rattle.split_key.specs.Split.{reversed, split, IsAncestor};
 

@@ -1,4 +1,4 @@
--- What the calls of a part leave, from what they do to its map and its count of changes.
+-- The state after each call of a part, from the changes of its map and its count.
 use Rattle.std.proofs.Common.{◌≡◌, ℕ, false, true, cond, Option, None, sym, refl, ◌∙◌, ap}
 use Rattle.std.proofs.lemmas.Bool.{false≢true}
 use Rattle.txn_words.specs.declared.op.Op.{Op}
@@ -18,7 +18,7 @@ looked m owed (Put key v) reply looks is = absurd (false≢true (sym looks))
 looked m owed (Take key) reply looks is = absurd (false≢true (sym looks))
 looked m owed (PutIf key expected v) reply looks is = absurd (false≢true (sym looks))
 
--- What is a change of a key without a value may be a change.
+-- An operation that changes a key without a value may change a key.
 pub may_be : (op : Op) → changes op None ≡ true → may_change op ≡ true
 may_be (Get key) is = is
 may_be (Put key v) is = refl

@@ -1,4 +1,4 @@
--- What each call of a part answers and leaves.
+-- The answer of each call of a part, and the part after it.
 use Rattle.std.specs.Prelude.{◌≡◌, ℕ, ◌+◌, true, cond, Option}
 use Rattle.txn_words.specs.declared.op.Op.{Op}
 use Rattle.txn_words.specs.declared.refusal.Refusal.{Refusal}

@@ -1,8 +1,8 @@
--- What a map and a count of changes are as a part.
+-- A part, made of a map and a count of changes.
 use Rattle.std.specs.Prelude.{ℕ}
 use Rattle.txn_words.specs.Map.{Map}
 use Rattle.stripe_part.specs.PartAt.{PartAt}
 
--- What a contract sees of a map's content and of how many changes can be taken back.
+-- The part with a map's content and the number of changes that can be taken back.
 abbrev pub part_of : Map → ℕ → PartAt
 part_of content owed = record { content = content; owed = owed }

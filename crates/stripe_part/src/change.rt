@@ -1,5 +1,5 @@
-//! What is done to a map and the number of changes that can be taken back. These are functions of
-//! the two fields, and not methods of `CountedMap`, since its invariant does not hold between their
+//! Changes of a map and of the number of changes that can be taken back. These are functions of the
+//! two fields, and not methods of `CountedMap`, since its invariant does not hold between their
 //! steps.
 ghost use Rattle.std.specs.Prelude.{◌≡◌, ℕ, ◌+◌, ◌<◌, ◌≤◌, OnErr, IfOk, IfErr};
 ghost use Rattle.txn_words.specs.Map.{after, reply_of, set_at};

@@ -1,6 +1,6 @@
-//! What a part's box holds: a map, and how many changes can be taken back. The type's invariant:
-//! the map has room for as many keys, so that taking back needs no memory. What is done to the two
-//! fields stands in `change.rt`.
+//! The content of a part's box: a map, and how many changes can be taken back. The type's
+//! invariant: the map has room for as many keys, so that taking back needs no memory. The functions
+//! on the two fields are in `change.rt`.
 ghost use Rattle.std.specs.Prelude.{◌≡◌, ℕ, ◌<◌, IfOk, IfErr, OnErr};
 ghost use Rattle.txn_words.specs.Map.{count_of};
 ghost use Rattle.stripe_part.specs.PartAt.{nothing};
@@ -44,8 +44,8 @@ impl CountedMap {
         }
     }
 
-    /// An empty map with no change to take back, with room for this number of keys and one more,
-    /// as `apply` wants before each change.
+    /// An empty map with no change to take back, with room for this number of keys and one more, as
+    /// `apply` needs before each change.
     pub(crate) fn with_capacity(alloc: Global, keys: usize) -> Result<CountedMap, AllocError>
         ensures { IfOk result (λ map. map ≡ nothing) }
     {

@@ -1,16 +1,16 @@
 //! The map of one stripe of a map that is cut into stripes, which can take changes back.
 //!
-//! Whoever holds a stripe has its `Part` for himself, as plain memory. So a part needs none of what
+//! Only the holder of a stripe uses its `Part`, as plain memory. So a part needs nothing that
 //! callers in steps need: no cursors, no marked nodes, no buckets in split order. Inside is a
 //! `ProbeMap`.
 //!
 //! A contract sees a part as a `PartAt`: its `content`, a finite map, and how many changes of the
-//! open transaction are `owed`, that is, can be taken back without memory. Which these are, each
-//! with its key and the value before, its user keeps, in one log for all its parts: so an operation
-//! writes no memory of the part's but the map's.
+//! open transaction are `owed`, that is, can be taken back without memory. The user of the part
+//! keeps these changes, each with its key and the value before, in one log for all its parts: so an
+//! operation writes only the map.
 //!
 //! - `apply` answers and leaves what the operation does on that map, and owes one more, if it is a
-//!   change. A refusal leaves the part; a get is never refused.
+//! change. A refusal leaves the part unchanged; a get is never refused.
 //! - `take_back` gives the key of a change the value before it: the inverses of boosting (Herlihy
 //!   and Koskinen, "Transactional Boosting", PPoPP 2008, rule 3), which are run newest first. It
 //!   takes no memory.
@@ -23,7 +23,7 @@
 //! can be put back without memory: each operation that may be a change reserves that room, and a
 //! place for a new key, before it changes anything.
 //!
-//! A part grows by itself. `apply` takes amortized constant time, but for keys whose hashes
+//! A part grows by itself. `apply` takes amortized constant time, except for keys whose hashes
 //! collide; `take_back`, `settle` and `len` take constant time; `pairs` takes time in proportion to
 //! the keys. Only `with_capacity`, `apply` and `pairs` take memory.
 #![tactic(auto)]

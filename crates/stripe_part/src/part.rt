@@ -14,7 +14,7 @@ use txn_words::{Op, Refusal, Reply};
 /// The map of one stripe, which can take changes of the open transaction back.
 ///
 /// A contract sees a `PartAt`: the content, a finite map, and how many changes are owed, that is,
-/// can be taken back without memory. Which changes these are, its user keeps.
+/// can be taken back without memory. The user of the part keeps the changes themselves.
 ///
 /// # Cost
 ///
@@ -93,7 +93,7 @@ impl Part {
     ///
     /// # Cost
     ///
-    /// Amortized constant time, but for keys whose hashes collide: the hash is fixed. May take
+    /// Amortized constant time, except for keys whose hashes collide: the hash is fixed. May take
     /// memory, a get none.
     #[inline(always)]
     pub fn apply(&mut self, alloc: Global, op: Op) -> Result<Reply, Refusal>
@@ -113,8 +113,8 @@ impl Part {
     }
 
     /// Takes a change back: its key has the value before it, and all other keys what they have now.
-    /// One change less is owed. Wants a change (`changes`). Taken back newest first, the changes of
-    /// a transaction leave what was there before them.
+    /// One change fewer is owed. Needs a change (`changes`). Taken back newest first, the changes
+    /// of a transaction leave what was there before them.
     ///
     /// # Cost
     ///
@@ -129,7 +129,7 @@ impl Part {
         }
     }
 
-    /// Keeps all changes: they can be taken back no more.
+    /// Keeps all changes: they can no longer be taken back.
     ///
     /// # Cost
     ///

@@ -22,7 +22,7 @@ use Rattle.striped_map.specs.Steps.{Extends}
 use Rattle.striped_map.proofs.Hands.{own_extends}
 use Rattle.striped_map.proofs.Lands.{own-append}
 
--- A caller's own entries, cut where its last transaction begins.
+-- A caller's entries, cut where its last transaction begins.
 record Cut (c : ℕ) (es : List Entry) : Type 0 where
   front : List Entry
   txn : ℕ

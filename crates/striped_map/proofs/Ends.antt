@@ -1,4 +1,4 @@
--- What a hand has added by a step.
+-- The entries that a step of a hand adds.
 use Rattle.std.proofs.Common.{◌≡◌, ◌≢◌, ℕ, zero, suc, ◌-◌, ◌<◌, List, [], ◌∷◌, get_or, Option, sym, refl, ap, subst, ◌∙◌, arith}
 use Rattle.txn_words.specs.declared.entry.Entry.{Entry}
 use Rattle.txn_words.specs.declared.entry.Entry.TheVariants.{Asked, Did, Busy, Aborted}
@@ -45,7 +45,8 @@ pub cons_at : (l : List ℕ) (level : ℕ) → level ≢ 0 → get_or l (level -
 cons_at l zero ne = absurd (ne refl)
 cons_at l (suc k) ne = ap (λ (i : ℕ). get_or l i 0) (omega arith)
 
--- The same of an operation that was done, of one that was refused, and of one that found its stripe in other hands.
+-- As `moved_then`, for an operation that was done, one that was refused, and one whose stripe
+-- another caller held.
 pub moved_did : (map : StripedMap) (a b c : Hand) (op : Op) (reply : Option ℕ) → Moves map a [] b → Moves map b (Asked (known b.seat).number op ∷ Did (known b.seat).number reply ∷ []) c → Moves map a (Asked (known a.seat).number op ∷ Did (known a.seat).number reply ∷ []) c
 moved_did map a b c op reply x y = moved_then map a b c (λ k. Asked k op ∷ Did k reply ∷ []) x y
 
@@ -55,7 +56,7 @@ moved_busy map a b c op holder x y = moved_then map a b c (λ k. Busy k op holde
     (subst (λ (jobs : List (ℕ × Option ℕ)). Moves map b (Busy (known b.seat).number op holder ∷ undoing (known b.seat).number jobs (Aborted (known b.seat).number)) c)
     (due_same (known a.seat) (known b.seat) x.number_is (own_same (stripes_of map) (known a.seat).number (known a.seat).seen (known b.seat).seen x.goes)) y)
 
--- The same of a hand whose seat knows the same.
+-- A hand whose seat has the same view made the same step.
 pub moved_known : (map : StripedMap) (a b : Hand) (es : List Entry) → Moves map a es b → (c : Hand) → known c.seat ≡ known b.seat → Moves map a es c
 moved_known map a b es x c same = record {
   number_is = ap (λ (v : View). v.number) same ∙ x.number_is;
@@ -71,7 +72,7 @@ moved_still map a of = record { number_is = refl; retired_is = refl; made_is = r
 pub moved_on : (map : StripedMap) (a b c : Hand) → Moves map a [] b → Moves map b [] c → Moves map a [] c
 moved_on map a b c x y = moved_then map a b c (λ k. []) x y
 
--- What was held is held after a stripe was taken, and after the history went on.
+-- A stripe that was held is held after another was taken, and after the history went on.
 pub holds_taken : (n k : ℕ) (v w : View) (part : PartAt) → TakesIn n k v part w → (other : ℕ) → Holds v other → Holds w other
 holds_taken n k v w part t other hold = subst (λ (u : View). Holds u other) (sym t.view_is) (let h : 0 < times other v.held = hold in let more : 0 < times other (k ∷ v.held) = omega arith in more)
 

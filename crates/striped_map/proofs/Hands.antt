@@ -1,4 +1,4 @@
--- What each step leaves of the parts that a caller holds.
+-- How each step changes the parts that a caller holds.
 use Rattle.std.proofs.Common.{◌≡◌, ◌≢◌, ℕ, zero, suc, ◌+◌, ◌*◌, ◌/◌, ◌%◌, ◌<◌, ◌⊎◌, Bool, true, false, cond, List, [], ◌∷◌, ◌++◌, length, get_or, set, map, reverse, take, drop, Option, None, Some, slice_get, sym, refl, ◌∙◌, ap, subst, inl, inr, ⊎_elim, arith, eq-eqb, ne_eqb, append-nil, append_assoc}
 use mathlib.Core.Logic.{dite}
 use native.Mathlib.Decide.{ℕ_discrete}
@@ -66,7 +66,7 @@ place_in [] i a e = absurd (none_some a e)
 place_in (x ∷ xs) zero a e = omega arith
 place_in (x ∷ xs) (suc i) a e = let lt : i < length xs = place_in xs i a e in omega arith
 
--- What is read at a place.
+-- The element read at a place.
 pub read_at : (xs : List ℕ) (k h : ℕ) → k < length xs → h ≡ get_or xs k h → slice_get xs k ≡ Some h
 read_at [] k h lt e = absurd (omega arith)
 read_at (x ∷ xs) zero h lt e = ap (λ (y : ℕ). Some y) (sym e)
@@ -360,18 +360,18 @@ logged_noted n v held m order jobs p s j h part op reply at in_k does = let b : 
     (λ k ne. owed_split b n k job jobs (λ e. ne (sym e ∙ sym in_k)))
     (order_grows b n j (stripes_in held) order job jobs (stripe_at held j h at ∙ ap (λ (x : ℕ). Some x) in_k) s.ordered)
 
--- The newest change, where the order ends in the place of its part.
+-- The newest change of an order is the one at its end.
 pub newest : (n : ℕ) (held : List Held) (order : List Change) (change : Change) (jobs : List Job) → AreLogged n held (order ++ change ∷ []) jobs → Newest n change (stripes_in held) (reverse order) jobs
 newest n held order change jobs s = newest_of n change (stripes_in held) (reverse order) jobs (ap (map (at_place (stripes_in held))) (sym (reverse-append order (change ∷ []))) ∙ s.ordered)
 
--- Its part can take it back.
+-- The part of the newest change has that change to take back.
 pub newest_owed : (n : ℕ) (held : List Held) (order : List Change) (change : Change) (jobs : List Job) (s : AreLogged n held (order ++ change ∷ []) jobs) (h : Held) → slice_get held change.0 ≡ Some h
     → let new = newest n held order change jobs s in h.part.owed ≡ owed_in n h.stripe new.older + 1
 newest_owed n held order change jobs s h at = let new = newest n held order change jobs s in
     let in_k : stripe_of n new.job.0 ≡ h.stripe = some_same _ _ (sym new.place_is ∙ stripe_at held change.0 h at) in
     s.owed change.0 h at ∙ ap (owed_in n h.stripe) new.jobs_are ∙ owed_mine n h.stripe new.job new.older in_k
 
--- It is taken back.
+-- A change of a held part is taken back.
 pub parts_back : (n : ℕ) (v : View) (held : List Held) (m : Map) → AreHeld n v held m → (j : ℕ) (h : Held) (part : PartAt) (job : Job) → slice_get held j ≡ Some h → h.stripe ≡ stripe_of n job.0
     → TakesBack h.part part (job.0 / n) job.1 → AreHeld n v (set held j (record { stripe = h.stripe; part = part })) (set_at m job.0 job.1)
 parts_back n v held m s j h part job at in_k back = parts_changed n v held m (set_at m job.0 job.1) s j h (record { stripe = h.stripe; part = part }) at refl
@@ -432,7 +432,7 @@ extends_then n c seen mid es log a b = record {
 pub extends_none : (n c : ℕ) (seen : List Entry) → IsLegal Begun n seen → Extends n c seen [] seen
 extends_none n c seen legal = record { between = []; goes = sym (append-nil (seen ++ []) ∙ append-nil seen); others = refl; legal = legal }
 
--- One change less is to be taken back.
+-- One change fewer remains to be taken back.
 pub back_step : (m : Map) (left less : ℕ) (jobs older : List Job) (job : Job) → left ≡ suc less → jobs ≡ job ∷ older
     → (undone (set_at m job.0 job.1) (take less older) ≡ undone m (take left jobs)) × (drop less older ≡ drop left jobs)
 back_step m left less jobs older job e f = subst (λ (l : ℕ). (undone (set_at m job.0 job.1) (take less older) ≡ undone m (take l jobs)) × (drop less older ≡ drop l jobs)) (sym e)

@@ -9,7 +9,7 @@ use Rattle.std.proofs.lemmas.Map.Steps.{length-le_from_distinct_below}
 use Rattle.striped_map.specs.Sound.{IsIndexed}
 use Rattle.striped_map.proofs.Hands.{none_some, some_same, push_at}
 
--- What a longer list has, and one with another element.
+-- The elements of a longer list, and of one with an element replaced.
 pub resized_at : (xs ys : List ℕ) (n i a : ℕ) → length xs ≤ n → slice_get xs i ≡ Some a → slice_get (take n xs ++ ys) i ≡ Some a
 resized_at [] ys n i a le e = absurd (none_some a e)
 resized_at (x ∷ xs) ys zero i a le e = absurd (omega arith)

@@ -1,4 +1,4 @@
--- What entries of one caller, added to a legal history, leave of it.
+-- How entries of one caller extend a legal history, and the state after them.
 use Rattle.std.proofs.Common.{is_some, ◌≡◌, ◌≢◌, ℕ, ◌+◌, ◌-◌, ◌<◌, ◌==◌, ◌⊎◌, Bool, true, false, cond, List, [], ◌∷◌, ◌++◌, Option, Some, None, refl, sym, ap, subst, ◌∙◌, inl, inr, ⊎_elim, arith, append_assoc, append-nil, eqb-true, eq-eqb, ne_eqb, length, length-append, slice_index, take, mod-lt}
 use Rattle.std.specs.Option.{option_eq}
 use Rattle.std.specs.Prelude.{nat_eq, not, ◌&&◌}
@@ -89,7 +89,7 @@ lands_one n P g e seat jobs serial current held next from still = record {
   have = λ q hold. ap (λ (m : Map). get m q) next.now_is;
 }
 
--- What entries after entries leave.
+-- The state after two lists of entries, one after the other.
 lands_both : (n c : ℕ) (P : ℕ → Type 0) (m k : ℕ) (g es fs : List Entry) (left : Standing) → Grows n c P m g es → Lands n c P k (g ++ es) fs left → Lands n c P (m + k) g (es ++ fs) left
 lands_both n c P m k g es fs left a b = let is : (g ++ es) ++ fs ≡ g ++ (es ++ fs) = append_assoc g es fs in record {
   grows = grows_both n c P m k g es fs a b.grows;
@@ -98,7 +98,7 @@ lands_both n c P m k g es fs left a b = let is : (g ++ es) ++ fs ≡ g ++ (es ++
   have = λ q hold. ap (λ (l : List Entry). get (now l) q) (sym is) ∙ b.have q hold;
 }
 
--- The same entries, where the map that they leave is the same in the stripes that P names.
+-- The state after entries may name any map with the same values in the stripes that P names.
 lands_as : (n c : ℕ) (P : ℕ → Type 0) (m : ℕ) (g es : List Entry) (left : Standing) (jobs : List Job) (seat : Seat) (map : Map) → Lands n c P m g es left → left.seat ≡ seat → left.log ≡ jobs
     → ((q : ℕ) → P (stripe_of n q) → get left.map q ≡ get map q) → Lands n c P m g es (record { seat = seat; log = jobs; map = map })
 lands_as n c P m g es left jobs seat map l seat_is log_is same = record {
@@ -119,7 +119,7 @@ none_cond true o d is = absurd (let no : None ≡ Some d = is in none_some d no)
     none_some j e = cc
 none_cond false o d is = is
 
--- An Asked may stand where no other caller holds the stripe.
+-- An Asked is legal if no other caller holds the stripe.
 may_ask : (n : ℕ) (g : List Entry) → IsLegal Begun n g → (c : ℕ) (op : Op) → ((d : ℕ) → holder_of n (stripe_of n (key_of op)) g ≡ Some d → d ≡ c) → is_locked Begun n g (Asked c op) ≡ true
 may_ask n g legal c op only = is_locked-asked Begun n g c op legal.shape legal.locks ∙ at (holder_of n (stripe_of n (key_of op)) g) only
   where
@@ -154,7 +154,7 @@ commits n P g legal c seat seat_is opened =
     let next = committed n g legal c (how_many is_commit g + 1) seat seat_is opened refl in
     lands_one n P g (Committed c (how_many is_commit g + 1)) _ _ _ _ _ next (λ k d h. inl (none_cond (option_eq nat_eq (holder_of n k g) (Some c)) (holder_of n k g) d h)) (λ q no. refl)
 
--- What is taken back leaves the same where it begins with the same.
+-- Taking back the same changes keeps two maps equal at a key.
 pub undone_same : (q : ℕ) (jobs : List Job) (a b : Map) → get a q ≡ get b q → get (undone a jobs) q ≡ get (undone b jobs) q
 undone_same q [] a b same = same
 undone_same q (job ∷ jobs) a b same = undone_same q jobs (set_at a job.0 job.1) (set_at b job.0 job.1)

@@ -15,7 +15,7 @@ use Rattle.striped_map.specs.Steps.{SeesIn, witness, blank, heard}
 use Rattle.striped_map.proofs.Keeps.{St, board, within, viewed}
 use Rattle.striped_map.proofs.Moves.{nothing_at}
 
--- The view is that of a seat for which nobody acts, and which has seen a beginning of the history.
+-- The view is a witness: no caller acts by it, and it has seen a beginning of the history.
 abbrev IsWitness : List Entry → View → Type 0
 IsWitness log u = (seen : List Entry) × IsPrefix seen log × (witness seen ≡ u)
 
@@ -38,13 +38,13 @@ has_seen n log u w = subst (HasSeen n log) w.2 (record {
   met = (log, refl);
 })
 
--- Nobody with this number acts or was taken in.
+-- No acting seat has this number, and no seat that was taken in had it.
 abbrev IsAway : List View → ℕ → Type 0
 IsAway views c = (i : ℕ) (v : View) → get_elem? views i ≡ some v
     → (v.acts ≡ true → v.number ≢ c)
     × ((j : ℕ) (r : ℕ × List Entry) → slice_get v.retired j ≡ Some r → r.0 ≢ c)
 
--- Such seats come and go.
+-- Witnesses come and go.
 module _ (n : ℕ) (s : St) (kept : IsKeptAt n s) (vs : List View)
     (first : get_elem? vs 0 ≡ some kept.1.first)
     (place : (i : ℕ) (u : View) → get_elem? vs i ≡ some u → (get_elem? s.views i ≡ some u) ⊎ IsWitness kept.0 u)
@@ -81,7 +81,7 @@ module _ (n : ℕ) (s : St) (kept : IsKeptAt n s) (vs : List View)
     },
   )
 
--- One more such seat, with what a seat has seen.
+-- One more witness, with the entries that a seat has seen.
 pub witnesses : (id : ℕ) (v : View) → Splits IsKept id v v (witness v.seen)
 witnesses id v s kept me =
     let w = witness v.seen in let h = kept.3.seen id v me in
@@ -91,7 +91,7 @@ witnesses id v s kept me =
     (λ c none i u at. none i u (at_longer s.views (w ∷ []) i u at)) in
     subst (λ (vs : List View). IsKept (board s.words s.homes (vs ++ w ∷ []))) (sym (set_again s.views id v me)) more
 
--- Such a seat is spent.
+-- A witness is spent.
 forgotten : (n : ℕ) (s : St) (kept : IsKeptAt n s) (other : ℕ) (seen : List Entry)
     → IsPrefix seen kept.0 → get_elem? s.views other ≡ some (witness seen) → IsKeptAt n (board s.words s.homes (set s.views other blank))
 forgotten n s kept other seen front at =
@@ -120,7 +120,7 @@ hears id other v seen acting s kept me ne at =
     let heard_of : IsPrefix seen met.0 = (met.3.seen id w (set_here s.views id w (within s.views id v me))).met in
     forgotten n (board s.words s.homes (set s.views id w)) met other seen heard_of at
 
--- What a seat sees once it has met something.
+-- A seat that has met something sees what it saw before.
 pub sees_met : (n : ℕ) (v u w : View) (front : List Entry) → u ≡ record v { met = front } → SeesIn n u w → SeesIn n v w
 sees_met n v u w front is sees =
     let x : SeesIn n (record v { met = front }) w = subst (λ (y : View). SeesIn n y w) is sees in

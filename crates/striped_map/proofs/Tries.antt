@@ -15,14 +15,14 @@ pub still : {T : Type 0} (work : Caller → Result T Stop → Caller → Type 0)
 still work zero a b same is = same
 still work (suc n) a b fails is = absurd (cc (sym is ∙ fails.3.closed))
 
--- What was seen since the first try.
+-- An attempt that failed keeps `IsSince` of the first try.
 pub since_failed : {T : Type 0} (work : Caller → Result T Stop → Caller → Type 0) (me a b : Caller) (stop : Stop)
     → IsSince me a → (a.is_open ≡ true → (stop ≡ Refused AlreadyOpen) × (b ≡ a)) → (a.is_open ≡ false → Fails work a b stop) → IsSince me b
 since_failed work me a b stop since opened fails = by_cases a.is_open
     (λ is. subst (IsSince me) (sym (opened is).1) since)
     (λ is. since_then me a b since (fails is).since)
 
--- The same failure, by an equal cause.
+-- A failure with an equal cause.
 pub fails_as : {T : Type 0} {work : Caller → Result T Stop → Caller → Type 0} (a b : Caller) (stop other : Stop)
     → stop ≡ other → Fails work a b stop → Fails work a b other
 fails_as {T} {work} a b stop other same fails = subst (Fails work a b) same fails

@@ -1,4 +1,4 @@
--- Which entries a caller may add to the history.
+-- The entries that a caller may add to the history.
 use Rattle.std.specs.Prelude.{◌≡◌, ◌≢◌, ℕ, ◌+◌, ◌<◌, ◌⊎◌, List, [], ◌++◌, Some}
 use Rattle.txn_words.specs.declared.entry.Entry.{Entry}
 use Rattle.txn_words.specs.declared.holder.Holder.TheVariants.{Begun}
@@ -13,8 +13,8 @@ use Rattle.striped_map.specs.declared.view.View.{View}
 use Rattle.striped_map.specs.Rule.{Holds, HasSeen}
 use Rattle.striped_map.specs.Steps.{Standing}
 
--- A legal history goes on with entries of caller c alone, some of them commits, which change
--- nothing but in the stripes that P names.
+-- A legal history goes on with entries of caller c only, some of them commits, which change only
+-- the stripes that P names.
 pub record Grows (stripes c : ℕ) (P : ℕ → Type 0) (commits_more : ℕ) (log es : List Entry) : Type 0
   where
     pub legal : IsLegal Begun stripes (log ++ es)
@@ -34,7 +34,8 @@ pub record GoesOn (stripes : ℕ) (v : View) (log : List Entry) : Type 0 where
   pub mine : (stripe : ℕ) → stripe < stripes → holder_of stripes stripe log ≡ Some v.number
       → Holds v stripe
 
--- Such entries leave this of caller c, and of the stripes that P names.
+-- The history grows by such entries, and they leave caller c and the stripes that P names in this
+-- state.
 pub record Lands (stripes c : ℕ) (P : ℕ → Type 0) (commits_more : ℕ) (log es : List Entry)
     (left : Standing) : Type 0 where
   pub grows : Grows stripes c P commits_more log es
@@ -42,7 +43,7 @@ pub record Lands (stripes c : ℕ) (P : ℕ → Type 0) (commits_more : ℕ) (lo
   pub log_is : log_of c (log ++ es) ≡ left.log
   pub have : (key : ℕ) → P (stripe_of stripes key) → get (now (log ++ es)) key ≡ get left.map key
 
--- The entries may be added to any such history, and leave this.
+-- The entries may be added to any history that goes on for the seat, and leave this state.
 abbrev pub MayAdd : ℕ → View → List Entry → Standing → Type 0
 MayAdd stripes v es left = (log : List Entry) → GoesOn stripes v log
     → Lands stripes v.number (Holds v) 0 log es left

@@ -1,4 +1,4 @@
--- What each addition to the history is, and what it leaves.
+-- The entries of each addition to the history, and the state after it.
 use Rattle.std.specs.Prelude.{ℕ, Option, List, [], ◌∷◌, None, Some, take, drop, length, slice_index, ◌-◌}
 use Rattle.txn_words.specs.declared.entry.Entry.{Entry}
 use Rattle.txn_words.specs.declared.entry.Entry.TheVariants.{Asked, Did, Saved, Leave, Returned, Busy, Aborted}
@@ -9,7 +9,7 @@ use Rattle.striped_map.specs.declared.addition.Addition.{Addition}
 use Rattle.striped_map.specs.declared.addition.Addition.TheVariants.{Note, Save, Back, Abort, Yield}
 use Rattle.striped_map.specs.Steps.{Standing, Told, added, at_end, noting, saving, returning, seat_of, undone, undoing}
 
--- What the caller of a view has to take back.
+-- The changes that the caller of a view has to take back.
 abbrev pub due : View → List (ℕ × Option ℕ)
 due v = log_of v.number v.seen
 
@@ -28,7 +28,7 @@ entries_of v Abort = Leave v.number None ∷ undoing v.number (due v) (Aborted v
 entries_of v (Yield op holder) =
     Busy v.number op holder ∷ undoing v.number (due v) (Aborted v.number)
 
--- What it leaves.
+-- The state after an addition.
 abbrev pub left_of : View → Addition → Standing
 left_of v (Note op reply) = noting v (seat_of v) op reply
 left_of v Save = saving v (seat_of v)

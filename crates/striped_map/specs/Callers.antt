@@ -1,4 +1,4 @@
--- What the calls of a caller add to the history.
+-- The entries that a caller's calls add to the history.
 use Rattle.std.specs.Prelude.{◌≡◌, ℕ, ◌-◌, ◌%◌, ◌^◌, List, [], ◌∷◌, length, None, Some, slice_get, true, false, Option}
 use Rattle.txn_words.specs.declared.entry.Entry.{Entry}
 use Rattle.txn_words.specs.declared.entry.Entry.TheVariants.{Began, Leave, Committed, Busy as BusyEntry, Aborted}
@@ -42,7 +42,7 @@ changes c = due (known c.hand.seat)
 abbrev pub changes_above : ℕ → Caller → List (ℕ × Option ℕ)
 changes_above level c = above level (known c.hand.seat)
 
--- The same caller of the same map: others may have added entries, and then it has added these.
+-- A step of one caller: others may have added entries, and then it has added these.
 pub record IsStep (a : Caller) (es : List Entry) (b : Caller) : Type 0 where
   pub map_is : b.map ≡ a.map
   pub number_is : number b ≡ number a
@@ -63,7 +63,7 @@ IsStopped a op b (Refused refusal) = (refusal ≡ NoMemory) × (a.is_open ≡ tr
 abbrev pub IsCut : Caller → Caller → Stop → Type 0
 IsCut a b stop = (key : ℕ) × IsStopped a (Get key) b stop
 
--- The same caller of the same map, which has seen more, and committed nothing.
+-- The caller has seen more since, and has committed nothing.
 pub record IsSince (a b : Caller) : Type 0 where
   pub map_is : b.map ≡ a.map
   pub number_is : number b ≡ number a
@@ -71,7 +71,7 @@ pub record IsSince (a b : Caller) : Type 0 where
   pub commits : how_many is_commit (own (number a) (seen b))
       ≡ how_many is_commit (own (number a) (seen a))
 
--- And it began nothing.
+-- The caller has seen more since, and has committed and begun nothing.
 pub record IsWithin (a b : Caller) : Type 0 where
   pub since : IsSince a b
   pub begins : how_many is_began (own (number a) (seen b))

@@ -1,4 +1,4 @@
--- What the parts of stripes have together.
+-- The pairs of several parts together.
 use Rattle.std.specs.Prelude.{ℕ, ◌+◌, ◌*◌, List, map, flat_map}
 use Rattle.txn_words.specs.Map.{count_of}
 use Rattle.striped_map.specs.Sound.{Held}

@@ -1,4 +1,4 @@
--- What the calls of a hand leave.
+-- The outcomes of a hand's calls.
 use Rattle.std.specs.Prelude.{◌≡◌, ℕ, List, [], ◌∷◌, ◌++◌}
 use Rattle.txn_words.specs.declared.entry.Entry.{Entry}
 use Rattle.txn_words.specs.declared.entry.Entry.TheVariants.{Began, Busy as BusyEntry, Aborted}
@@ -15,7 +15,7 @@ use Rattle.striped_map.specs.Additions.{due}
 use Rattle.map_answers.specs.declared.stop.Stop.{Stop}
 use Rattle.map_answers.specs.declared.stop.Stop.TheVariants.{Busy, Refused}
 
--- The same caller: others may have added entries, and then it has added these.
+-- A step of one hand: others may have added entries, and then it has added these.
 pub record Moves (map : StripedMap) (a : Hand) (es : List Entry) (b : Hand) : Type 0 where
   pub number_is : (known b.seat).number ≡ (known a.seat).number
   pub retired_is : (known b.seat).retired ≡ (known a.seat).retired
@@ -36,9 +36,9 @@ IsStopped map a op b (Refused refusal) =
 abbrev pub IsCut : StripedMap → Hand → Hand → Stop → Type 0
 IsCut map a b stop = (key : ℕ) × IsStopped map a (Get key) b stop
 
--- In a transaction that was begun for it, and which adds nothing else before, the hand has seen one
--- legal history (of `left`) which has of each caller that was taken in just the entries that its
--- calls added, and none of others than the seats that were made; the pairs are the map of that
+-- In a transaction that was begun for it, and before any other entry of it, the hand has seen one
+-- legal history (of `left`). It has of each caller that was taken in just the entries that its
+-- calls added, and otherwise only entries of seats that were made; the pairs are the map of that
 -- history; and the hand has seen it since.
 pub record AreLeft (map : StripedMap) (a c : Hand) (pairs : List (ℕ × ℕ)) : Type 0 where
   pub txn : ℕ

@@ -1,4 +1,4 @@
--- What contracts see of a host.
+-- The facts about a host that contracts name.
 use Rattle.std.specs.Prelude.{ℕ, ◌≡◌, ◌+◌, ◌<◌, Bool, ◌&&◌, nat_le, true, false, List, length}
 use Rattle.std.specs.List.{HoldsAt}
 use Rattle.txn_words.specs.declared.refusal.Refusal.{Refusal}

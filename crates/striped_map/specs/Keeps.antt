@@ -1,9 +1,9 @@
--- What every call of a transaction keeps, and so every work that is made of such calls.
+-- The relation that each call of a transaction keeps, and so each work made of such calls.
 use Rattle.std.specs.Prelude.{◌≡◌}
 use Rattle.striped_map.specs.declared.transaction.Transaction.{Transaction}
 use Rattle.striped_map.specs.Callers.{IsWithin}
 
--- It is the same transaction, of the same caller, and it went on.
+-- The new transaction is the old one, of the same caller, and it went on.
 pub record Keeps (old new : Transaction) : Type 0 where
   pub same_caller : new.me.ghost_name ≡ old.me.ghost_name
   pub goes_on : IsWithin old.me.now new.me.now

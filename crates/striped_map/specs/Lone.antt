@@ -1,4 +1,4 @@
--- What a commit says of its transaction.
+-- The meaning of a commit for its transaction.
 use Rattle.std.specs.Prelude.{◌≡◌, ℕ, ◌+◌, List, [], ◌∷◌, ◌++◌, IsSome}
 use mathlib.Core.List.{IsPrefix}
 use Rattle.txn_words.specs.declared.entry.Entry.{Entry}

@@ -1,7 +1,7 @@
-//! What a caller adds to the history by one load.
+//! The entries that a caller adds to the history by one load.
 use txn_trace::{Op, Reply};
 
-/// What a caller that is in a transaction adds to the history by one load.
+/// An addition to the history by one load of a caller in a transaction.
 #[derive(Clone, Copy)]
 pub(crate) enum Addition {
     /// An operation and its reply.
@@ -12,6 +12,7 @@ pub(crate) enum Addition {
     Back(u64, usize),
     /// The end of the transaction, for which all changes were taken back.
     Abort,
-    /// The same, since an operation found its stripe in the hands of the caller named.
+    /// The end of the transaction, with all changes taken back, since the caller named held the
+    /// operation's stripe.
     Yield(Op, u64),
 }

@@ -1,4 +1,4 @@
-//! Work that is run in a transaction, and begun anew if another caller holds a stripe.
+//! Work that is run in a transaction, and begun again if another caller holds a stripe.
 ghost use Rattle.std.specs.Prelude.{◌≡◌, ℕ, ◌≤◌, true, false, Ok, IfOk, IfErr, OnOk, OnErr};
 ghost use Rattle.txn_words.specs.declared.refusal.Refusal.TheVariants.{AlreadyOpen};
 ghost use Rattle.striped_map.specs.Attempts.{on_callers, Fails, FailsBusy};
@@ -35,14 +35,14 @@ impl Caller {
     }
 
     /// Runs the work in a transaction and commits; answers what the work did, and the commit's
-    /// place. If it was busy, gives way and begins anew, at most `tries` times. If the work fails
+    /// place. If it was busy, gives way and begins again, at most `tries` times. If the work fails
     /// all its changes are taken back.
     ///
     /// # Errors
     ///
-    /// `AlreadyOpen` of a caller that is in a transaction, which is unchanged; what the last try of
-    /// the work answered, `Busy` only once all tries are used up; `NotOpen` if the work went on
-    /// after a call was busy.
+    /// `AlreadyOpen` if the caller is in a transaction, which is unchanged; the error of the last
+    /// try, which is `Busy` only once all tries are used up; `NotOpen` if the work went on after a
+    /// call was busy.
     ///
     /// # Cost
     ///

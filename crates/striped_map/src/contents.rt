@@ -1,5 +1,5 @@
-//! What the parts of stripes that a seat holds have together: how many pairs, and the pairs under
-//! their whole keys.
+//! The parts of the stripes that a seat holds, taken together: how many pairs they have, and the
+//! pairs under their whole keys.
 //!
 //! A part has the pairs of its stripe under sub-keys. The two functions read parts and change
 //! nothing; each takes time in proportion to the parts and what it answers.

@@ -1,7 +1,7 @@
-//! What a caller has in hand.
+//! A caller's hand: its seat, and the stripes, changes and levels of its transaction.
 //!
 //! The parts of the stripes that it holds stay in their slots, where an operation works on them as
-//! plain memory. Who calls keeps the phases.
+//! plain memory. Its user calls it only in the right phase.
 ghost use Rattle.std.specs.Prelude.{◌≡◌, ◌≢◌, ℕ, ◌+◌, ◌-◌, ◌/◌, ◌<◌, ◌≤◌, ◌%◌, ◌^◌, [], ◌∷◌, IfOk, IfErr, IfSome, OnOk, OnErr, None, Some, true, slice_get, slice_index, length, take, drop, vec_len, vec_capacity};
 ghost use mathlib.Core.List.{IsPrefix};
 ghost use Rattle.txn_words.specs.declared.entry.Entry.TheVariants.{Began, Asked, Did, Saved, Leave, Returned, Committed};
@@ -31,7 +31,7 @@ use txn_trace::{Op, Refusal, Reply};
 /// A change that can be taken back: the place of its stripe, its sub-key, and the value before.
 type Change = (usize, u64, Option<u64>);
 
-/// A seat with the stripes that it holds, and what there is to take back. It may be let go only if
+/// A seat with the stripes that it holds, and the changes to take back. It may be dropped only if
 /// it holds no stripe.
 pub(crate) struct Hand {
     pub(crate) seat: MapSeat,
@@ -44,8 +44,8 @@ pub(crate) struct Hand {
     ghost indexed: { IsIndexed held.items index.items },
 }
 
-/// The place of a stripe among those that are held. What the index has for a stripe that is not
-/// held may be any place, so it is looked at.
+/// The place of a stripe among those that are held. The index may have any place for a stripe that
+/// is not held, so that place is looked at.
 #[inline(always)]
 fn place_of(held: &Vec<usize>, index: &Vec<u16>, stripe: usize) -> Option<usize>
     requires { IsIndexed held.now.items index.now.items }
@@ -76,7 +76,7 @@ fn widen(index: &mut Vec<u16>, stripes: usize) -> Result<(), AllocError>
     Ok(())
 }
 
-/// How many changes stood at a level.
+/// The number of changes that stood at a level.
 fn mark_of(levels: &Vec<usize>, level: usize) -> usize
     requires { level ≤ vec_len levels.now }
     ensures { result ≡ slice_index (0 ∷ levels.now.items) level }
@@ -320,7 +320,7 @@ impl Hand {
         map.take_in(&mut self.seat, other);
     }
 
-    /// Answers the pairs of the map in a transaction of its own, which it takes back.
+    /// Answers the pairs of the map, in a separate transaction that it takes back.
     pub(crate) fn read(&mut self, map: &StripedMap, alloc: Global) -> Result<Vec<(u64, u64)>, Stop>
         requires map { IsOf self.old.seat map.now }
         requires closed { IsAt Closed (known self.old.seat) }

@@ -4,7 +4,7 @@ use std::process::Abort;
 use striped_map::{Caller, Host, Stop, open_map};
 use txn_words::{Op, Refusal, Reply};
 
-/// What a caller is asked for.
+/// A request to a caller.
 #[derive(Clone, Copy)]
 pub(crate) enum Ask {
     Begin,
@@ -16,8 +16,8 @@ pub(crate) enum Ask {
     Abort,
 }
 
-/// What it answers: nothing, a reply, a number (a level, a count or a place), or that it did not do
-/// it.
+/// The answer to a request: nothing, a reply, a number (a level, a count or a place), or that it
+/// was not done.
 #[derive(Clone, Copy, PartialEq, Eq)]
 pub(crate) enum Told {
     Done,
@@ -79,8 +79,8 @@ pub(crate) fn open<R: Abort>(rt: &R, alloc: Global, stripes: usize, callers: usi
     Home { host, callers }
 }
 
-/// What the row of this number says must be so. It stands apart, since a message is dear to prove
-/// in a function that has much else.
+/// Fails with the number of the row unless `is_so`. It is a separate function, since a message is
+/// dear to prove in a function that has much else.
 pub(crate) fn must<R: Abort>(rt: &R, row: usize, is_so: bool) {
     assert!(rt; is_so, "row {row}");
 }
@@ -103,7 +103,7 @@ pub(crate) fn reads(host: &mut Host, left: &[(u64, u64)]) -> Result<bool, Stop> 
     Ok(host.pairs()?.as_slice() == left)
 }
 
-/// What is committed is just these pairs, in this order, and nobody holds a stripe.
+/// The committed pairs are just these, in this order, and no stripe is held.
 pub(crate) fn has_left<R: Abort>(rt: &R, host: &mut Host, left: &[(u64, u64)]) {
     assert!(rt; matches!(reads(host, left), Ok(true)));
 }

@@ -46,7 +46,7 @@ fn drop_first<R: Abort>(rt: &R, home: &mut Home) {
     drop(home.callers.remove(0));
 }
 
-/// Drops caller 1 after so many calls.
+/// Drops caller 1 after this number of calls.
 fn drop_after<R: Abort>(rt: &R, home: &mut Home, calls: usize) {
     play(rt, home, BEFORE);
     assert!(rt; calls <= CALLS.len());

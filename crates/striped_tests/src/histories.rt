@@ -3,8 +3,8 @@
 //! Each caller notes its calls with a stamp of one shared counter before and after each. An
 //! operation is put at the later stamp, when its stripe is held; an abort and a commit at the
 //! earlier, since they give stripes back. Commits are put in the order of their places, each at the
-//! latest stamp of the commits up to it: that still comes before its own atomic step. A Busy is put
-//! at its earlier stamp too, but not before the first beginning of the caller that it names.
+//! latest stamp of the commits up to it: that is still before its own atomic step. A Busy is put at
+//! its earlier stamp too, but not before the first beginning of the caller that it names.
 use crate::calls::{Ask, Home, NEW, Row, Told, answer, open};
 use crate::threads::{Work, in_threads, must_start};
 use history_check::{Checker, Verdict};
@@ -17,7 +17,7 @@ use std::thread::Threads;
 use striped_map::Caller;
 use txn_words::{Entry, Holder, Op};
 
-/// What the callers do in their threads.
+/// The transactions that the callers run in their threads.
 #[derive(Clone, Copy)]
 enum Plan {
     /// Each runs four transactions that look random.
@@ -124,7 +124,7 @@ impl Recorder {
         Ok(())
     }
 
-    /// A transaction on a key that nobody else has.
+    /// A transaction on a key that no other caller has.
     fn script(&mut self, clock: &AtomicU64, key: u64) -> Result<(), AllocError> {
         let calls = [
             Ask::Begin,
@@ -174,7 +174,7 @@ fn recorders<R: Abort>(rt: &R, alloc: Global, home: Home, seed: u64) -> Vec<Reco
     all
 }
 
-/// Each caller runs in a thread of its own.
+/// Runs each caller in its own thread.
 fn run_all<R: Threads + Wait + Abort + Sync>(
     rt: &R,
     all: &mut [Recorder],
@@ -403,8 +403,8 @@ fn feed_all(checker: &mut Checker, lines: &[Line]) -> Result<bool, AllocError> {
     Ok(true)
 }
 
-/// How many transactions a history commits, if it is legal, of callers below 64, and nobody is in a
-/// transaction at its end.
+/// How many transactions a history commits, if it is legal, of callers below 64, and no transaction
+/// is open at its end.
 fn commits_fed(checker: &mut Checker, lines: &[Line]) -> Result<Option<u64>, AllocError> {
     if !feed_all(checker, lines)? {
         return Ok(None);
@@ -418,7 +418,7 @@ fn commits_fed(checker: &mut Checker, lines: &[Line]) -> Result<Option<u64>, All
     }
 }
 
-/// How many transactions a history commits, by a checker of its own.
+/// How many transactions a history commits, by a separate checker.
 fn commits_in(alloc: Global, stripes: u64, lines: &[Line]) -> Result<Option<u64>, AllocError> {
     if stripes == 0 {
         return Ok(None);

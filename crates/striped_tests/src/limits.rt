@@ -9,7 +9,8 @@ use std::test::Fail;
 use striped_map::{open_map, open_map_with_capacity};
 use txn_words::{Op, Refusal};
 
-/// How many callers a map of so many stripes and callers has, or none if it is refused as a limit.
+/// How many callers a map gets that is opened with these numbers, or none if they are refused as a
+/// limit.
 fn callers_in(alloc: Global, stripes: usize, callers: usize) -> Result<Option<usize>, AllocError> {
     match open_map(alloc, stripes, callers) {
         Ok((_host, made)) => Ok(Some(made.len())),
@@ -44,7 +45,7 @@ fn stripes_and_callers(rt: HostRuntime) -> Result<(), Fail> {
     Ok(())
 }
 
-/// Why there is no map of so many stripes and callers with room for so many keys.
+/// Why no map is opened with these numbers of stripes and callers and room for these keys.
 fn why_not(alloc: Global, stripes: usize, callers: usize, keys: usize) -> Option<Refusal> {
     open_map_with_capacity(alloc, stripes, callers, keys).err()
 }
@@ -88,7 +89,7 @@ const NO_KEYS: &[Row] = &[
     (0, Ask::Abort, Told::Done),
 ];
 
-/// Puts a thousand rising keys, each in a transaction of its own, and half as many again in one.
+/// Puts a thousand rising keys, each in a separate transaction, and half as many again in one.
 fn put_a_thousand<R: Abort>(rt: &R, home: &mut Home) {
     for key in 0..1_000u64 {
         let rows = [
@@ -192,13 +193,13 @@ const WIDEST: [u64; 7] = [
     18_446_744_073_709_551_615,
 ];
 
-/// Plays those keys.
+/// Plays the widest keys.
 fn play_widest<R: Abort>(rt: &R, home: &mut Home) {
     play_keys(rt, home, WIDEST.as_slice());
     leaves(rt, home, &WIDEST.map(|key| (key, 0)));
 }
 
-/// Those keys on 1, 3 and 4,096 stripes.
+/// The widest keys on 1, 3 and 4,096 stripes.
 #[test]
 fn widest_keys(rt: HostRuntime) {
     for &stripes in &[1, 3, 4096usize] {
@@ -206,7 +207,7 @@ fn widest_keys(rt: HostRuntime) {
     }
 }
 
-/// Sets a thousand savepoints, each after key 1 was given the level that comes next.
+/// Sets a thousand savepoints; before each, key 1 is given the next level.
 fn save_a_thousand<R: Abort>(rt: &R, home: &mut Home) {
     for level in 1..1001u64 {
         let had = (level > 1).then_some(level - 1);
@@ -328,7 +329,7 @@ fn put_scattered<R: Abort>(rt: &R, home: &mut Home) {
     }
 }
 
-/// Those pairs by rising keys.
+/// The pairs of `put_scattered`, by rising keys.
 fn rising(alloc: Global) -> Result<Vec<(u64, u64)>, AllocError> {
     let mut pairs = Vec::new(alloc);
     for key in 0..101u64 {

@@ -58,7 +58,7 @@ fn moves_three(mut caller: Caller) -> Caller
     caller
 }
 
-/// Two callers do that, each in a thread of its own, and come back.
+/// Two callers move three, each in its own thread, and are handed back.
 fn from_threads<R: Threads>(rt: &R, one: Caller, other: Caller) -> (Caller, Caller)
     requires same_map { one.map.value ≡ other.map.value }
     ensures same_map { result.0.map.value ≡ result.1.map.value }

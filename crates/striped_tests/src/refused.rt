@@ -1,4 +1,4 @@
-//! What calls leave that are refused memory. `docs/tests/refused.sh` refuses it to them.
+//! The state after calls that are refused memory. `docs/tests/refused.sh` refuses it to them.
 use crate::calls::{Ask, Home, NEW, Row, Told, answer, must, reads};
 use std::alloc::Global;
 use std::process::Abort;

@@ -30,7 +30,7 @@ static ABORT_TAKES_BACK: Worked<'static> = Worked {
     left: &[],
 };
 
-/// A taken key, which nobody else can look up meanwhile, is there again after the abort.
+/// A taken key, which no other caller can look up meanwhile, is there again after the abort.
 static ABORTED_TAKE_RESTORES: Worked<'static> = Worked {
     stripes: 8,
     callers: 2,
@@ -50,7 +50,7 @@ static ABORTED_TAKE_RESTORES: Worked<'static> = Worked {
     left: &[(3, 30)],
 };
 
-/// Caller 2 finds caller 1's stripe held, begins anew and commits first.
+/// Caller 2 finds caller 1's stripe held, begins again and commits first.
 static BUSY_BETWEEN_CALLERS: Worked<'static> = Worked {
     stripes: 8,
     callers: 2,
@@ -134,7 +134,7 @@ static STEP_BETWEEN: Worked<'static> = Worked {
     left: &[(2, 20), (4, 40)],
 };
 
-/// What a return to a savepoint takes back, and the levels that it drops.
+/// The changes that a return to a savepoint takes back, and the levels that it drops.
 static SAVEPOINTS: Worked<'static> = Worked {
     stripes: 4,
     callers: 1,
@@ -186,8 +186,8 @@ static NINE_UNDONE: Worked<'static> = Worked {
     left: &[],
 };
 
-/// What a caller refuses in each phase. A busy stripe ends the transaction; none of its calls finds
-/// one that the caller holds itself.
+/// The refusals of a caller in each phase. A busy stripe ends the transaction; none of its calls
+/// finds a stripe busy that the caller itself holds.
 static REFUSALS_IN_ORDER: Worked<'static> = Worked {
     stripes: 4,
     callers: 2,

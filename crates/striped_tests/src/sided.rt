@@ -1,4 +1,4 @@
-//! Callers with a side value: each call, and what becomes of the side value with it.
+//! Callers with a side value: each call, and its effect on the side value.
 ghost use Rattle.std.specs.Prelude.{◌≡◌, OnOk};
 
 use crate::calls::{self, Ask, Home, NEW, Told, has_left, must, open};
@@ -59,7 +59,7 @@ fn of_count(count: u64) -> [u64; 4] {
 /// A caller whose side value is a register.
 pub(crate) type Sided = SidedCaller<Register>;
 
-/// What a caller is asked for.
+/// A request to a caller.
 #[derive(Clone, Copy)]
 pub(crate) enum Call {
     Begin,
@@ -258,7 +258,7 @@ static EACH_CALL: Worked<'static> = Worked {
     left: &[(2, 20)],
 };
 
-/// What a caller refuses without a transaction and within one. The side value stays as it is, also
+/// The refusals of a caller without a transaction and within one. The side value is unchanged, also
 /// as a change outside of a transaction left it.
 static REFUSALS: Worked<'static> = Worked {
     callers: 1,
@@ -396,7 +396,7 @@ fn drop_first<R: Abort>(rt: &R, home: &mut SidedHome) {
     drop(home.callers.remove(0));
 }
 
-/// Drops caller 1 after so many calls.
+/// Drops caller 1 after this number of calls.
 fn drop_after<R: Abort>(rt: &R, home: &mut SidedHome, calls: usize) {
     play(rt, home, BEFORE);
     assert!(rt; calls <= CALLS.len());
@@ -413,7 +413,7 @@ fn dropped_at_every_point(rt: HostRuntime) {
     }
 }
 
-/// What `new` hands back of a caller in a transaction, with the side value.
+/// The caller that `new` hands back if it is in a transaction, with the side value.
 fn handed_back<R: Abort>(rt: &R, alloc: Global, caller: Caller) -> Caller {
     let made = SidedCaller::new(alloc, caller, a_register(of_count(7)));
     let (caller, value) = made.err().expect(rt, "a caller that is handed back");
@@ -478,7 +478,7 @@ fn begins(caller: &mut Sided, key: u64) -> Result<(), Stop>
     Ok(())
 }
 
-/// Both put a key of their own, and one commits. Then they catch up with each other.
+/// Both callers put a key each, and one commits. Then they catch up with each other.
 fn meet(one: &mut Sided, other: &mut Sided) -> Result<(), Stop>
     requires same_map { one.old.caller.map.value ≡ other.old.caller.map.value }
 {

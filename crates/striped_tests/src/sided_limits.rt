@@ -44,7 +44,7 @@ fn play_widest<R: Abort>(rt: &R, home: &mut SidedHome) {
     leaves(rt, home, &WIDEST.map(|pair| (pair.0, 0)));
 }
 
-/// Those keys on 1 and 4,096 stripes.
+/// The widest keys on 1 and 4,096 stripes.
 #[test]
 fn widest_keys(rt: HostRuntime) {
     for &stripes in &[1, 4096usize] {
@@ -52,8 +52,8 @@ fn widest_keys(rt: HostRuntime) {
     }
 }
 
-/// Begins where the side value is 7 and key 1 has 10, and changes the side value and a key of the
-/// map a thousand times each.
+/// Begins with the side value at 7 and 10 at key 1, and changes the side value and a key of the map
+/// a thousand times each.
 fn change_a_thousand<R: Abort>(rt: &R, home: &mut SidedHome) {
     play(rt, home, &[(0, Call::Begin, Told::Done, 7)]);
     for count in 0..1000u64 {
@@ -79,8 +79,7 @@ const FIRST: &[Row] = &[
     (0, Call::Commit, Told::Number(1), 7),
 ];
 
-/// Goes on after a commit of the thousand changes: an abort takes back no more than what came after
-/// it.
+/// Goes on after a commit of the thousand changes: an abort takes back only the changes after it.
 const KEPT: &[Row] = &[
     (0, Call::Commit, Told::Number(2), 999),
     (0, Call::Begin, Told::Done, 999),
@@ -107,8 +106,7 @@ fn a_thousand_changes(rt: HostRuntime) {
     play_changes(&rt, &mut open_sided(&rt, rt.alloc(), 16, 1));
 }
 
-/// Sets a hundred savepoints, each after key 1 and the side value were given the level that comes
-/// next.
+/// Sets a hundred savepoints; before each, key 1 and the side value are given the next level.
 fn save_a_hundred<R: Abort>(rt: &R, home: &mut SidedHome) {
     for level in 1..101u64 {
         let had = (level > 1).then_some(level - 1);
@@ -169,7 +167,7 @@ fn is_made<R: Abort>(rt: &R, caller: &mut Sided, what: Call) -> bool {
     !matches!(told, Told::Busy(_))
 }
 
-/// Adds one to a key, where no key counts as 0; whether no stripe was busy.
+/// Adds one to a key, which counts as 0 if it is not there; whether no stripe was busy.
 fn adds_one<R: Abort>(rt: &R, caller: &mut Sided, key: u64) -> bool {
     let Told::Replied(had) = answer(caller, Call::Do(Op::Get(key))) else {
         return false;
@@ -179,8 +177,8 @@ fn adds_one<R: Abort>(rt: &R, caller: &mut Sided, key: u64) -> bool {
     is_made(rt, caller, Call::Do(Op::Put(key, more)))
 }
 
-/// Adds one to the key that all share, gives the side value the count that comes next, adds one to
-/// the caller's own key, and ends the transaction so; whether no stripe was busy.
+/// Adds one to the key that all share, gives the side value the next count, adds one to the
+/// caller's own key, and ends the transaction with `end`; whether no stripe was busy.
 fn counts<R: Abort>(rt: &R, caller: &mut Sided, own: u64, next: u64, end: Call) -> bool {
     is_made(rt, caller, Call::Begin)
         && adds_one(rt, caller, 1)
@@ -208,7 +206,7 @@ fn count_to_300<R: Abort>(rt: &R, caller: &mut Sided, own: u64) {
     }
 }
 
-/// Each caller counts in a thread of its own.
+/// Each caller counts in its own thread.
 fn count_all<R: Threads + Wait + Abort + Sync>(rt: &R, callers: &mut [Sided]) {
     thread::scope(thread::scope_env(), rt, |scope| {
         for (place, caller) in callers.iter_mut().enumerate() {
@@ -226,8 +224,8 @@ fn have_count<R: Abort>(rt: &R, callers: &[Sided], count: u64) {
     }
 }
 
-/// What two threads have counted in their side values is what they have committed: their own keys
-/// have it, and the key that they share has both.
+/// Two threads have counted in their side values just what they have committed: their own keys have
+/// it, and the key that they share has both.
 fn play_counts<R: Threads + Wait + Abort + Sync>(rt: &R, home: &mut SidedHome) {
     count_all(rt, home.callers.as_mut_slice());
     have_count(rt, home.callers.as_slice(), 300);

@@ -1,4 +1,4 @@
-//! Callers in threads of their own.
+//! Callers in threads, each in its own.
 use crate::calls::{Row, ask_row};
 use crate::transfers::{move_many, take_part};
 use std::process::Abort;
@@ -7,7 +7,7 @@ use std::thread;
 use std::thread::Threads;
 use striped_map::Caller;
 
-/// What each caller does in its thread.
+/// The work of each caller in its thread.
 #[derive(Clone, Copy)]
 pub(crate) enum Work<'a> {
     /// Makes these calls.
@@ -39,7 +39,7 @@ pub(crate) fn must_start<R: Abort>(rt: &R, has_started: bool) {
     assert!(rt; has_started, "a thread");
 }
 
-/// Each caller works in a thread of its own.
+/// Runs each caller's work in its own thread.
 pub(crate) fn in_threads<R: Threads + Wait + Abort + Sync>(
     rt: &R,
     callers: &mut [Caller],

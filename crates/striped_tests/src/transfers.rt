@@ -117,7 +117,7 @@ fn play_waiting<R: Threads + Wait + Abort + Sync>(rt: &R, home: &mut Home) {
     leaves(rt, home, &[(1, 5), (2, 10)]);
 }
 
-/// A transfer that is busy gives way and begins anew until the stripe is free.
+/// A transfer that is busy gives way and begins again until the stripe is free.
 #[test]
 fn busy_tries_again(rt: HostRuntime) {
     play_waiting(&rt, &mut open(&rt, rt.alloc(), 4, 2));
@@ -148,7 +148,7 @@ pub(crate) fn move_many<R: Abort>(rt: &R, caller: &mut Caller, seed: u64) {
     }
 }
 
-/// What all accounts have together, if it can be read and added up.
+/// The sum of all accounts, if it can be read and added up.
 fn total(host: &mut Host) -> Option<u64> {
     let mut sum = 0u64;
     for (_, has) in host.pairs().ok()? {

@@ -1,10 +1,10 @@
-//! Transactions as values, on the calls that `Ask` has not: each call, and a drop at every point.
+//! Transactions as values, on the calls that `Ask` lacks: each call, and a drop at every point.
 use crate::calls::{Ask, Home, NEW, Row, Told, leaves, must, open, play};
 use std::process::Abort;
 use striped_map::{Caller, Stop, Transaction};
 use txn_words::{Op, Refusal, Reply};
 
-/// What a transaction is asked for.
+/// A request to a transaction.
 #[derive(Clone, Copy)]
 enum Call {
     Do(Op),
@@ -17,7 +17,7 @@ enum Call {
     Pairs,
 }
 
-/// What it answers: that, a reply, a number, or yes or no; of `Pairs`, how many there are.
+/// The answer to a request: done, a reply, a number, or yes or no; of `Pairs`, how many there are.
 #[derive(Clone, Copy, PartialEq, Eq)]
 enum Answer {
     Done,
@@ -94,7 +94,7 @@ enum End {
     IsDropped,
 }
 
-/// What a transaction answers.
+/// Makes a call of a transaction, and tells its answer.
 fn told_by(t: &mut Transaction<'_>, what: Call) -> Answer {
     match make_call(t, what) {
         Ok(told) => told,
@@ -146,10 +146,10 @@ const HOLDS: &[Row] = &[
     (1, Ask::Do(Op::Put(1, 5)), NEW),
 ];
 
-/// It leaves the pair.
+/// Caller 2 commits, which leaves the pair.
 const LETS_GO: &[Row] = &[(1, Ask::Commit, Told::Number(1))];
 
-/// Caller 2 then finds no stripe held, and the pair alone.
+/// Caller 2 then finds no stripe held, and only the one pair.
 const AFTER: &[Row] = &[
     (1, Ask::Begin, Told::Done),
     (1, Ask::Len, Told::Number(1)),
@@ -170,7 +170,7 @@ fn play_first<R: Abort>(
     assert!(rt; ended == wanted);
 }
 
-/// So many calls of caller 1 are taken back.
+/// This number of calls of caller 1 are taken back.
 fn taken_back<R: Abort>(rt: &R, home: &mut Home, calls: usize, end: End) {
     play(rt, home, HOLDS);
     play(rt, home, LETS_GO);
@@ -238,7 +238,7 @@ const BEGINS: &[Row] = &[
     (0, Ask::Do(Op::Put(1, 5)), NEW),
 ];
 
-/// It goes on, since no transaction was begun as a value.
+/// Caller 1 goes on, since no transaction was begun as a value.
 const GOES_ON: &[Row] = &[(0, Ask::Commit, Told::Number(1))];
 
 /// A transaction is begun by the caller itself, so none is begun as a value.
@@ -286,7 +286,7 @@ fn returned_early(rt: HostRuntime) {
 }
 
 /// The calls that a caller has besides those of `Ask`: whether the map is empty, whether key 1 is
-/// there, and two swaps, of which the second is never made.
+/// there, and two swaps, the second of which is never made.
 fn looks(caller: &mut Caller) -> Result<[bool; 4], Stop> {
     caller.begin()?;
     let is_empty = caller.is_empty()?;
@@ -297,14 +297,14 @@ fn looks(caller: &mut Caller) -> Result<[bool; 4], Stop> {
     Ok([is_empty, is_there, is_swapped, is_swapped_again])
 }
 
-/// The first caller makes these calls.
+/// The first caller makes the calls of `looks`.
 fn look<R: Abort>(rt: &R, home: &mut Home, wanted: [bool; 4]) {
     assert!(rt; 0 < home.callers.len());
     let looked = looks(&mut home.callers[0]);
     assert!(rt; looked == Ok(wanted));
 }
 
-/// It makes them in two transactions.
+/// The first caller makes the calls of `looks` in two transactions.
 fn play_looks<R: Abort>(rt: &R, home: &mut Home) {
     look(rt, home, [true, false, true, false]);
     look(rt, home, [false, true, false, false]);

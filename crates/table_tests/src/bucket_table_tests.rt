@@ -191,7 +191,7 @@ fn nodes_after_initialisation(rt: HostRuntime) {
     nodes_are(&rt, &mut home_for_two(rt.alloc()).expect(&rt, "a table"));
 }
 
-/// A list of which all stamps but one were given.
+/// A list that has given all stamps but one.
 const STAMPS_USED_UP: [(Call, Answer); 5] = [
     (Call::Seek(0, 1), Answer::Seek(Ok(InitSeek::Placed))),
     (Call::Link(0), Answer::Link(Err(InitRefusal::StampsUsedUp))),
@@ -309,7 +309,7 @@ fn initialise_with(rt: &impl Abort, home: &mut Home, spares: u32) -> Result<(), 
     Ok(())
 }
 
-/// The same on a new table.
+/// Initialises the buckets of a new table.
 fn initialise_anew(rt: &impl Abort, alloc: Global, spares: u32) -> Result<(), Fail> {
     match home_again(alloc, 2, 1) {
         Some(mut home) => initialise_with(rt, &mut home, spares),

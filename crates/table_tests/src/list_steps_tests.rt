@@ -475,7 +475,7 @@ enum Plain {
     Marked,
 }
 
-/// The keys below 8 in the order of the list. The dummy of bucket 1 stands before the fifth.
+/// The keys below 8 in the order of the list. The dummy of bucket 1 is before the fifth.
 const ORDER: [u64; 8] = [0, 4, 2, 6, 1, 5, 3, 7];
 
 /// Unlinks the nodes that a seek of the key at a rank unlinks: the marked nodes up to the first

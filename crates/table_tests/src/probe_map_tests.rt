@@ -6,8 +6,8 @@ use std::alloc::{AllocError, Global};
 use std::process::Abort;
 use std::test::Fail;
 
-/// Its product with the map's multiplier is 1, so that a small multiple of it has the first slot as
-/// its home, and the opposite of one the last slot.
+/// A key whose product with the map's multiplier is 1, so that a small multiple of it has the first
+/// slot as its home, and the opposite of one the last slot.
 const APART: u64 = 0xf1de_83e1_9937_733d;
 
 /// Makes room for a key, and asks once more if memory is refused: the map is unchanged then.

@@ -208,7 +208,7 @@ fn step_and_undo(
     is_alike(rt, alloc, one, plain)
 }
 
-/// The same on a new part and a new map.
+/// Runs drawn steps on a new part and a new map.
 fn run_drawn(rt: &impl Abort, alloc: Global, draws: &mut Draws, keys: u64) -> Result<(), Fail> {
     let mut one = fresh(alloc);
     step_and_undo(rt, alloc, draws, keys, &mut one, &mut fresh_plain(alloc))

@@ -102,7 +102,7 @@ fn figures(log: &UndoLog<Raised>) -> (usize, usize, bool) {
     (log.level(), log.len(), log.is_empty())
 }
 
-/// Takes back this number of jobs, newest first, which are all that there are. Needs no memory.
+/// Takes back all jobs, which are this many, newest first. Needs no memory.
 fn take_back(rt: &impl Abort, log: &mut UndoLog<Raised>, jobs: u64) -> Result<(), Fail> {
     assert!(rt; log.len() as u64 == jobs);
     for expected in [9, 8, 7, 6, 5, 4, 3, 2, 1] {
@@ -140,7 +140,7 @@ fn log_of_eight(alloc: Global) -> UndoLog<Raised> {
     eight_jobs(alloc)
 }
 
-/// Also run with allocations refused, the first of which is that of the ninth job.
+/// Also run with allocations refused; the first one is that of the ninth job.
 #[test]
 fn nine_undone_newest_first(rt: HostRuntime) -> Result<(), Fail> {
     undo_nine(&rt, rt.alloc(), &mut log_of_eight(rt.alloc()))
@@ -221,7 +221,7 @@ fn first_savepoint_of_side(alloc: Global) -> Result<usize, AllocError> {
     side.save()
 }
 
-/// The numbers of jobs of three logs, to the second of which one is pushed.
+/// The numbers of jobs of three logs; one job is pushed to the second log.
 fn jobs_of_three(rt: &impl Abort, alloc: Global) -> [usize; 3] {
     let first = empty_log(alloc);
     let mut second = empty_log(alloc);

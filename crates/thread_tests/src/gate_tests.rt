@@ -35,7 +35,7 @@ impl Heard {
 
 /// A gate that notes its calls. Worker 0 waits before its second action until worker 1 has done all
 /// its scripts, and worker 1 waits before its first action until worker 0 is there. So no worker's
-/// operation comes between the holds of another's.
+/// operation falls between the holds of another's.
 #[derive(Drop)]
 struct Listener<'a, R: Wait + Abort + Clock + Sync> {
     rt: &'a R,

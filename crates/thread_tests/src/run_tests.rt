@@ -120,7 +120,7 @@ fn place_of(outcome: &Outcome) -> u64 {
     }
 }
 
-/// Two workers with a script each, of which worker 1 commits first, though worker 0 began.
+/// Two workers with a script each; worker 1 commits first, though worker 0 began.
 fn meet<R: Threads + Wait + Abort + Clock + Sync>(
     rt: &R,
     alloc: Global,

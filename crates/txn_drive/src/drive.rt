@@ -1,6 +1,5 @@
-//! A call in progress: its phase, its next turn, and its phase after an answer. It stands apart
-//! from whatever takes the steps, so that a core, a lock and a test all drive calls by the same
-//! machine.
+//! A call in progress: its phase, its next turn, and its phase after an answer. It is separate from
+//! whatever takes the steps, so that a core, a lock and a test all drive calls by the same machine.
 ghost use Rattle.std.specs.Prelude.{◌≡◌, [], ◌++◌, Some, IfSome};
 ghost use Rattle.txn_words.specs.declared.step.Step.{Step};
 ghost use Rattle.txn_drive.specs.Drives.{new_drive, sized_of, turn_of, told_of, step_of, IsTurnOf, end_of, end_first, end_last, end_helped};
@@ -70,7 +69,7 @@ impl Drive {
         self.end()
     }
 
-    /// The end that a final phase stands for, and none for any other.
+    /// The end of the call if this phase is final, else none.
     #[inline(always)]
     fn end(self) -> Option<End>
         ensures { result ≡ end_of self }

@@ -1,5 +1,5 @@
-//! The steps of a caller's calls, one after the other: the work between the wish for a call and its
-//! end.
+//! The steps of a caller's calls, one after the other: the work between the request for a call and
+//! its end.
 //!
 //! A call on a transactional map is a list of steps, each taken under its own lock. A drive says
 //! which step is next, is told the answer, and at last says how the call ended. It takes no lock,

@@ -27,13 +27,13 @@ pub enum Work {
 pub enum Phase {
     /// No step was answered.
     Fresh,
-    /// The position of a work is to be sought.
+    /// The next step seeks the position of a work.
     Seeking(Work, u8),
     /// The position of a work was found.
     Acting(Work, u8),
-    /// The table is to be doubled: the size at the last turn, 0 before the first.
+    /// The next step doubles the table: the size at the last turn, 0 before the first.
     Doubling(u32),
-    /// The position of a bucket's dummy is to be sought.
+    /// The next step seeks the position of a bucket's dummy.
     Initialising(Way, u8),
     /// The position of a bucket's dummy was found.
     Linking(Way, u8),
@@ -53,7 +53,7 @@ pub enum Phase {
 
 impl Phase {
     /// Goes on to the phase after an answer to the step of this one. Each kind of phase is written
-    /// in a place of its own, so that only the parts that it has are written.
+    /// in its own place, so that only the parts that it has are written.
     #[inline(always)]
     pub(crate) fn told(&mut self, call: Call, answer: Answer)
         ensures { self.new ≡ told_in call self.old answer }
@@ -125,7 +125,7 @@ fn told_act(work: Work, again: u8, answer: Answer) -> Phase
     }
 }
 
-/// After one more change was taken back: the position of the next one is to be sought.
+/// After one more change was taken back: the next step seeks the position of the next one.
 fn undone_more(work: Work) -> Phase
     ensures { result ≡ undone_more work }
 {

@@ -54,19 +54,19 @@ entries_from version other entries = Err Member
 abbrev pub history_of : List ℕ → Result (ℕ × List Entry × ℕ) FileFault
 history_of bytes = contents history_file bytes >>= λ file. entries_from file.0 file.1 file.2
 
--- What is kept of an entry while a file is read: the entry, if it is small enough to be packed;
--- otherwise one that is out of range as well, and that version 1 has if it has the entry.
+-- The entry that is kept while a file is read: the entry itself, if it is small enough to be
+-- packed; otherwise one that is out of range as well, and that version 1 has if it has the entry.
 abbrev pub kept : Entry → Entry
 kept e =
     if is_small e then e
     else if is_old_entry e then Saved 65535
     else Asked 65535 (PutIf 0 None 0)
 
--- What is kept of the entry that an array in JSON is.
+-- The entry that is kept for an array in JSON.
 unfoldable pub kept_of : List Data → Option Entry
 kept_of ds = option_map kept (entry_of ds)
 
--- History files of which that is kept.
+-- History files with the entries that are kept.
 abbrev pub kept_file : FileKind Entry
 kept_file = record {
   numbers = codes "stripes" ∷ [];
@@ -77,7 +77,7 @@ kept_file = record {
   most = max_entries;
 }
 
--- The history file that bytes are, if of each entry is kept what is packed: it is `history_of`.
+-- The history file that bytes are, by the entries that are kept. It equals `history_of`.
 abbrev pub kept_history_of : List ℕ → Result (ℕ × List Entry × ℕ) FileFault
 kept_history_of bytes =
     contents kept_file bytes >>= λ file. entries_from file.0 file.1 file.2

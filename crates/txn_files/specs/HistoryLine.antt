@@ -1,4 +1,4 @@
--- The line of a history, of which a part was handed out.
+-- The line of a history, a part of which was handed out.
 use Rattle.std.specs.Prelude.{ℕ, Bool, true, false, List, [], ◌∷◌, ◌++◌, map, codes, decimal}
 use Rattle.std.specs.List.{flat_map, join_with_byte}
 use Rattle.txn_words.specs.declared.entry.Entry.{Entry}

@@ -9,7 +9,7 @@ use Rattle.txn_files.specs.Operations.{elements_of_op}
 abbrev pub comma : ℕ
 comma = 44
 
--- An array of elements, each of which is given as its text.
+-- An array of elements, given by their texts.
 abbrev pub array_text : List (List ℕ) → List ℕ
 array_text elements = codes "[" ++ (join_with_byte comma elements ++ codes "]")
 

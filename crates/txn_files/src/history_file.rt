@@ -121,7 +121,7 @@ fn kept(entry: Entry) -> SmallEntry
     small
 }
 
-/// What is kept of the entry that has these elements.
+/// The entry that is kept for these elements.
 #[tactic(auto, unfolding(crate::specs::HistoryFile::kept_of))]
 fn kept_entry_in(values: &[Plain<'_>]) -> Option<SmallEntry>
     ensures { result ≡ kept_of (map data_of values.now) }
@@ -129,7 +129,7 @@ fn kept_entry_in(values: &[Plain<'_>]) -> Option<SmallEntry>
     Some(kept(entry_in(values)?))
 }
 
-/// Entries, as pieces of a history file: what is kept of each.
+/// Entries, as pieces of a history file, packed as they are kept.
 struct EntryKind;
 
 impl PieceKind for EntryKind {
@@ -307,8 +307,8 @@ pub fn read_packed_history(
     kept_history(alloc, bytes)
 }
 
-/// The history file that there is if of each entry is kept what is packed. No history in range has
-/// an entry that is replaced, so it is the file's.
+/// The history file with the entries that are kept in packed form. No history in range has an entry
+/// that is replaced, so it is that of the bytes.
 fn kept_history(alloc: Global, bytes: &[u8]) -> Result<(u32, Vec<SmallEntry>, u64), FileFault>
     ensures { Gives (λ file. (file.0, file.1.items, file.2)) result (kept_history_of bytes.now) }
 {

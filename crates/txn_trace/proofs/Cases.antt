@@ -80,7 +80,7 @@ savepoints_now = refl
 savepoints_serial : (serial savepoints).rows ≡ []
 savepoints_serial = refl
 
--- No other caller sees a take, which is taken back.
+-- A take that no other caller sees is taken back.
 abbrev aborted_take_restores : List Entry
 aborted_take_restores = Began 0 1 ∷ Asked 0 (Put 3 30) ∷ Did 0 None ∷ Committed 0 1 ∷ Began 0 2 ∷ Asked 0 (Take 3) ∷ Did 0 (Some 30) ∷ Began 1 3 ∷ Busy 1 (Get 3) 0 ∷ Aborted 1
     ∷ Leave 0 None ∷ Undone 0 ∷ Aborted 0 ∷ Began 1 4 ∷ Asked 1 (Get 3) ∷ Did 1 (Some 30) ∷ Committed 1 2 ∷ []
@@ -208,7 +208,7 @@ checker_replies_right_verdict = refl
 checker_replies_not_undone_verdict : verdict Now 8 checker_replies_not_undone ≡ Illegal 8 3
 checker_replies_not_undone_verdict = refl
 
--- The verdicts on the beginnings of that history.
+-- The verdicts on the beginnings of `checker_replies`.
 fed_entry_by_entry_10 : verdict Now 8 (take 10 checker_replies) ≡ Legal 1 0
 fed_entry_by_entry_10 = refl
 

@@ -211,7 +211,7 @@ all_from_same c xs same there [] within = refl
 all_from_same c xs same there (y ∷ ys) within =
     and_from (y == c) _ (eq-eqb y c (same y c (within y (or_left _ _ (eq-eqb y y refl))) there)) (all_from_same c xs same there ys (λ z is. within z (or_right (y == z) _ is)))
 
--- An Asked may stand if no caller holds the stripe, or the same caller does.
+-- An Asked is legal if no caller holds the stripe, or the same caller does.
 pub is_locked-asked : (holder : Holder) (stripes : ℕ) (g : List Entry) (c : ℕ) (op : Op) → IsShaped g → LocksHold holder stripes g
     → is_locked holder stripes g (Asked c op) ≡ elim (holder_of stripes (stripe_of stripes (key_of op)) g) [ None ↦ true | Some d ↦ d == c ]
 is_locked-asked holder stripes g c op shape locks = at (holders stripes (stripe_of stripes (key_of op)) g) (one_holder holder stripes g shape locks (stripe_of stripes (key_of op)))
@@ -223,8 +223,8 @@ is_locked-asked holder stripes g c op shape locks = at (holders stripes (stripe_
       | inr other ↦ ap (λ b. b && list_all (λ x. x == c) xs) (ne_eqb x c other) ∙ sym (ne_eqb x c other)
     ]
 
--- A Busy may stand if the caller that it names is another one, which holds the stripe or has begun
--- a transaction.
+-- A Busy is legal if the caller that it names is another one, which holds the stripe or has begun a
+-- transaction.
 pub is_locked-busy : (holder : Holder) (stripes : ℕ) (g : List Entry) (c : ℕ) (op : Op) (x : ℕ) → IsShaped g → LocksHold holder stripes g
     → is_locked holder stripes g (Busy c op x) ≡ (not (x == c) && elim holder [ Now ↦ option_eq nat_eq (holder_of stripes (stripe_of stripes (key_of op)) g) (Some x) | Begun ↦ has_begun x g ])
 is_locked-busy Begun stripes g c op x shape locks = refl

@@ -66,7 +66,7 @@ txn_begun c g shape = by_entries (λ h. is_some (txn_in h c) ≡ true → has_be
 pub holder_begun : (stripes : ℕ) (g : List Entry) → IsShaped g → (s c : ℕ) → holder_of stripes s g ≡ Some c → has_begun c g ≡ true
 holder_begun stripes g shape s c holds = txn_begun c g shape (ap is_some (holder_txn stripes g shape s c holds).in_it)
 
--- An entry that may stand by the rule Now may stand by the rule Begun.
+-- An entry that is legal by the rule Now is legal by the rule Begun.
 is_locked-begun : (stripes : ℕ) (g : List Entry) (e : Entry) → IsShaped g → LocksHold Now stripes g → is_locked Now stripes g e ≡ true → is_locked Begun stripes g e ≡ true
 is_locked-begun stripes g (Busy c op x) shape locks locked =
     let s = stripe_of stripes (key_of op) in

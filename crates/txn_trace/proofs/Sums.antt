@@ -1,4 +1,4 @@
--- Sums over ranges of numbers of which one summand changes.
+-- Sums over ranges of numbers in which one summand changes.
 use Rattle.std.proofs.Common.{◌≡◌, ◌≢◌, ℕ, zero, suc, ◌+◌, ◌<◌, ◌≤◌, Bool, true, false, cond, List, [], ◌∷◌, length, refl, ap, sym, ◌∙◌, arith}
 use Rattle.std.specs.List.{filter, sum_by, range_with_len}
 use Rattle.std.proofs.lemmas.Bool.{cases_eq}

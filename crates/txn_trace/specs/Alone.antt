@@ -7,8 +7,8 @@ use Rattle.txn_words.specs.declared.entry.Entry.{Entry}
 use Rattle.txn_words.specs.declared.entry.Entry.TheVariants.{Asked, Did, Saved, Undone, Returned}
 use Rattle.txn_words.specs.Map.{Map, reply_of, after, is_change}
 
--- A run is a list of maps, the newest apart; the operation that waits for its reply; and for each
--- level the number of maps that was noted there, 1 at level 0.
+-- A run is a list of maps, the newest separate; the operation that waits for its reply; and for
+-- each level the number of maps that was noted there, 1 at level 0.
 pub record Run : Type 0 where
   pub last : Map
   pub earlier : List Map
@@ -50,7 +50,7 @@ act_returned run n =
     then Some (record run { notes = take (n + 1) run.notes })
     else None
 
--- The run after an entry, or None if the entry may not stand there.
+-- The run after an entry, or None if the entry is not allowed there.
 abbrev pub act : Run → Entry → Option Run
 act run (Asked c op) = Some (record run { pending = Some op })
 act run (Did c r) = act_did run run.pending r

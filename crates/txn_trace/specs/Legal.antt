@@ -55,7 +55,7 @@ is_running (Some s) = runs s.phase
 abbrev pub callers_in : List Entry → ℕ
 callers_in h = fold (λ n e. max n (caller_of e + 1)) 0 h
 
--- Those of the first callers that are not closed; the number says how many are looked at.
+-- The callers that are not closed, among the first ones; the number says how many are looked at.
 abbrev pub running : ℕ → List Entry → List ℕ
 running callers h = filter (λ c. is_running (seat_after (own c h))) (range_with_len 0 callers)
 

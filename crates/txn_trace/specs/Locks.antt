@@ -43,8 +43,8 @@ abbrev pub may_name : Holder → ℕ → ℕ → List Entry → ℕ → Bool
 may_name Now stripes s g x = list_any (λ y. y == x) (holders stripes s g)
 may_name Begun stripes s g x = has_begun x g
 
--- Whether an entry may stand after g: an Asked if no other caller holds the stripe, a Busy if the
--- caller that it names is another one and may be named.
+-- Whether the rule of locks allows an entry after g: an Asked if no other caller holds the stripe,
+-- a Busy if the caller that it names is another one and may be named.
 abbrev pub is_locked : Holder → ℕ → List Entry → Entry → Bool
 is_locked holder stripes g (Asked c op) =
     list_all (λ x. x == c) (holders stripes (stripe_of stripes (key_of op)) g)
@@ -52,7 +52,7 @@ is_locked holder stripes g (Busy c op x) =
     not (x == c) && may_name holder stripes (stripe_of stripes (key_of op)) g x
 is_locked holder stripes g _ = true
 
--- Each entry may stand after the prefix before it.
+-- The rule of locks allows each entry after the prefix before it.
 abbrev pub LocksHold : Holder → ℕ → List Entry → Type 0
 LocksHold holder stripes h =
     (g : List Entry) (e : Entry) → IsPrefix (g ++ e ∷ []) h → IsTrue (is_locked holder stripes g e)

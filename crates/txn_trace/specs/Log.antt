@@ -7,8 +7,8 @@ use Rattle.txn_words.specs.declared.entry.Entry.TheVariants.{Began, Asked, Did, 
 use Rattle.txn_words.specs.Map.{key_of}
 use Rattle.txn_words.specs.Shape.{changes, own}
 
--- The operation that waits for its reply; and of each change that stands, newest first, the key and
--- the value before it.
+-- The operation that waits for its reply; and the changes that stand, newest first, each with its
+-- key and the value before it.
 pub record Log : Type 0 where
   pub pending : Option Op
   pub standing : List (ℕ × Option ℕ)

@@ -49,7 +49,7 @@ is_commit_of c e = is_commit e && (caller_of e == c)
 abbrev pub commits_of : ℕ → List Entry → List ℕ
 commits_of c h = txns_of (is_commit_of c) h
 
--- Every `callers`-th of these scripts is the caller's, beginning with the one of the caller's own
+-- Every `callers`-th of these scripts is the caller's, beginning with the one that has the caller's
 -- number. This is one of the caller's.
 pub record IsScriptOf (callers : ℕ) (scripts : List (List Action)) (c n : ℕ)
     (script : List Action) : Type 0 where

@@ -1,4 +1,4 @@
--- What an operation does to a map: nothing if it is no change, and nothing to any other key.
+-- The effect of an operation on a map: none if it is no change, and none on any other key.
 use Rattle.std.proofs.Common.{◌≡◌, ℕ, ◌==◌, ◌≢◌, true, false, cond, refl, ap, sym, subst, ◌∙◌, Some, None}
 use Rattle.std.specs.Prelude.{nat_eq}
 use Rattle.std.specs.Option.{option_eq}

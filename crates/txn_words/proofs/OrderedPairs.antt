@@ -70,7 +70,8 @@ value_at-without k v (pair ∷ front) back sorted =
     ap (λ b. cond b (Some pair.1) (value_at k (front ++ back))) (split_cmp_tied k pair.0 ∙ ne_eqb k pair.0 (λ is. less_apart pair.0 k (below_middle pair.0 k v front back parts.0) (sym is)))
     ∙ value_at-without k v front back parts.1
 
--- A pair with a new key, put where the list still rises: the ordered pairs of the map with the key.
+-- A pair with a new key, put so that the list still rises: the ordered pairs of the map with the
+-- key.
 pub ordered-linked : (m : Map) (k v : ℕ) (front back : List (ℕ × ℕ)) → front ++ back ≡ ordered m → IsSortedBySplit (front ++ (k, v) ∷ back) → front ++ (k, v) ∷ back ≡ ordered (insert m k v)
 ordered-linked m k v front back is sorted = ordered_is (insert m k v) (front ++ (k, v) ∷ back) sorted (λ q.
     value_at-middle q k v front back sorted ∙ ap (λ es. cond (q == k) (Some v) (value_at q es)) is ∙ ap (cond (q == k) (Some v)) (value_at-ordered m q) ∙ sym (get-insert m k v q))

@@ -1,4 +1,5 @@
--- The rule of shape: the entries that may stand in each phase of a caller, and the seat after each.
+-- The rule of shape: the entries that are allowed in each phase of a caller, and the seat after
+-- each.
 use Rattle.std.specs.Prelude.{ℕ, ◌+◌, ◌-◌, ◌==◌, Bool, true, false, ◌&&◌, Option, Some, None, is_some, IsTrue, List, [], ◌∷◌, ◌++◌, length, take, slice_index, nat_eq, nat_lt, if◌then◌else◌}
 use Rattle.std.specs.Option.{option_eq, option_and_then}
 use Rattle.std.specs.List.{fold, filter}
@@ -38,7 +39,7 @@ changes (Take k) r = is_some r
 changes (Get k) r = false
 changes (PutIf k expected v) r = option_eq nat_eq r expected
 
--- The seat after an entry, for each phase and each entry that may stand in it, and None for all
+-- The seat after an entry, for each phase and each entry that is allowed in it, and None for all
 -- others.
 abbrev pub row : Seat → Phase → Entry → Option Seat
 row s Closed (Began c t) = Some (record closed_seat { phase = Opened })
@@ -67,7 +68,7 @@ row s LeavingToEnd (Undone c) =
 row s LeavingToEnd (Aborted c) = if s.standing == 0 then Some closed_seat else None
 row s _ e = None
 
--- The seat after a caller's own entries, or None if one of them may not stand.
+-- The seat after a caller's own entries, or None if one of them is not allowed.
 abbrev pub seat_after : List Entry → Option Seat
 seat_after es = fold (λ seat e. option_and_then (λ s. row s s.phase e) seat) (Some closed_seat) es
 

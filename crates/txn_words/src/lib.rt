@@ -1,7 +1,7 @@
 //! The words of transactions on a map: operations, steps and their answers, refusals, limits, the
 //! entries of a history, and a caller's seat, with the finite map that an operation is about.
 //!
-//! What a history means is `txn_trace`, which stands on this crate. So a crate that only names
+//! The meaning of a history is in `txn_trace`, which uses this crate. So a crate that only names
 //! operations, entries or refusals needs none of the laws of histories.
 //!
 //! The functions compute definitions that the crates above share: limits and texts, the entry of a

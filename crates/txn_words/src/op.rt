@@ -13,8 +13,8 @@ pub enum Op {
     Take(u64),
     /// Looks a key up.
     Get(u64),
-    /// Puts a value at a key exactly if the key has what is expected, a value or none: the key,
-    /// what is expected, the value.
+    /// Puts a value at a key exactly if the key has the expected value, or none if none is
+    /// expected: the key, the expected value, the new value.
     PutIf(u64, Option<u64>, u64),
 }
 

@@ -18,7 +18,7 @@ enum ActionKind {
     Abort,
 }
 
-/// An action in 32 bytes, for who keeps many; an `Action` takes 48. A contract sees it as the
+/// An action in 32 bytes, for those who keep many; an `Action` takes 48. A contract sees it as the
 /// action.
 #[derive(Debug, Drop)]
 pub struct PackedAction {

@@ -26,7 +26,7 @@ enum StepKind {
     Double,
 }
 
-/// A step in 40 bytes, for who keeps many; a `Step` takes 56. A contract sees it as the step.
+/// A step in 40 bytes, for those who keep many; a `Step` takes 56. A contract sees it as the step.
 #[derive(Debug, Drop)]
 pub struct PackedStep {
     kind: StepKind,

@@ -195,8 +195,8 @@ impl Seat {
         }
     }
 
-    /// Makes room for one more savepoint, if there is none; neither the seat nor the room that
-    /// there was changes.
+    /// Makes room for one more savepoint, if there is none; the seat and the room that it has are
+    /// unchanged.
     ///
     /// # Errors
     ///
@@ -214,7 +214,7 @@ impl Seat {
         self.savepoints.reserve(1)
     }
 
-    /// Whether an entry may come next: the rule of shape has a row for it here.
+    /// Whether an entry may follow: the rule of shape has a row for it here.
     #[inline(always)]
     pub fn allows(&self, entry: &Entry) -> bool
         ensures { result ≡ is_some (row self.now.seat self.now.seat.phase entry.now) }
@@ -236,7 +236,7 @@ impl Seat {
         }
     }
 
-    /// Whether an entry may come next in an open transaction with nothing unfinished.
+    /// Whether an entry may follow in an open transaction with nothing unfinished.
     fn allows_opened(&self, entry: &Entry) -> bool
         ensures { result ≡ is_some (row self.now.seat Opened entry.now) }
     {
@@ -251,7 +251,7 @@ impl Seat {
         }
     }
 
-    /// Moves on by an entry if it may come next, and says whether it may; if not, nothing changes.
+    /// Moves on by an entry if it may follow, and answers whether it may; if not, nothing changes.
     /// A `Saved` takes one of the room, and a savepoint that is dropped gives one back.
     ///
     /// # Cost

@@ -1,4 +1,4 @@
-//! The store of a caller's jobs: a small vector whose first few places stand in the value itself.
+//! The store of a caller's jobs: a small vector whose first few places are in the value itself.
 //! Invariant: each place in use holds a job; `None` fills only unused inline places.
 use crate::job::UndoJob;
 use crate::store::JobStore;
@@ -6,7 +6,7 @@ use smallvec::SmallVec;
 use std::alloc::{AllocError, Global};
 use std::marker::Model;
 
-/// Jobs in places, of which up to `INLINE` stand in the value itself; more than these take an
+/// Jobs in places; up to `INLINE` places are in the value itself, and more than these take an
 /// allocation.
 #[derive(Drop)]
 pub struct InlineJobs<J: UndoJob, const INLINE: usize> {

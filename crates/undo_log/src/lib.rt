@@ -6,8 +6,8 @@
 //!   the former it answers the latter.
 //! - `UndoLog`: contracts see its jobs, oldest first, and how many of them each savepoint keeps.
 //!   Savepoints are numbered 1, 2, ..; level 0 is the beginning, which keeps none. Jobs are taken
-//!   out newest first, each once, and only above the level that is named. The first eight stand in
-//!   the log itself.
+//!   out newest first, each once, and only above the level that is named. The first eight are kept
+//!   in the log itself.
 //! - `Side` and `SideValue`: a value that belongs to the caller. Each change of it is taken back by
 //!   a job. Contracts see its words at each level, and a return to a level restores exactly those,
 //!   for every side type and every list of changes.
@@ -18,7 +18,7 @@
 //! say otherwise.
 //!
 //! `UndoLog` and `SideValue` keep their jobs in different stores, each below a `JobLog` (`log.rt`).
-//! A side value's jobs all stand in a `Vec`, since their size is the caller's choice.
+//! A side value's jobs are all in a `Vec`, since their size is the caller's choice.
 #![tactic(auto)]
 
 mod inline_jobs;

@@ -22,7 +22,7 @@ pub struct JobLog<S: JobStore> {
     kept: Vec<usize>,
 }
 
-/// A log whose first eight jobs stand in the log itself: a transaction of up to eight changes takes
+/// A log whose first eight jobs are in the log itself: a transaction of up to eight changes takes
 /// no memory for their inverses.
 ///
 /// # Cost

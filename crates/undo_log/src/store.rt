@@ -11,7 +11,7 @@ pub trait JobStore: Drop {
 
     ghost use Rattle.std.specs.Prelude.{◌≡◌, ◌+◌, ◌-◌, ◌<◌, ◌↔◌, ℕ, List, [], ◌∷◌, ◌++◌, length, slice_get, IsOk, IsSome, OnOk, OnErr, option_to_list, option_copied};
 
-    /// How many jobs stand in the store itself and take no memory.
+    /// The number of jobs that are kept in the store itself and take no memory.
     ghost inline: { ℕ };
 
     /// The jobs, oldest first.
@@ -67,8 +67,8 @@ pub trait JobStore: Drop {
         ensures room { room_of self.new ≡ room_of self.old + length (option_to_list result) };
 }
 
-/// All jobs stand in an allocation. So the size of a log does not depend on that of a job, which
-/// for a side value is the caller's choice.
+/// All jobs are in an allocation. So the size of a log does not depend on that of a job, which for
+/// a side value is the caller's choice.
 impl<J: UndoJob> JobStore for Vec<J> {
     type Job = J;
 

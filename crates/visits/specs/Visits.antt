@@ -1,4 +1,4 @@
--- What a visitor of a shared map has seen of its visit, and what all visitors are answered.
+-- The visit that a visitor of a shared map has seen, and the answers to all visitors.
 use Rattle.std.specs.Prelude.{ℕ, ◌≡◌, List, [], ◌∷◌, ◌++◌, length, slice_get, Option, Some, Result}
 use Rattle.std.specs.Prelude.{Ok}
 use Rattle.txn_words.specs.declared.op.Op.TheVariants.{Put, Get}
@@ -22,7 +22,7 @@ pub record HasDone {S : Type 0} (visit : Visit) (reply : Option ℕ) (k l : Toke
       ∷ Asked k.number (Get visit.key) ∷ Did k.number reply ∷ []
   pub whose : IsSameCaller k l
 
--- The last that the caller has seen is such a transaction.
+-- The last entries that the caller has seen are those of a visit with this reply.
 pub record HasVisited {S : Type 0} (visit : Visit) (reply : Option ℕ) (me : Token S) : Type 0 where
   pub earlier : List Entry
   pub txn : ℕ
@@ -30,7 +30,7 @@ pub record HasVisited {S : Type 0} (visit : Visit) (reply : Option ℕ) (me : To
   pub place : ℕ
   pub seen : me.seen ≡ earlier ++ visiting me.number visit txn before reply place
 
--- In the history such a transaction has committed, and it got what it put.
+-- A visit has committed in the history, and it got what it put.
 pub record IsAnswered (h : List Entry) (visit : Visit) (reply : Option ℕ) : Type 0 where
   pub caller : ℕ
   pub txn : ℕ
@@ -39,7 +39,7 @@ pub record IsAnswered (h : List Entry) (visit : Visit) (reply : Option ℕ) : Ty
   pub whole : of txn h ≡ visiting caller visit txn before reply place
   pub got : reply ≡ Some visit.value
 
--- There is an answer to each visit, in their order, and each that is a reply is so by the history.
+-- Each visit has an answer, in their order, and each answer that is a reply is that of the history.
 pub record AreAnswered (h : List Entry) (visits : List Visit)
     (answers : List (Result (Option ℕ) Stop)) : Type 0 where
   pub count : length answers ≡ length visits

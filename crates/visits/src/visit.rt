@@ -1,4 +1,4 @@
-//! What visitors of one map put and get, each in a thread of its own.
+//! Visits of one map: what each visitor puts and gets, in its own thread.
 ghost use Rattle.std.specs.Prelude.{◌≡◌, ◌⊎◌, IfOk, IfErr, length};
 ghost use Rattle.shared_transactions.specs.Keeps.{Keeps};
 ghost use Rattle.txn_words.specs.declared.refusal.Refusal.{Refusal};
@@ -14,7 +14,7 @@ use std::sync::ledger::Ledger;
 use std::thread::Threads;
 use txn_trace::{Limits, Refusal, Reply};
 
-/// What a visitor puts, and where.
+/// The key and the value that a visitor puts.
 #[derive(Clone, Copy)]
 pub struct Visit {
     /// The key.
@@ -23,7 +23,7 @@ pub struct Visit {
     pub value: u64,
 }
 
-/// What a visitor got, or why it did not get that far.
+/// The reply that a visitor got, or why it got none.
 pub type Answer = Result<Reply, Stop>;
 
 impl Visit {
@@ -41,7 +41,7 @@ impl Visit {
         t.get(self.key)
     }
 
-    /// The same in a transaction, begun anew as long as another visitor holds the key's stripe.
+    /// The visit in a transaction, begun again as long as another visitor holds the key's stripe.
     ///
     /// # Errors
     ///
@@ -61,7 +61,7 @@ impl Visit {
     }
 }
 
-/// Each visitor has a thread and a caller of its own.
+/// Each visitor has its own thread and its own caller.
 impl<R: Wait> Work<R> for Visit {
     type Output = Answer;
 
@@ -72,9 +72,9 @@ impl<R: Wait> Work<R> for Visit {
     }
 }
 
-/// Makes a map, has each visitor visit it in a thread of its own, and closes it: its core, and an
-/// answer to each visit, in their order. Each visitor got what it put, whatever the others did: the
-/// core's history has its transaction, committed.
+/// Makes a map, has each visitor visit it in its own thread, and closes it: its core, and an answer
+/// to each visit, in their order. Each visitor got what it put, whatever the others did: the core's
+/// history has its transaction, committed.
 ///
 /// # Errors
 ///
@@ -83,8 +83,8 @@ impl<R: Wait> Work<R> for Visit {
 ///
 /// # Cost
 ///
-/// A thread and a transaction for each visit, begun anew as long as its stripe is held, and that of
-/// the map's `new` and `close`.
+/// A thread and a transaction for each visit, begun again as long as its stripe is held, and that
+/// of the map's `new` and `close`.
 pub fn visit_all<R: Threads + Wait + Sync>(
     rt: &R,
     alloc: Global,

@@ -212,7 +212,7 @@ fn run_sweeps(rt: &impl Abort, alloc: Global, core: &mut Core, steps: &[Step]) -
     Ok(())
 }
 
-/// This number of sweeps by one call, none of which finds a marked node.
+/// This number of sweeps by one call; none finds a marked node.
 fn run_many(rt: &impl Abort, alloc: Global, core: &mut Core, count: usize) -> Result<(), Fail> {
     let mut steps = Vec::new(alloc);
     add_sweeps(&mut steps, count)?;

@@ -184,8 +184,8 @@ fn change_and_undo_five(rt: &impl Abort, alloc: Global, core: &mut Core) -> Resu
     end_five(rt, core)
 }
 
-/// Aborts the callers below a number, each of which may not have begun, and checks that nothing is
-/// left. Needs no memory.
+/// Aborts the callers below a number, which need not have begun, and checks that nothing is left.
+/// Needs no memory.
 fn abort_all(rt: &impl Abort, core: &mut Core, callers: u64) {
     for caller in 0..callers {
         let answer = abort(core, caller);

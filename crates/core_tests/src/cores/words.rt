@@ -57,7 +57,7 @@ fn answer(core: &mut Core, right: &StripeRight, ask: Ask) -> Result<Answer, Fail
 }
 
 /// Caller 0 puts with the right to stripe 1. Caller 1 finds its word there and is busy; a right to
-/// the same stripe, a word of a caller that has never begun and one of its own are stale.
+/// that stripe, the word of a caller that has never begun, and its own word are stale.
 static ASKS: [(Ask, Answer); 11] = [
     (Ask::Step(Step::Begin(0)), Answer::Began(1)),
     (Ask::Right(0, Op::Put(1, 10)), Answer::Asked),

@@ -134,7 +134,7 @@ fn has_shape(alloc: Global, history: &[Entry], entry: &Entry) -> Result<bool, Al
     Ok(may_come(entry, counts_of(history), &entries, &kept))
 }
 
-/// Whether an entry may come after the entries of its caller's transaction, with these numbers of
+/// Whether an entry may follow the entries of its caller's transaction, with these numbers of
 /// changes at its levels.
 fn may_come(entry: &Entry, counts: Counts, entries: &[Entry], kept: &[usize]) -> bool {
     let standing = count_standing(entries);
@@ -157,7 +157,7 @@ fn may_come(entry: &Entry, counts: Counts, entries: &[Entry], kept: &[usize]) ->
     }
 }
 
-/// Whether an entry may come in an open transaction with nothing unfinished.
+/// Whether an entry may follow in an open transaction with nothing unfinished.
 fn may_come_in_open(entry: &Entry, kept: &[usize], committed: u64) -> bool {
     match *entry {
         Entry::Asked(..) | Entry::Busy(..) | Entry::Saved(_) | Entry::Leave(_, None) => true,
@@ -167,7 +167,7 @@ fn may_come_in_open(entry: &Entry, kept: &[usize], committed: u64) -> bool {
     }
 }
 
-/// Whether an entry may come on the way to a level, at which this number of changes stood.
+/// Whether an entry may follow on the way to a level, at which this number of changes stood.
 fn may_come_on_the_way(entry: &Entry, level: u64, kept: usize, standing: usize) -> bool {
     match *entry {
         Entry::Undone(_) => kept < standing,

@@ -117,7 +117,7 @@ fn compare_whole(rt: &impl Abort, alloc: Global, file: &str, line: &str, most: u
     assert!(rt; is_whole, "{most}");
 }
 
-/// The writes before the one that fails are a beginning of the line, and none comes after it.
+/// The writes before the one that fails are a beginning of the line, and none follows it.
 fn compare_failed(rt: &impl Abort, alloc: Global, file: &str, line: &str, fails_at: usize) {
     let (result, output) = mixed(alloc, file, Expecting::new(line, 10_000, fails_at));
     let is_told = matches!(result, Err(Fault::Write)) && output.is_right;

@@ -71,7 +71,7 @@ const CHANGES: [(Step, Answer); 50] = [
     (Step::Act(4), Answer::Done(Some(20))),
 ];
 
-/// They leave, take back one change each in three rounds, and end.
+/// The callers leave, take back one change each in three rounds, and end.
 const ABORTS: [(Step, Answer); 40] = [
     (Step::Abort(0), Answer::Leaving),
     (Step::Abort(1), Answer::Leaving),

@@ -79,7 +79,7 @@ fn put_all(
     Ok(())
 }
 
-/// What is refused memory after these pairs were put.
+/// The call that is refused memory after these pairs were put.
 #[derive(Clone, Copy)]
 enum Refused {
     /// One of the puts.

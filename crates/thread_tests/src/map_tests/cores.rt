@@ -82,14 +82,14 @@ static TAKEN: [Row; 4] = [
     (0, Call::Commit, Ok(Told::Committed(1, 1))),
 ];
 
-/// Its node is swept.
+/// The node of the taken key is swept.
 static SWEPT: [(Step, Answer); 3] = [
     (Step::Sweep, Answer::Swept),
     (Step::Sweep, Answer::Clean),
     (Step::Begin(0), Answer::Began(2)),
 ];
 
-/// The node of a key that is taken is marked, and no one seeks past it: the core of the closed map
+/// The node of a key that is taken is marked, and no seek passes it: the core of the closed map
 /// still has it.
 struct Marked;
 
@@ -134,7 +134,7 @@ fn try_idly<L: Ledger, R: Wait + Abort>(
     Ok(())
 }
 
-/// A token without a transaction tries no word, so no one finds its stripe held.
+/// A token without a transaction tries no word, so no caller finds its stripe held.
 struct Idle;
 
 impl Play for Idle {

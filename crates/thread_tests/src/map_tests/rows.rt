@@ -129,7 +129,7 @@ impl Play for BusyBetween {
     }
 }
 
-/// The history has nine entries, of which caller 0 saw four and caller 1 five.
+/// The history has nine entries; caller 0 saw four of them, and caller 1 five.
 fn counted_entries<L: Ledger, R: Abort>(rt: &R, closed: &Closed<L, NoSide>) {
     assert!(rt; is_history(closed.core.trace(), BETWEEN.as_slice()));
     assert_eq!(rt; closed.callers.len(), 2);

@@ -222,7 +222,7 @@ fn in_turn<L: Ledger, R: Abort>(rt: &R, closed: &Closed<L, NoSide>) {
     assert!(rt; has_seen(callers, 1, &IN_TURN[4..]));
 }
 
-/// Its calls.
+/// The calls of `two_threads_in_turn`.
 static TWO_IN_TURN: [Row; 6] = [
     (0, Call::Begin, Ok(Told::Number(1))),
     (0, Call::Op(Op::Put(6, 60)), Ok(Told::Replied(None))),

@@ -49,7 +49,7 @@ impl Op {
         }
     }
 
-    /// What the key has after the operation, if this is its reply.
+    /// The value of the key after the operation, if this is its reply.
     pub fn leaves(self, reply: Reply) -> Reply {
         match self {
             Op::Put(_, value) => Some(value),

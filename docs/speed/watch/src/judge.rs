@@ -32,7 +32,7 @@ pub enum Rule {
     Shape = 3,
 }
 
-/// What is asked of entries of right shape.
+/// The rules that entries of right shape are tested by.
 pub trait Rules {
     fn ask(&mut self, caller: usize, op: Op) -> Result<(), Rule>;
 
@@ -54,7 +54,7 @@ pub struct Judge<R> {
     began: u64,
     committed: u64,
     callers: Vec<Caller>,
-    // How many entries came before the first bad one.
+    // How many entries were fed before the first bad one.
     fed: u64,
     bad: Option<Rule>,
 }

@@ -52,7 +52,7 @@ pub struct Scripts {
     pub scripts: Vec<Vec<Action>>,
 }
 
-/// What a script asks of its worker.
+/// An action that a script asks of its worker.
 #[derive(Clone, Copy)]
 pub enum Action {
     Op(Op),
@@ -96,7 +96,7 @@ const _: () = assert!(size_of::<PackedStep>() == 32);
 
 type Refused = Box<dyn error::Error>;
 
-/// No caller: no file has so many.
+/// No caller: no file has this many.
 const NO_CALLER: u8 = u8::MAX;
 
 /// The pieces of a file or of a script, whether one is a `put_if`, and the largest number of a caller.
@@ -106,7 +106,7 @@ struct Pieces<T> {
     last_caller: u8,
 }
 
-/// What a piece is read by, and what is noted of it.
+/// The reader of a kind of pieces, and the notes on each.
 trait Piece: Sized {
     fn read<'de, A: SeqAccess<'de>>(elements: Elements<A>, name: &str) -> Result<Self, A::Error>;
 
@@ -181,7 +181,7 @@ impl<'de, A: SeqAccess<'de>> Elements<A> {
         Ok(number.min(u64::from(NO_CALLER)) as u8)
     }
 
-    /// The operation whose name comes next.
+    /// The operation with the next name.
     fn op(&mut self) -> Result<Op, A::Error> {
         let name = self.next::<&str>()?;
         self.op_named(name)
@@ -197,7 +197,7 @@ impl<'de, A: SeqAccess<'de>> Elements<A> {
         })
     }
 
-    /// The piece, where no element is left.
+    /// The piece, if no element is left.
     fn end<T>(mut self, piece: T) -> Result<T, A::Error> {
         match self.0.next_element::<serde::de::IgnoredAny>()? {
             None => Ok(piece),
@@ -206,7 +206,7 @@ impl<'de, A: SeqAccess<'de>> Elements<A> {
     }
 }
 
-/// One piece, as a value of its own for serde.
+/// One piece, as a separate value for serde.
 struct One<T>(T);
 
 struct OneVisitor<T>(PhantomData<T>);

@@ -35,7 +35,7 @@ use text::Text;
 const ANSWER: usize = 8;
 const ENTRY: usize = 24;
 
-/// What `replay` prints.
+/// The output of `replay`.
 fn replay(text: String) -> Result<Vec<u8>, Box<dyn Error>> {
     let file = read_steps(&text)?;
     drop(text);

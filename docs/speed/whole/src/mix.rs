@@ -4,7 +4,7 @@ use crate::machine::Core;
 use crate::split::parent;
 use crate::step::{Answer, Op, Refusal, Step};
 
-/// After so many `again` in a row a seek and its act are one turn.
+/// After this many `again` in a row a seek and its act are one turn.
 const PATIENCE: u8 = 8;
 
 /// The generator `Pcg32` (O'Neill 2014), seeded as the crate `rand_pcg` seeds it.
@@ -76,7 +76,7 @@ enum End {
 
 pub struct Worker {
     pub number: u64,
-    // The script that it is at, the action, and how often the script was begun anew.
+    // The script that it is at, the action, and how often the script was begun again.
     script: usize,
     action: usize,
     pub again: u64,
@@ -277,7 +277,7 @@ pub fn mix(seed: u64, file: &Scripts) -> Core {
 }
 
 impl Scripts {
-    /// About how many entries the history has if no script is begun anew.
+    /// About how many entries the history has if no script is begun again.
     pub fn room(&self) -> usize {
         self.scripts.iter().map(|script| 2 * script.len() + 3).sum()
     }

@@ -8,7 +8,7 @@ use std::sync::Mutex;
 use std::sync::atomic::{AtomicU64, Ordering};
 use std::thread;
 
-/// Lets other threads go on where the worker found a stripe held and begins its script anew.
+/// Lets other threads go on if the worker found a stripe held and begins its script again.
 fn give_way(before: u64, worker: &Worker) {
     if before < worker.again {
         thread::yield_now();
@@ -100,7 +100,7 @@ impl<'a> Keeper<'a> {
         }
     }
 
-    /// Notes what an entry of its own says of its script.
+    /// Notes the effect of one of its own entries on its script.
     fn hear(&mut self, entry: Entry) {
         match entry.event {
             Event::Began => {

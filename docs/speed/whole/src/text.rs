@@ -2,7 +2,7 @@
 use crate::machine::{Entry, Event, OpKind};
 use crate::step::Answer;
 
-/// The longest line or entry: four numbers of 20 digits, two words and what stands between.
+/// The longest line or entry: four numbers of 20 digits, two words and the text between them.
 const LONGEST: usize = 128;
 
 const PAIRS: &[u8; 200] = b"0001020304050607080910111213141516171819\
@@ -79,7 +79,7 @@ pub struct Text {
 }
 
 impl Text {
-    /// An empty text with room for so many bytes.
+    /// An empty text with room for this many bytes.
     pub fn with_room(bytes: usize) -> Text {
         Text {
             text: Vec::with_capacity(bytes),
