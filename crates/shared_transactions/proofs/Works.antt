@@ -17,7 +17,7 @@ use Rattle.txn_trace.specs.Legal.{IsLegal}
 use Rattle.boost_core.specs.State.{State}
 use Rattle.core_tokens.specs.Tokens.{Token, AreCounted}
 use Rattle.locked_map.specs.Closes.{IsOwn}
-use Rattle.shared_transactions.specs.Works.{IsNew, AreNumbered, IsClosedBy, IsDoneIn, AreDone}
+use Rattle.shared_transactions.specs.Works.{IsNew, AreIn, AreNumbered, IsClosedBy, AreDone}
 
 -- The number of entries of the callers below a number.
 abbrev together : ℕ → List Entry → ℕ
@@ -126,9 +126,11 @@ get_left [] ys i x at = absurd (cc at)
 get_left (z ∷ xs) ys zero x at = at
 get_left (z ∷ xs) ys (suc i) x at = get_left xs ys i x at
 
-get_last : {X : Type 0} (xs : List X) (y : X) → slice_get (xs ++ y ∷ []) (length xs) ≡ Some y
-get_last [] y = refl
-get_last (x ∷ xs) y = get_last xs y
+get_right : {X : Type 0} (xs ys : List X) (i : ℕ) → slice_get (xs ++ ys) (length xs + i) ≡ slice_get ys i
+get_right [] ys i = ap (slice_get ys) (omega arith)
+get_right (x ∷ xs) ys i =
+    let next : suc (length xs) + i ≡ suc (length xs + i) = omega arith in
+    ap (slice_get (x ∷ xs ++ ys)) next ∙ get_right xs ys i
 
 -- What works came to, each seated with a caller before, and done after it. Their callers are the
 -- first ones of those that worked.
@@ -158,12 +160,15 @@ are_done work_of me_of outcome_of promises limits works seated done others core 
       only = subst (λ (n : ℕ). All (λ e. caller_of e < n) core.history) in_all closed.only;
     }
 
--- The work of the last caller of those that worked.
-pub last_done : {S O P : Type 0} (promises : O → P → Token S → Type 0) (limits : Sizes) (opening : O) (outcome : P) (me : Token S) (ks : List (Token S)) (place : ℕ) (core : State) → length ks ≡ place → promises opening outcome me → IsClosedBy limits (ks ++ me ∷ []) core
-    → IsDoneIn promises core.history place opening outcome
-last_done promises limits opening outcome me ks place core as_many kept closed = record {
-  me = me;
-  number_is = closed.numbered (length ks) me (get_last ks me) ∙ as_many;
-  promised = kept;
-  own = all_at (λ k. IsOwn core.history k) (ks ++ me ∷ []) closed.own (length ks) me (get_last ks me);
-}
+-- The callers after these.
+pub are_in : {S : Type 0} (limits : Sizes) (ks others : List (Token S)) (place : ℕ) (core : State) → length ks ≡ place → IsClosedBy limits (ks ++ others) core → AreIn core.history place others
+are_in limits ks others place core as_many closed i k at =
+    let here : slice_get (ks ++ others) (length ks + i) ≡ Some k = get_right ks others i ∙ at in
+    (closed.numbered (length ks + i) k here ∙ ap (λ n. n + i) as_many, all_at (λ k. IsOwn core.history k) (ks ++ others) closed.own (length ks + i) k here)
+
+-- The only one of them.
+pub is_in : {S : Type 0} (h : List Entry) (place : ℕ) (me : Token S) → AreIn h place (me ∷ []) → (me.number ≡ place) × IsOwn h me
+is_in h place me are =
+    let (number, own) = are 0 me refl in
+    let first : place + 0 ≡ place = omega arith in
+    (number ∙ first, own)

@@ -2,5 +2,5 @@ pub mod Within
 pub mod Keeps
 pub mod Stops
 pub mod Tries
-pub mod Restarted
+pub mod Refilled
 pub mod Works

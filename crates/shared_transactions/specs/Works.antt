@@ -1,5 +1,5 @@
 -- Works that threads do on one map, each with a caller of its own.
-use Rattle.std.specs.Prelude.{ℕ, ◌≡◌, ◌<◌, ◌≤◌, false, List, [], length, slice_get, Some, All}
+use Rattle.std.specs.Prelude.{ℕ, ◌≡◌, ◌+◌, ◌<◌, ◌≤◌, false, List, [], length, slice_get, Some, All}
 use Rattle.txn_words.specs.declared.entry.Entry.{Entry}
 use Rattle.txn_words.specs.declared.holder.Holder.TheVariants.{Begun}
 use Rattle.txn_words.specs.declared.refusal.Refusal.{Refusal}
@@ -31,6 +31,11 @@ pub record IsClosedBy {S : Type 0} (limits : Sizes) (ks : List (Token S)) (core 
     pub numbered : AreNumbered ks
     pub own : All (λ k. IsOwn core.history k) ks
     pub only : All (λ e. caller_of e < length ks) core.history
+
+-- These callers have numbers in a row from a place on, and exactly their entries in the history.
+abbrev pub AreIn : {S : Type 0} → List Entry → ℕ → List (Token S) → Type 0
+AreIn {S} h place ks =
+    (i : ℕ) (k : Token S) → slice_get ks i ≡ Some k → (k.number ≡ place + i) × IsOwn h k
 
 -- The work was done by the caller of its place, and came to this outcome: it keeps its promise, of
 -- a token with exactly the entries that this caller has in the history.

@@ -7,12 +7,12 @@
 //!   gives way or sleeps, and the work begins anew, as often and as long as its `Retry` says. Any
 //!   other refusal takes everything back and is handed on.
 //! - `run_works` makes the map, does each `Work` in a thread of its own and closes the map, so that
-//!   its user names no ledger. `run_works_after` does another work before them.
+//!   its user names no ledger. `run_works_after` does another work before them, and
+//!   `run_works_from` puts the pairs of a closed map before them, so that no history grows without
+//!   end. `refill` puts such pairs in a map that is there.
 //! - `run_session` makes the map and hands it, with a pass for each caller, to a `Session` that
 //!   starts no threads, which names no ledger either. Take it for callers that take turns in one
 //!   thread, and `run_works` for threads. `callers_of` makes tokens of the passes.
-//! - `restart` goes on with a new map after one was closed, so that no history grows without end:
-//!   the new one has the old one's pairs, by one committed transaction.
 //!
 //! ```text
 //! fn count<L: Ledger, R: Wait>(t: &mut Transaction<'_, L, R>) -> Result<u64, Stop>
@@ -39,9 +39,10 @@
 //! - A call that was not done has one of the causes that the map's call has, and leaves the token
 //!   as that call does: `Stopped` of `locked_map`, and `StoppedGrowing` for what may grow the table.
 //!   A commit that was refused is followed by an abort (`IsNotCommitted`).
-//! - All that the first caller of a restarted map has seen is one committed transaction, which puts
-//!   the pairs of the old map in the order of its list (`IsRefilled`). If it was not restarted,
-//!   memory was refused, or a call of that transaction stopped (`IsNotRestarted`).
+//! - All that a caller has seen that puts a core's pairs is one committed transaction, which puts
+//!   them in the order of the core's list (`IsRefilled`). If they are not put, memory was refused
+//!   for their list, or a call of that transaction stopped (`IsNotRefilled`), and nothing of it is
+//!   committed (`IsUndone`).
 //! - A session's own promise holds of what it answers (`Session::promises`).
 //! - Each work in a thread keeps its own promise (`Work::promises`), of a token with exactly the
 //!   entries that its caller has in the history of the closed map. Work `i` has caller `i`. The
@@ -59,7 +60,7 @@
 #![tactic(auto)]
 
 mod attempts;
-mod restarting;
+mod refills;
 mod retry;
 mod session;
 mod transaction;
@@ -67,8 +68,8 @@ mod work;
 
 pub use attempts::{Attempts, transact};
 pub use map_answers::{Stop, Swapped};
-pub use restarting::{Restarted, restart};
+pub use refills::refill;
 pub use retry::Retry;
 pub use session::{Session, callers_of, run_session};
 pub use transaction::Transaction;
-pub use work::{Finished, Work, run_works, run_works_after};
+pub use work::{Finished, Work, run_works, run_works_after, run_works_from};

@@ -4,16 +4,20 @@
 //! A closure cannot be generic over the ledger's name, so the work of a thread is a trait with a
 //! generic method, which starts no threads. A free function starts them: the toolchain proves that
 //! of it, and not of a trait's method.
-ghost use Rattle.std.specs.Prelude.{◌≡◌, ◌+◌, ◌≤◌, ◌<◌, true, IfOk, IfErr, All, length, map, Some};
-ghost use Rattle.std.specs.Prelude.{slice_get};
+ghost use Rattle.std.specs.Prelude.{◌≡◌, ◌+◌, ◌≤◌, ◌<◌, [], ◌∷◌, true, IfOk, IfErr};
+ghost use Rattle.std.specs.Prelude.{All, length, map, Some, slice_get};
+ghost use Rattle.txn_trace.specs.Now.{now};
+ghost use Rattle.txn_words.specs.Ordered.{ordered};
 ghost use Rattle.core_tokens.specs.Tokens.{Token};
 ghost use Rattle.core_tokens.specs.declared.no_side.NoSide.{NoSide};
-ghost use Rattle.shared_transactions.specs.Works.{AreDone, AreNumbered, IsClosedBy, IsDoneIn};
-ghost use Rattle.shared_transactions.specs.Works.{IsNew, IsUnclosed, IsUnrun};
+ghost use Rattle.shared_transactions.specs.Refilled.{IsRefilledIn, IsUnended, IsUnrunFrom};
+ghost use Rattle.shared_transactions.specs.Works.{AreDone, AreIn, AreNumbered, IsClosedBy};
+ghost use Rattle.shared_transactions.specs.Works.{IsDoneIn, IsNew, IsUnclosed, IsUnrun};
 
+use crate::refills::refill;
 use crate::session::callers_of;
 use boost_core::Core;
-use locked_map::{Caller, Closed, NoSide, Pass, SharedMap};
+use locked_map::{Caller, Closed, NoSide, Pass, SharedMap, Stop};
 use std::alloc::{AllocError, Global};
 use std::marker::Brand;
 use std::sync::Wait;
@@ -21,6 +25,7 @@ use std::sync::ledger::{Blank, Ledger};
 use std::thread;
 use std::thread::Threads;
 use txn_trace::{Limits, Refusal};
+use undo_log::Side;
 
 /// The work of one thread on a map of threads, whatever the name of its ledger.
 pub trait Work<R> {
@@ -252,6 +257,45 @@ pub fn run_works_after<R: Threads + Wait + Sync, O: Work<R> + Drop, W: Work<R> +
     open_under::<Brand, R, O, W>(rt, alloc, blank, limits, opening, works)
 }
 
+/// `run_works`, on a map that goes on from a core: a caller whose number is that of the works puts
+/// the core's pairs in this thread, as `refill` does, before any work is started. The core, of a
+/// map that was closed, is unchanged. The limits need not be those of the core: the works need one
+/// caller each, and the pairs one more.
+///
+/// With `Ok` that caller has exactly the entries of one committed transaction, which puts the pairs
+/// in the order of the core's list, and the history has no entries but those and the works'. That
+/// they are the first no clause says, as for `run_works_after`.
+///
+/// # Errors
+///
+/// - `CallersMissing` exactly if there are not more callers than works; nothing is done then.
+/// - What else `refill` answers: then no work was started, and the new map is gone.
+/// - Those of `run_works`, as `Refused`.
+///
+/// # Cost
+///
+/// That of `run_works` and of `refill`.
+pub fn run_works_from<R: Threads + Wait + Sync, W: Work<R> + Send + Drop>(
+    rt: &R,
+    alloc: Global,
+    limits: Limits,
+    core: &Core,
+    works: Vec<W>,
+) -> Result<Finished<W::Output>, Stop>
+    ensures refilled { IfOk result (λ r. IsRefilledIn r.core.history (length works.items)
+        (ordered (now core.now.history))) }
+    ensures works { IfOk result (λ r. AreDone W.promises limits (length works.items + 1)
+        works.items r.core r.outcomes.items) }
+    ensures err { IfErr result (IsUnrunFrom ⟦<NoSide as Side>⟧.words_of limits
+        (length works.items) (ordered (now core.now.history))) }
+{
+    if u64::from(limits.callers()) <= works.len() as u64 {
+        return Err(Stop::Refused(Refusal::CallersMissing));
+    }
+    let blank = Blank::new(u64::from(limits.callers()));
+    refill_under::<Brand, R, W>(rt, alloc, blank, limits, core, works)
+}
+
 /// `run_works` under a ledger that has a name, if there are no more works than callers.
 fn run_under<L: Ledger + Send + Sync, R: Threads + Wait + Sync, W: Work<R> + Send + Drop>(
     rt: &R,
@@ -268,14 +312,9 @@ fn run_under<L: Ledger + Send + Sync, R: Threads + Wait + Sync, W: Work<R> + Sen
         r.core r.outcomes.items) }
     ensures err { IfErr result (IsUnrun limits.callers (length works.items)) }
 {
-    let (map, mut passes) = SharedMap::<L>::new(alloc, blank, limits)?;
-    passes.reverse();
-    let seated = seat_all(alloc, &mut passes, works)?;
-    let done = go_all(rt, &map, seated)?;
-    let unused = callers_of(alloc, passes)?;
-    let (callers, outcomes) = unzip(alloc, done)?;
-    let core = close(map, callers, unused)?;
-    Ok(Finished { core, outcomes })
+    let (map, passes) = SharedMap::<L>::new(alloc, blank, limits)?;
+    let finished = go_and_close(rt, alloc, map, passes, Vec::new(alloc), works)?;
+    Ok(finished)
 }
 
 /// `run_works_after` under a ledger that has a name, if there are more callers than works.
@@ -305,14 +344,84 @@ fn open_under<
     let (map, mut passes) = SharedMap::<L>::new(alloc, blank, limits)?;
     let pass = passes.remove(works.len());
     let Done { outcome, me } = go(rt, &map, seat(alloc, pass, opening));
+    let used = alone(alloc, me)?;
+    let finished = go_and_close(rt, alloc, map, passes, used, works)?;
+    Ok((outcome, finished))
+}
+
+/// `run_works_from` under a ledger that has a name, if there are more callers than works.
+fn refill_under<L: Ledger + Send + Sync, R: Threads + Wait + Sync, W: Work<R> + Send + Drop>(
+    rt: &R,
+    alloc: Global,
+    blank: Blank,
+    limits: Limits,
+    core: &Core,
+    works: Vec<W>,
+) -> Result<Finished<W::Output>, Stop>
+    requires name { blank.name ≡ L.name }
+    requires parts { blank.parts ≡ L.parts }
+    requires one_each { blank.parts ≡ limits.callers }
+    requires few { length works.items < limits.callers }
+    ensures refilled { IfOk result (λ r. IsRefilledIn r.core.history (length works.items)
+        (ordered (now core.now.history))) }
+    ensures works { IfOk result (λ r. AreDone W.promises limits (length works.items + 1)
+        works.items r.core r.outcomes.items) }
+    ensures err { IfErr result (IsUnended ⟦<NoSide as Side>⟧.words_of limits
+        (length works.items) (ordered (now core.now.history))) }
+{
+    let (map, mut passes) = SharedMap::<L>::new(alloc, blank, limits)?;
+    let mut me = passes.remove(works.len()).caller(alloc, NoSide);
+    refill(rt, alloc, &map, &mut me, core)?;
+    let used = alone(alloc, me)?;
+    let finished = go_and_close(rt, alloc, map, passes, used, works)?;
+    Ok(finished)
+}
+
+/// One caller, in a list.
+///
+/// # Errors
+///
+/// `AllocError` if memory is refused.
+fn alone<L: Ledger>(
+    alloc: Global,
+    me: Caller<L, NoSide>,
+) -> Result<Vec<Caller<L, NoSide>>, AllocError>
+    ensures { IfOk result (λ callers. callers.items ≡ me ∷ []) }
+{
+    let mut callers = Vec::new(alloc);
+    callers.push(me)?;
+    Ok(callers)
+}
+
+/// Does each work in a thread of its own, with the caller of a pass, the first pass first. Closes
+/// the map with these callers, with those that were used before, which have the numbers after
+/// theirs, and with those that did nothing.
+///
+/// # Errors
+///
+/// `NoMemory` if memory is refused, `OutOfStep` if the map does not close.
+fn go_and_close<L: Ledger + Send + Sync, R: Threads + Wait + Sync, W: Work<R> + Send + Drop>(
+    rt: &R,
+    alloc: Global,
+    map: SharedMap<L>,
+    mut passes: Vec<Pass<L>>,
+    mut used: Vec<Caller<L, NoSide>>,
+    works: Vec<W>,
+) -> Result<Finished<W::Output>, Refusal>
+    requires parts { map.limits.callers ≡ L.parts }
+    requires seats { length works.items ≤ length passes.items }
+    requires few { length works.items + length used.items ≤ map.limits.callers }
+    ensures used { IfOk result (λ r. AreIn r.core.history (length works.items) used.items) }
+    ensures works { IfOk result (λ r. AreDone W.promises map.limits
+        (length works.items + length used.items) works.items r.core r.outcomes.items) }
+    ensures err { IfErr result IsUnclosed }
+{
     passes.reverse();
     let seated = seat_all(alloc, &mut passes, works)?;
     let done = go_all(rt, &map, seated)?;
     let unused = callers_of(alloc, passes)?;
     let (mut callers, outcomes) = unzip(alloc, done)?;
-    let Ok(()) = callers.push(me) else {
-        return Err(Refusal::NoMemory);
-    };
+    callers.append(&mut used)?;
     let core = close(map, callers, unused)?;
-    Ok((outcome, Finished { core, outcomes }))
+    Ok(Finished { core, outcomes })
 }

@@ -8,6 +8,8 @@
 #[cfg(test)]
 mod lines;
 #[cfg(test)]
+mod looks;
+#[cfg(test)]
 mod owned;
 #[cfg(test)]
 mod owned_limits;

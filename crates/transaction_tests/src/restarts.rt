@@ -1,18 +1,19 @@
-//! A map of threads that goes on from a core, if there is memory.
-ghost use Rattle.std.specs.Prelude.{◌≡◌};
+//! Maps of threads that go on from a core, by `run_works_from` and by `refill`.
 ghost use Rattle.owned_map.specs.Keeps.{Keeps};
 
-use crate::shared::goes_on;
+use crate::looks::{go_on, have_same_pairs, looks};
 use boost_core::Core;
+use locked_map::{Caller, NoSide, SharedMap};
 use owned_map::{OwnedMap, Stop, Transaction};
-use shared_transactions::restart;
-use std::alloc::Global;
-use std::marker::Brand;
+use shared_transactions::{Finished, Work, refill, run_works_after};
+use std::alloc::{AllocError, Global};
 use std::process::Abort;
 use std::sync::Wait;
-use std::sync::ledger::{Blank, Ledger};
+use std::sync::atomic::{AtomicU64, Ordering};
+use std::sync::ledger::Ledger;
 use std::test::Fail;
-use txn_words::{Limits, Reply};
+use std::thread::Threads;
+use txn_words::{Entry, Limits, Refusal, Reply};
 
 /// Puts a key with its number.
 fn put(t: &mut Transaction<'_>, key: u64) -> Result<Reply, Stop>
@@ -27,45 +28,154 @@ fn is_put(map: &mut OwnedMap, key: u64) -> bool {
     result.is_ok()
 }
 
-/// A core with the keys below this number.
-fn core_of(rt: &impl Abort, alloc: Global, limits: Limits, keys: u64) -> Core {
+/// A core with the keys of a range, each with its number.
+fn core_of(rt: &impl Abort, alloc: Global, limits: Limits, first: u64, end: u64) -> Core {
     let mut map = OwnedMap::new(alloc, limits).expect(rt, "memory");
-    for key in 0..keys {
+    for key in first..end {
         assert!(rt; is_put(&mut map, key));
     }
     map.into_core()
 }
 
-fn go_on_in<L: Ledger, R: Wait + Abort>(
+/// Sees that a history begins with one transaction, of a caller of this number, that ends at this
+/// place.
+fn begins_with_one(rt: &impl Abort, core: &Core, caller: u64, end: usize) {
+    let trace = core.trace();
+    assert!(rt; end < trace.len());
+    assert!(rt; trace[0].entry() == Entry::Began(caller, 1));
+    assert!(rt; trace[end].entry() == Entry::Committed(caller, 1));
+}
+
+/// Sees that a new core has the pairs of an old one, and that memory was refused to no work.
+fn is_made(rt: &impl Abort, alloc: Global, old: &Core, finished: Finished<bool>) -> Core {
+    have_same_pairs(rt, alloc, old, &finished.core);
+    for seen in finished.outcomes {
+        assert!(rt; seen);
+    }
+    finished.core
+}
+
+/// A map goes on from a core that has the keys below this number, with so many works, all of which
+/// are started.
+fn restart<R: Threads + Wait + Sync + Abort>(
     rt: &R,
     alloc: Global,
-    blank: Blank,
-    core: &Core,
-) -> Result<(), Fail>
-    requires name { blank.name ≡ L.name }
-    requires parts { blank.parts ≡ L.parts }
-    requires one_each { blank.parts ≡ core.now.limits.callers }
-{
-    match restart::<L, R>(rt, alloc, blank, core) {
-        Ok(restarted) => goes_on(rt, alloc, restarted, core),
-        Err(_) => panic!(rt; "it was not restarted"),
+    old: &Core,
+    limits: Limits,
+    keys: u64,
+    works: u64,
+) -> Result<Core, AllocError> {
+    let started = AtomicU64::new(0);
+    let made = go_on(rt, alloc, limits, old, looks(alloc, &started, works, keys)?);
+    assert_eq!(rt; started.load(Ordering::SeqCst), works);
+    match made {
+        Ok(finished) => Ok(is_made(rt, alloc, old, finished)),
+        Err(_) => panic!(rt; "it was not made"),
     }
 }
 
-/// A new map goes on from a core.
-fn go_on<R: Wait + Abort>(rt: &R, alloc: Global, core: &Core) -> Result<(), Fail> {
-    let blank = Blank::new(u64::from(core.limits().callers()));
-    go_on_in::<Brand, R>(rt, alloc, blank, core)
-}
-
-/// Restarts a map of a thousand pairs, and one without pairs.
+/// Makes maps without pairs and with a thousand, at the least and at the greatest limits, from
+/// cores of other limits, with as many works as there may be. The pairs are the first of the
+/// history.
 #[test]
 fn every_restart_is_made(rt: HostRuntime) -> Result<(), Fail> {
-    for limits in [Limits::new(1, 1, 2)?, Limits::new(64, 4096, 65536)?] {
-        for keys in [0, 1000u64] {
-            let core = core_of(&rt, rt.alloc(), limits, keys);
-            go_on(&rt, rt.alloc(), &core)?;
+    let least = Limits::new(1, 1, 2)?;
+    let greatest = Limits::new(64, 4096, 65536)?;
+    for (old, new, works) in [(greatest, least, 0u64), (least, greatest, 63)] {
+        for (keys, end) in [(0u64, 1usize), (1000, 2001)] {
+            let core = core_of(&rt, rt.alloc(), old, 0, keys);
+            let new = restart(&rt, rt.alloc(), &core, new, keys, works)?;
+            begins_with_one(&rt, &new, works, end);
         }
     }
+    Ok(())
+}
+
+/// A map does not go on from a core, and no work is started.
+fn is_refused<R: Threads + Wait + Sync + Abort>(
+    rt: &R,
+    alloc: Global,
+    core: &Core,
+    limits: Limits,
+    works: u64,
+) -> Result<Stop, AllocError> {
+    let started = AtomicU64::new(0);
+    let made = go_on(rt, alloc, limits, core, looks(alloc, &started, works, 0)?);
+    assert_eq!(rt; started.load(Ordering::SeqCst), 0);
+    match made {
+        Ok(_) => panic!(rt; "it was made"),
+        Err(stop) => Ok(stop),
+    }
+}
+
+/// The works need a caller each, and the pairs one more.
+#[test]
+fn a_caller_is_missing(rt: HostRuntime) -> Result<(), Fail> {
+    let core = core_of(&rt, rt.alloc(), Limits::new(1, 1, 2)?, 0, 1);
+    for (callers, works) in [(1u64, 1u64), (2, 2), (2, 3), (64, 64)] {
+        let limits = Limits::new(callers, 8, 64)?;
+        let stop = is_refused(&rt, rt.alloc(), &core, limits, works)?;
+        assert_eq!(&rt; stop, Stop::Refused(Refusal::CallersMissing));
+    }
+    Ok(())
+}
+
+/// 2^63.
+const HALF: u64 = 9_223_372_036_854_775_808;
+
+/// A map that takes only half keys does not go on from a core that has 2^63. It does from one that
+/// has 2^63 - 2 and 2^63 - 1.
+#[test]
+fn a_key_is_too_large(rt: HostRuntime) -> Result<(), Fail> {
+    let limits = Limits::new(2, 8, 64)?;
+    let core = core_of(&rt, rt.alloc(), limits, HALF - 1, HALF + 1);
+    let stop = is_refused(&rt, rt.alloc(), &core, limits.half_keys(), 1)?;
+    assert_eq!(&rt; stop, Stop::Refused(Refusal::BadKey));
+    let core = core_of(&rt, rt.alloc(), limits, HALF - 2, HALF);
+    let new = restart(&rt, rt.alloc(), &core, limits.half_keys(), 0, 1)?;
+    begins_with_one(&rt, &new, 1, 5);
+    Ok(())
+}
+
+/// Puts the pairs of a core.
+#[derive(Clone, Copy)]
+struct Refills<'a> {
+    core: &'a Core,
+    alloc: Global,
+}
+
+impl<R: Wait> Work<R> for Refills<'_> {
+    type Output = Result<(), Stop>;
+
+    fn run<L: Ledger>(
+        self,
+        rt: &R,
+        map: &SharedMap<L>,
+        me: &mut Caller<L, NoSide>,
+    ) -> Result<(), Stop> {
+        refill(rt, self.alloc, map, me, self.core)
+    }
+}
+
+/// An opening puts the pairs of a core, and a work looks at one.
+fn open_with<R: Threads + Wait + Sync + Abort>(
+    rt: &R,
+    alloc: Global,
+    limits: Limits,
+    core: &Core,
+) -> Result<Core, Refusal> {
+    let started = AtomicU64::new(0);
+    let works = looks(alloc, &started, 1, 3)?;
+    let (opened, finished) = run_works_after(rt, alloc, limits, Refills { core, alloc }, works)?;
+    assert!(rt; opened.is_ok());
+    Ok(is_made(rt, alloc, core, finished))
+}
+
+#[test]
+fn an_opening_refills(rt: HostRuntime) -> Result<(), Fail> {
+    let limits = Limits::new(2, 8, 64)?;
+    let core = core_of(&rt, rt.alloc(), limits, 0, 3);
+    let new = open_with(&rt, rt.alloc(), limits, &core)?;
+    begins_with_one(&rt, &new, 1, 7);
     Ok(())
 }

@@ -1,20 +1,22 @@
 //! Transactions as values on a map of threads: its table grows, a key is looked for, a try is made
-//! again, and a new map goes on from a closed one. The test is also run with each allocation refused
-//! in turn, and with all from one on.
+//! again, and a new map goes on from a closed one, with works in threads. The test is also run with
+//! each allocation refused in turn, and with all from one on.
 ghost use Rattle.std.specs.Prelude.{◌≡◌};
 ghost use Rattle.shared_transactions.specs.Keeps.{Keeps};
 
+use crate::looks::{go_on, have_same_pairs, looks};
 use boost_core::Core;
 use locked_map::{Caller, Closed, NoSide, Pass, SharedMap, Stop};
 use shared_transactions::{
-    Restarted, Retry, Session, Transaction, callers_of, restart, run_session, transact,
+    Finished, Retry, Session, Transaction, callers_of, run_session, transact,
 };
 use std::alloc::Global;
-use std::marker::Brand;
 use std::process::Abort;
 use std::sync::Wait;
-use std::sync::ledger::{Blank, Ledger};
+use std::sync::atomic::AtomicU64;
+use std::sync::ledger::Ledger;
 use std::test::Fail;
+use std::thread::Threads;
 use std::time::Duration;
 use txn_words::{Entry, Limits, Refusal, Reply, SmallEntry};
 
@@ -166,13 +168,13 @@ fn try_again<L: Ledger, R: Wait + Abort>(
     }
 }
 
-/// A caller fills the map and tries again beside another. Then the map is closed, and a new one
-/// goes on from it.
+/// A caller fills the map and tries again beside another. Then the map is closed: its core, and how
+/// many keys were put, if there was memory for the callers.
 #[derive(Drop)]
 struct Works;
 
 impl<R: Wait + Abort> Session<R> for Works {
-    type Output = Result<(), Fail>;
+    type Output = Option<(Core, u64)>;
 
     ghost promises = { λ _ _. Unit {0} };
 
@@ -182,39 +184,20 @@ impl<R: Wait + Abort> Session<R> for Works {
         alloc: Global,
         shared: SharedMap<L>,
         passes: Vec<Pass<L>>,
-    ) -> Result<(), Fail> {
-        let Ok(mut callers) = callers_of(alloc, passes) else {
-            return Ok(());
-        };
+    ) -> Option<(Core, u64)> {
+        let mut callers = callers_of(alloc, passes).ok()?;
         let count = work_on(rt, &shared, callers.as_mut_slice());
-        match close(shared, callers) {
-            Ok(core) => grown_goes_on(rt, alloc, &core, count),
-            Err(fail) => Err(fail),
-        }
+        Some((close(rt, shared, callers), count))
     }
-}
-
-/// Sees that the core with this number of puts has grown, and goes on from it.
-fn grown_goes_on<R: Wait + Abort>(
-    rt: &R,
-    alloc: Global,
-    core: &Core,
-    count: u64,
-) -> Result<(), Fail> {
-    if count == KEYS {
-        // It doubles where there are more than two keys a bucket: at 5, 9 and 17.
-        assert_eq!(rt; core.size(), 16);
-    }
-    go_on(rt, alloc, core)
 }
 
 /// The core of a map that closes.
-fn close<L: Ledger>(shared: SharedMap<L>, callers: Vec<Caller<L, NoSide>>) -> Result<Core, Fail>
+fn close<L: Ledger>(rt: &impl Abort, shared: SharedMap<L>, callers: Vec<Caller<L, NoSide>>) -> Core
     requires { shared.limits.callers ≡ L.parts }
 {
     match shared.close(callers) {
-        Ok(Closed { core, callers: _ }) => Ok(core),
-        Err(_) => Err("does not close".into()),
+        Ok(Closed { core, callers: _ }) => core,
+        Err(_) => panic!(rt; "it does not close"),
     }
 }
 
@@ -232,84 +215,34 @@ fn work_on<L: Ledger, R: Wait + Abort>(
     count
 }
 
-/// A new map goes on from a closed one.
-fn go_on<R: Wait + Abort>(rt: &R, alloc: Global, core: &Core) -> Result<(), Fail> {
-    let blank = Blank::new(u64::from(core.limits().callers()));
-    go_on_in::<Brand, R>(rt, alloc, blank, core)
+/// Sees that a core with this number of puts has grown.
+fn has_grown(rt: &impl Abort, core: &Core, count: u64) {
+    if count == KEYS {
+        // It doubles where there are more than two keys a bucket: at 5, 9 and 17.
+        assert_eq!(rt; core.size(), 16);
+    }
 }
 
-fn go_on_in<L: Ledger, R: Wait + Abort>(
+/// A new map goes on from a core, with a work that finds its first pair, if memory is not refused.
+fn goes_on<R: Threads + Wait + Sync + Abort>(
     rt: &R,
     alloc: Global,
-    blank: Blank,
+    limits: Limits,
     core: &Core,
-) -> Result<(), Fail>
-    requires name { blank.name ≡ L.name }
-    requires parts { blank.parts ≡ L.parts }
-    requires one_each { blank.parts ≡ core.now.limits.callers }
-{
-    match restart::<L, R>(rt, alloc, blank, core) {
-        Ok(restarted) => goes_on(rt, alloc, restarted, core),
-        Err(stop) => {
-            assert_eq!(rt; stop, Stop::Refused(Refusal::NoMemory));
-            Ok(())
-        }
-    }
-}
-
-/// Sees that a new map has the pairs of an old one: its first caller has seen a begin, two entries
-/// for each pair and a commit, and when it is closed the lists are the same.
-pub(crate) fn goes_on<L: Ledger, R: Abort>(
-    rt: &R,
-    alloc: Global,
-    restarted: Restarted<L>,
-    old: &Core,
-) -> Result<(), Fail>
-    requires { restarted.map.limits.callers ≡ L.parts }
-{
-    let Restarted { map, first, passes } = restarted;
-    let entries = seen_by(&first).len() as u64;
-    assert_eq!(rt; entries, old.count().wrapping_mul(2).wrapping_add(2));
-    match all_of(alloc, first, passes) {
-        Some(callers) => closes_as(rt, alloc, map, callers, old),
-        None => Ok(()),
-    }
-}
-
-/// The callers of a map, the first of which was made before, if there is memory for their list.
-fn all_of<L: Ledger>(
-    alloc: Global,
-    first: Caller<L, NoSide>,
-    passes: Vec<Pass<L>>,
-) -> Option<Vec<Caller<L, NoSide>>> {
-    let mut callers = callers_of(alloc, passes).ok()?;
-    callers.push(first).ok()?;
-    Some(callers)
-}
-
-/// Closes a map, and sees that it has the pairs of an old one.
-fn closes_as<L: Ledger, R: Abort>(
-    rt: &R,
-    alloc: Global,
-    map: SharedMap<L>,
-    callers: Vec<Caller<L, NoSide>>,
-    old: &Core,
-) -> Result<(), Fail>
-    requires { map.limits.callers ≡ L.parts }
-{
-    match close(map, callers) {
-        Ok(new) => {
-            have_same_pairs(rt, alloc, old, &new);
-            Ok(())
-        }
-        Err(fail) => Err(fail),
-    }
-}
-
-/// Checks that two cores have the same pairs, if there is memory for their lists.
-fn have_same_pairs(rt: &impl Abort, alloc: Global, old: &Core, new: &Core) {
-    if let (Ok(old), Ok(new)) = (old.regular_list(alloc), new.regular_list(alloc)) {
-        assert!(rt; new.as_slice() == old.as_slice());
+    count: u64,
+) {
+    let started = AtomicU64::new(0);
+    let Ok(works) = looks(alloc, &started, 1, count) else {
+        return;
+    };
+    match go_on(rt, alloc, limits, core, works) {
+        Ok(
+            Finished {
+                core: new,
+                outcomes: _,
+            },
+        ) => have_same_pairs(rt, alloc, core, &new),
+        Err(stop) => assert_eq!(rt; stop, Stop::Refused(Refusal::NoMemory)),
     }
 }
 
@@ -317,12 +250,14 @@ fn have_same_pairs(rt: &impl Abort, alloc: Global, old: &Core, new: &Core) {
 fn transactions_and_a_restart(rt: HostRuntime) -> Result<(), Fail> {
     let limits = Limits::new(2, 8, 64)?;
     match run_session(&rt, rt.alloc(), limits, Works) {
-        Ok(worked) => worked,
-        Err(refusal) => {
-            assert_eq!(&rt; refusal, Refusal::NoMemory);
-            Ok(())
+        Ok(None) => {}
+        Ok(Some((core, count))) => {
+            has_grown(&rt, &core, count);
+            goes_on(&rt, rt.alloc(), limits, &core, count);
         }
+        Err(refusal) => assert_eq!(&rt; refusal, Refusal::NoMemory),
     }
+    Ok(())
 }
 
 /// Closes a map without its callers.

@@ -1,7 +1,7 @@
 use Rattle.std.proofs.Common.{take}
 use Rattle.shared_transactions.specs.Keeps.{Keeps}
-use Rattle.shared_transactions.specs.Restarted.{HasPut}
-use Rattle.shared_transactions.proofs.restarting.put_each.Given as goal
+use Rattle.shared_transactions.specs.Refilled.{HasPut}
+use Rattle.shared_transactions.proofs.refills.put_each.Given as goal
 
 abbrev pub invariant-loop-pair : goal.invariant-loop-pair
 invariant-loop-pair g l = record {

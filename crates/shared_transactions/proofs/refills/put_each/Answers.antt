@@ -2,7 +2,7 @@ use Rattle.std.proofs.Common.{◌<◌, ◌≤◌, length, arith}
 use Rattle.std.proofs.lemmas.Result.{err_from_is_err_and}
 use Rattle.shared_transactions.proofs.Within.{keeps_stay, keeps_on}
 use Rattle.shared_transactions.proofs.Refilling.{put_none, put_at, put_all}
-use Rattle.shared_transactions.proofs.restarting.put_each.Goals as goal
+use Rattle.shared_transactions.proofs.refills.put_each.Goals as goal
 
 pub loop-pair-init : goal.loop-pair-init
 loop-pair-init g c = record { put = put_none c.args.t.now.me.now; keeps = keeps_stay c.args.t.now.me }

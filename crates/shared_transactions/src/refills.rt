@@ -1,0 +1,97 @@
+//! Putting the pairs of a core in a map of threads, so that a new map goes on where a closed one
+//! ended, and no history grows without end.
+//!
+//! A map of threads keeps its history and cannot cut it off: its name is its ledger's, and each
+//! token has a share of that. So the map is closed, which hands out the core with its legal
+//! history, and a new map of another ledger begins with the same pairs.
+ghost use Rattle.std.specs.Prelude.{◌≡◌, [], IfErr, OnErr, OnOk};
+ghost use Rattle.txn_trace.specs.Now.{now};
+ghost use Rattle.txn_words.specs.Ordered.{ordered};
+ghost use Rattle.core_tokens.specs.Tokens.{IsSameCaller};
+ghost use Rattle.shared_transactions.specs.Keeps.{Keeps};
+ghost use Rattle.shared_transactions.specs.Refilled.{HasPut, IsNotRefilled, IsRefilled};
+ghost use Rattle.shared_transactions.specs.Refilled.{StopsPutting, StopsRefilling};
+ghost use Rattle.shared_transactions.specs.Within.{IsOver, IsUndone};
+ghost use Rattle.shared_transactions.specs.Works.{IsNew};
+
+use crate::transaction::Transaction;
+use boost_core::Core;
+use locked_map::{Caller, NoSide, SharedMap, Stop};
+use std::alloc::Global;
+use std::sync::Wait;
+use std::sync::ledger::Ledger;
+use undo_log::Side;
+
+/// Puts the pairs of a core, in the order of its list, in one committed transaction of a caller
+/// that has done nothing yet. With the core of a closed map, and before other callers work, this is
+/// the trim of a map of threads; `run_works_from` does both. The core, whose history is legal, is
+/// unchanged, and may be dropped afterwards.
+///
+/// # Errors
+///
+/// No transaction is open, and none was committed.
+/// - `Refused` with `NoMemory` if memory is refused, for the list of pairs before anything was
+///   done; or with `StampsUsedUp` if the map has more keys than there are stamps.
+/// - What else a call of the map answers to the caller: its begin, a put or its commit. So `BadKey`
+///   for a key of 2^63 or more if the map takes only half keys, and `Busy` if another caller held a
+///   stripe.
+///
+/// # Cost
+///
+/// That of `Core::regular_list`, and a put for each pair.
+pub fn refill<L: Ledger, R: Wait>(
+    rt: &R,
+    alloc: Global,
+    map: &SharedMap<L>,
+    me: &mut Caller<L, NoSide>,
+    core: &Core,
+) -> Result<(), Stop>
+    requires { IsNew me.old }
+    ensures whose { IsSameCaller me.old me.new }
+    ensures over { IsOver me.new }
+    ensures ok { OnOk result (IsRefilled (ordered (now core.now.history)) me.new) }
+    ensures err { OnErr result (IsUndone me.old me.new) }
+    ensures stopped { IfErr result (λ stop. IsNotRefilled ⟦<NoSide as Side>⟧.words_of
+        (ordered (now core.now.history)) me.old stop me.new) }
+{
+    let pairs = core.regular_list(alloc)?;
+    put_pairs(rt, map, me, pairs.as_slice())
+}
+
+/// Puts pairs in one transaction, and commits it.
+#[tactic(auto, using(crate::proofs::Within::undone_after, crate::proofs::Refilling::not_committed))]
+fn put_pairs<L: Ledger, R: Wait>(
+    rt: &R,
+    map: &SharedMap<L>,
+    me: &mut Caller<L, NoSide>,
+    pairs: &[(u64, u64)],
+) -> Result<(), Stop>
+    requires { me.old.seen ≡ [] }
+    ensures whose { IsSameCaller me.old me.new }
+    ensures ok { OnOk result (IsRefilled pairs.now me.new) }
+    ensures err { OnErr result (IsUndone me.old me.new) }
+    ensures stopped { IfErr result (λ stop. StopsRefilling ⟦<NoSide as Side>⟧.words_of pairs.now
+        me.old stop me.new) }
+{
+    let mut open = Transaction::new(rt, map, me);
+    open.begin()?;
+    put_each(&mut open, pairs)?;
+    open.commit()?;
+    Ok(())
+}
+
+/// Puts pairs, one after the other.
+fn put_each<L: Ledger, R: Wait>(
+    t: &mut Transaction<'_, L, R>,
+    pairs: &[(u64, u64)],
+) -> Result<(), Stop>
+    ensures keeps { Keeps t.old.me t.new.me }
+    ensures ok { OnOk result (HasPut pairs.now t.old.me.now t.new.me.now) }
+    ensures stopped { IfErr result (λ stop. StopsPutting ⟦<NoSide as Side>⟧.words_of pairs.now
+        t.old.me.now stop t.new.me.now) }
+{
+    for pair in pairs {
+        t.put(pair.0, pair.1)?;
+    }
+    Ok(())
+}
