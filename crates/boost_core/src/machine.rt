@@ -152,6 +152,7 @@ impl Core {
     /// `Sweep` up to the first marked node; a `Commit` takes a step for each job and each stripe of
     /// the transaction, the end of an abort one for each stripe; each other step takes amortized
     /// constant time. Only the steps that may be refused with `NoMemory` take memory.
+    #[inline(always)]
     pub fn step(&mut self, step: Step) -> Answer
         requires { self.old.words ≡ true → is_ask step ≡ false }
         ensures event { Event self.old step result self.new }
@@ -161,8 +162,8 @@ impl Core {
         match step {
             Step::Begin(caller) => self.call(caller, Step::Begin(caller), Claim::Lock),
             Step::Ask(caller, op) => self.call(caller, Step::Ask(caller, op), Claim::Lock),
-            Step::Seek(caller) => self.seek(caller),
-            Step::Act(caller) => self.act(caller),
+            Step::Seek(caller) => self.call(caller, Step::Seek(caller), Claim::Lock),
+            Step::Act(caller) => self.call(caller, Step::Act(caller), Claim::Lock),
             Step::Save(caller) => self.call(caller, Step::Save(caller), Claim::Lock),
             Step::Back(caller, level) => self.call(caller, Step::Back(caller, level), Claim::Lock),
             Step::Commit(caller) => self.call(caller, Step::Commit(caller), Claim::Lock),
@@ -173,34 +174,6 @@ impl Core {
             | Step::InitStore(_)
             | Step::Double(_) => self.serve(step),
         }
-    }
-
-    /// Takes the step `Seek` of a caller, as `step` does. It is compiled into its callers, which
-    /// then need not build the step.
-    ///
-    /// # Cost
-    ///
-    /// A walk from the nearest initialised bucket to the position; takes no memory.
-    #[inline(always)]
-    pub fn seek(&mut self, caller: u64) -> Answer
-        ensures event { Event self.old (Step.Seek caller) result self.new }
-        ensures words { self.new.words ≡ self.old.words }
-    {
-        self.call(caller, Step::Seek(caller), Claim::Lock)
-    }
-
-    /// Takes the step `Act` of a caller, as `step` does. It is compiled into its callers, which
-    /// then need not build the step.
-    ///
-    /// # Cost
-    ///
-    /// Amortized constant time, and at the end of an abort a step for each stripe; takes no memory.
-    #[inline(always)]
-    pub fn act(&mut self, caller: u64) -> Answer
-        ensures event { Event self.old (Step.Act caller) result self.new }
-        ensures words { self.new.words ≡ self.old.words }
-    {
-        self.call(caller, Step::Act(caller), Claim::Lock)
     }
 
     /// Takes a caller's step; an `Ask` comes with the claim to its stripe. Tests the refusals,

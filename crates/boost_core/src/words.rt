@@ -54,7 +54,6 @@ impl Core {
     /// # Cost
     ///
     /// Amortized constant time; may take memory for the history, the log and a node.
-    #[inline(always)]
     pub fn ask_with(&mut self, caller: u64, op: Op, right: &StripeRight) -> Answer
         requires words { self.old.words ≡ true }
         requires right { right.now ≡ stripe_of self.old.limits.stripes (key_of op) }

@@ -93,8 +93,6 @@ impl Claims {
     {
         match step {
             Step::Ask(caller, op) => self.ask(core, caller, op),
-            Step::Seek(caller) => core.seek(caller),
-            Step::Act(caller) => core.act(caller),
             _ => core.step(step),
         }
     }

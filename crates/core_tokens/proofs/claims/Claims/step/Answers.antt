@@ -1,5 +1,5 @@
 use Rattle.std.proofs.Common.{sym, subst, ◌∙◌}
-use Rattle.txn_words.specs.declared.step.Step.TheVariants.{Ask, Seek, Act}
+use Rattle.txn_words.specs.declared.step.Step.TheVariants.{Ask}
 use Rattle.boost_core.specs.Words.{Goes}
 use Rattle.core_tokens.specs.Claims.{claim_in}
 use Rattle.core_tokens.proofs.Claiming.{goes_over, plain_claim}
@@ -14,28 +14,6 @@ pub returns-in-Ask-clause-limits : goal.returns-in-Ask-clause-limits
 returns-in-Ask-clause-limits c =
     let step = Ask c.in-Ask.caller c.in-Ask.op in
     (goes_over (claim_in c.args.self.now.tried c.args.core.now step) c.args.core.now c.ask.new.core step c.ask.result c.ask.ensures.goes).limits
-
-pub returns-in-Seek : goal.returns-in-Seek
-returns-in-Seek c =
-    let step = Seek c.in-Seek.caller in
-    let plain = plain_claim c.args.self.now.tried c.args.core.now step (λ caller op is. cc is) in
-    let goes = subst (λ claim. Goes claim c.args.core.now step c.seek.result c.seek.new.self) (sym plain) c.seek.ensures.event.move in
-    let same = subst (λ s. Goes (claim_in c.args.self.now.tried c.args.core.now s) c.args.core.now s c.seek.result c.seek.new.self) (sym c.in-Seek.is) goes in record {
-      goes = same;
-      words = c.seek.ensures.words ∙ c.requires.words;
-      limits = (goes_over (claim_in c.args.self.now.tried c.args.core.now step) c.args.core.now c.seek.new.self step c.seek.result goes).limits;
-    }
-
-pub returns-in-Act : goal.returns-in-Act
-returns-in-Act c =
-    let step = Act c.in-Act.caller in
-    let plain = plain_claim c.args.self.now.tried c.args.core.now step (λ caller op is. cc is) in
-    let goes = subst (λ claim. Goes claim c.args.core.now step c.act.result c.act.new.self) (sym plain) c.act.ensures.event.move in
-    let same = subst (λ s. Goes (claim_in c.args.self.now.tried c.args.core.now s) c.args.core.now s c.act.result c.act.new.self) (sym c.in-Act.is) goes in record {
-      goes = same;
-      words = c.act.ensures.words ∙ c.requires.words;
-      limits = (goes_over (claim_in c.args.self.now.tried c.args.core.now step) c.args.core.now c.act.new.self step c.act.result goes).limits;
-    }
 
 pub returns-in_default : goal.returns-in_default
 returns-in_default c =
