@@ -152,7 +152,6 @@ impl Core {
     /// `Sweep` up to the first marked node; a `Commit` takes a step for each job and each stripe of
     /// the transaction, the end of an abort one for each stripe; each other step takes amortized
     /// constant time. Only the steps that may be refused with `NoMemory` take memory.
-    #[inline(always)]
     pub fn step(&mut self, step: Step) -> Answer
         requires { self.old.words ≡ true → is_ask step ≡ false }
         ensures event { Event self.old step result self.new }

@@ -98,7 +98,6 @@ impl Claims {
     }
 
     /// Asks for an operation by the right, or by the word that was found.
-    #[inline(always)]
     fn ask(&self, core: &mut Core, caller: u64, op: Op) -> Answer
         requires words { core.old.words ≡ true }
         requires stripes { core.old.limits.stripes ≡ self.now.stripes }
