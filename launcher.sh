@@ -135,22 +135,21 @@ is_ready() {
     done
 }
 
-# Begins the crates that are ready, as many as may run.
+# Begins the crates that are ready, as many as may run. A crate that runs by one process leaves the other
+# processors to the next.
 begin_ready() {
-    local name first=yes
-    local -a how
+    local name all=free
     for name in $order; do
         [ -z "${proved[$name]+set}" ] || continue
         if [ -z "${begun[$name]+set}" ] && [ ${#running[@]} -lt "$most" ] && is_ready "$name"; then
-            begun[$name]=
-            how=(1 10)
-            [ -z "$first" ] || how=("$(nproc)" 0)
-            # The libraries are several words.
+            begun[$name]='1 10'
+            [ -z "$all" ] || begun[$name]="$(nproc) 0"
+            # The processes with their niceness, and the libraries, are several words.
             # shellcheck disable=SC2086
-            prove "$name" "${how[@]}" ${needs[$name]} >"$work/$name.log" 2>&1 </dev/null &
+            prove "$name" ${begun[$name]} ${needs[$name]} >"$work/$name.log" 2>&1 </dev/null &
             running[$!]=$name
         fi
-        first=
+        [ "${begun[$name]:-1 10}" = '1 10' ] || all=
     done
 }
 

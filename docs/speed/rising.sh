@@ -2,7 +2,9 @@
 # Puts rising keys, each in a separate transaction, on one thread, on each map: in a table that grows on the way and in one that is
 # large already (rising.rt.txt). Prints for each the median of the rounds in microseconds, by the clock and of the processor, and the
 # ratio of small to large in processor time: 1 is as fast. Then the same of the striped map that grows and of one that was opened with
-# room for all keys (roomy): only the puts, and the whole from before the map is opened to the last put. All run alternately.
+# room for all keys (roomy): only the puts, and the whole from before the map is opened to the last put. Last, the map that was used
+# before beside one that grows into memory that another map has used and given back (again): malloc returns none of it to the system.
+# All run alternately.
 # Usage: docs/speed/rising.sh [PUTS [ROUNDS]]
 source "$(dirname "${BASH_SOURCE[0]}")/common.sh"
 puts=${1:-100000}
@@ -22,6 +24,7 @@ for _ in $(seq "$rounds"); do
     done
   done
   run_one striped roomy
+  MALLOC_TRIM_THRESHOLD_=1000000000 run_one striped again
   run_one striped small whole
   run_one striped roomy whole
 done >"$work/runs"
@@ -47,3 +50,5 @@ for what in puts whole; do
   line $what "$(middle striped small 6 $what)" "$(middle striped roomy 6 $what)" \
     "$(middle striped small 8 $what)" "$(middle striped roomy 8 $what)"
 done
+printf '%8s  %10s %10s  %10s %10s  %s\n' striped again large again large ratio
+line again "$(middle striped again 6)" "$(middle striped large 6)" "$(middle striped again 8)" "$(middle striped large 8)"

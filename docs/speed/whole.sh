@@ -33,12 +33,12 @@ printf '%-8s %8s %9s %9s %9s %6s %7s %7s %6s' command pieces bytes proved plain 
 echo
 for size in ${SIZES:-1000 10000 100000 0}; do
   write_whole_files "$size"
-  for command in replay check mix run run_kept; do
-    file=$work/${command%_kept}.json
+  for command in replay check mix run run_seen run_kept; do
+    file=$work/${command%_*}.json
     rm -f "$work"/*.costs
     for _ in $(seq "$rounds"); do
       for program in "${programs[@]}"; do
-        words=("${command%_kept}")
+        words=("${command%_*}")
         [ "$program" != plain ] || words=("$command")
         [ $command != mix ] || words+=(--seed 7)
         costs "$program" $((1 + 20000 / (size + 1000) + (size == 0 ? -20 : 0))) "${words[@]}" "$file" >>"$work/$program.costs"

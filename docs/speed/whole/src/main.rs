@@ -1,8 +1,8 @@
 //! The commands `replay`, `check`, `mix` and `run` of the program, in plain Rust: read with typed serde, do, write. It writes
 //! what the program writes, and nothing is proved of it. See ../../SPEED.md.
 //!
-//! Usage: whole replay FILE | whole check FILE | whole mix --seed N FILE | whole run FILE | whole run_kept FILE, which also
-//! keeps what each worker saw | whole history FILE N, which writes the first N entries of a step file's history.
+//! Usage: whole replay FILE | whole check FILE | whole mix --seed N FILE | whole run FILE | whole run_seen FILE, which
+//! keeps what each worker saw | whole run_kept FILE, which does all that the program does | whole history FILE N, which writes the first N entries of a step file's history.
 #![allow(dead_code)]
 
 mod check;
@@ -102,6 +102,10 @@ fn output() -> Result<(Vec<u8>, bool), Box<dyn Error>> {
         ["run", file] => {
             let scripts = read_scripts(&fs::read_to_string(file)?)?;
             history_of(run::run(&scripts), scripts, 3)
+        }
+        ["run_seen", file] => {
+            let scripts = read_scripts(&fs::read_to_string(file)?)?;
+            history_of(run::run_seen(&scripts), scripts, 3)
         }
         ["run_kept", file] => {
             let scripts = read_scripts(&fs::read_to_string(file)?)?;

@@ -56,9 +56,10 @@ struct Outcome {
     replies: Vec<Reply>,
 }
 
-/// A worker that does what `boostmap run` promises beside the history: it keeps the entries that it
-/// saw, takes the word of a stripe before it asks for it, and keeps how each script ended.
-struct Keeper<'a> {
+/// A worker that keeps the entries that it saw. If `ALL`, it does all that `boostmap run` promises
+/// beside the history: it also takes the word of a stripe before it asks for it, and keeps how each
+/// script ended.
+struct Keeper<'a, const ALL: bool> {
     words: &'a [AtomicU64],
     number: u64,
     held: Vec<usize>,
@@ -68,8 +69,8 @@ struct Keeper<'a> {
     outcomes: Vec<Option<Outcome>>,
 }
 
-impl<'a> Keeper<'a> {
-    fn new(words: &'a [AtomicU64], number: u64) -> Keeper<'a> {
+impl<'a, const ALL: bool> Keeper<'a, ALL> {
+    fn new(words: &'a [AtomicU64], number: u64) -> Keeper<'a, ALL> {
         Keeper {
             words,
             number,
@@ -81,9 +82,13 @@ impl<'a> Keeper<'a> {
         }
     }
 
-    /// Tries the word of the key's stripe, in one try, unless it is held already.
-    fn try_word(&mut self, key: u64) {
-        let stripe = (key % self.words.len() as u64) as usize;
+    /// Tries the word of the stripe of the worker's next operation, in one try, unless it has none
+    /// or holds the stripe already.
+    fn try_word(&mut self, worker: &Worker) {
+        let Some(op) = worker.asks() else {
+            return;
+        };
+        let stripe = (op.key() % self.words.len() as u64) as usize;
         if self.held.contains(&stripe) {
             return;
         }
@@ -126,11 +131,11 @@ impl<'a> Keeper<'a> {
     }
 
     /// Takes a worker's calls to its end.
-    fn work(mut self, core: &Mutex<Core>, mut worker: Worker, file: &Scripts) -> Keeper<'a> {
+    fn work(mut self, core: &Mutex<Core>, mut worker: Worker, file: &Scripts) -> Keeper<'a, ALL> {
         let mut is_live = true;
         while is_live {
-            if let Some(op) = worker.asks() {
-                self.try_word(op.key());
+            if ALL {
+                self.try_word(&worker);
             }
             let (again, heard) = (worker.again, self.seen.len());
             {
@@ -139,8 +144,10 @@ impl<'a> Keeper<'a> {
                 is_live = call(&mut core, &mut worker, file);
                 self.seen.extend_from_slice(&core.history()[before..]);
             }
-            for place in heard..self.seen.len() {
-                self.hear(self.seen[place]);
+            if ALL {
+                for place in heard..self.seen.len() {
+                    self.hear(self.seen[place]);
+                }
             }
             give_way(again, &worker);
         }
@@ -148,12 +155,22 @@ impl<'a> Keeper<'a> {
     }
 }
 
+/// The core after all scripts, of workers that keep what they saw and do no more.
+pub fn run_seen(file: &Scripts) -> Core {
+    keep::<false>(file)
+}
+
+/// The core after all scripts, of workers that do all that `boostmap run` promises.
+pub fn run_kept(file: &Scripts) -> Core {
+    keep::<true>(file)
+}
+
 /// The core after all scripts, of workers that keep what they saw; their entries in its history are
 /// compared with it.
-pub fn run_kept(file: &Scripts) -> Core {
+fn keep<const ALL: bool>(file: &Scripts) -> Core {
     let core = Mutex::new(Core::new(file.limits, file.room()));
     let words: Vec<AtomicU64> = (0..file.limits.stripes).map(|_| AtomicU64::new(0)).collect();
-    let keepers: Vec<Keeper> = thread::scope(|scope| {
+    let keepers: Vec<Keeper<ALL>> = thread::scope(|scope| {
         let threads: Vec<_> = file
             .live_workers()
             .into_iter()
