@@ -78,6 +78,11 @@ second_in c call phase step next is = absurd (cc is)
 pub second_step : (d e : Drive) (a : Answer) (turn : Turn) (step next : Step) → turn ≡ turn_of d → turn ≡ Two step next → e ≡ told_of d a → a ≡ answers.Placed → step_of e ≡ Some next
 second_step d e a turn step next is two told placed = ap step_of (told ∙ ap (told_of d) placed) ∙ second_in d.caller d.call d.phase step next (sym is ∙ two)
 
+-- A turn of two steps is the same for each size of the table.
+pub two_again : (size c : ℕ) (call : Call) (phase : Phase) (first second : Step) → Two first second ≡ turn_in c call phase → turn_in c call (sized_in size phase) ≡ Two first second
+two_again size c call (Doubling seen) first second is = absurd (cc is)
+two_again size c call phase first second is = sym is
+
 pub no_second : (tried : Option Trial) (m : State) (seen : List Entry) (d : Drive) (next : Step) (a : Answer) → (a ≡ answers.Placed → ⊥) → TakesSecond tried m seen d next a m seen d
 no_second tried m seen d next answers.Placed not_so = absurd (not_so refl)
 no_second tried m seen d next a not_so = (refl, refl, refl)

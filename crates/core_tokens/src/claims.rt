@@ -92,8 +92,8 @@ impl Claims {
         ensures limits { core.new.limits ≡ core.old.limits }
     {
         match step {
-            Step::Ask(caller, op) => self.ask(core, caller, op),
-            _ => core.step(step),
+            Step::Ask(caller, op) => in_parts(self.ask(core, caller, op)),
+            _ => in_parts(core.step(step)),
         }
     }
 
@@ -124,5 +124,20 @@ impl Claims {
             }
             _ => {}
         }
+    }
+}
+
+/// The answer itself, read part by part. A core writes an answer by single bytes; whoever reads two
+/// of them at once waits until both are written.
+#[inline(always)]
+fn in_parts(answer: Answer) -> Answer
+    ensures { result ≡ answer }
+{
+    match answer {
+        Answer::Asked => Answer::Asked,
+        Answer::Placed => Answer::Placed,
+        Answer::Done(Some(value)) => Answer::Done(Some(value)),
+        Answer::Done(None) => Answer::Done(None),
+        answer => answer,
     }
 }

@@ -40,7 +40,7 @@ pub(crate) fn take_turn<L: Ledger>(
             Step::Act(caller) => take_one(seen, claims, booked, drive, Step::Act(caller)),
             _ => take_one(seen, claims, booked, drive, step),
         },
-        Turn::Two(first, second) => take_two(seen, claims, booked, drive, first, second),
+        Turn::Two(..) => take_pair(seen, claims, booked, drive),
         Turn::Ended(_) => true,
     }
 }
@@ -67,8 +67,28 @@ fn take_one<L: Ledger>(
     true
 }
 
-/// Takes a turn of two steps: the second is taken if the answer to the first was `Placed`.
+/// Takes the turn of two steps that the drive shows. They are no parameters, since the caller would
+/// then have room for both in each hold.
 #[inline(never)]
+fn take_pair<L: Ledger>(
+    seen: &mut Seen<L>,
+    claims: &Claims,
+    booked: &mut Booked<L>,
+    drive: &mut Drive,
+) -> bool
+    requires two { (first : Step) × (second : Step) × (Turn.Two first second ≡ turn_of drive.old) }
+    requires may { MayTake claims.now booked.old.core seen.old.entries drive.old }
+    ensures { TurnTaken claims.now.tried booked.old.core seen.old.entries drive.old
+        (turn_of drive.old) result booked.new.core seen.new.entries drive.new }
+{
+    let mut shown = *drive;
+    match shown.turn(0) {
+        Turn::Two(first, second) => take_two(seen, claims, booked, drive, first, second),
+        _ => unreachable!(),
+    }
+}
+
+/// Takes a turn of two steps: the second is taken if the answer to the first was `Placed`.
 fn take_two<L: Ledger>(
     seen: &mut Seen<L>,
     claims: &Claims,

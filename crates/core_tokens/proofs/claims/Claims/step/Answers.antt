@@ -19,7 +19,7 @@ pub returns-in_default : goal.returns-in_default
 returns-in_default c =
     let plain = plain_claim c.args.self.now.tried c.args.core.now c.args.step (λ caller op is. c.in_default.not-Ask caller op is) in
     let goes = subst (λ claim. Goes claim c.args.core.now c.args.step c.step.result c.step.new.self) (sym plain) c.step.ensures.event.move in record {
-      goes = goes;
+      goes = subst (λ answer. Goes (claim_in c.args.self.now.tried c.args.core.now c.args.step) c.args.core.now c.args.step answer c.step.new.self) (sym c.in_parts-in_default.ensures) goes;
       words = c.step.ensures.words ∙ c.requires.words;
       limits = (goes_over (claim_in c.args.self.now.tried c.args.core.now c.args.step) c.args.core.now c.step.new.self c.args.step c.step.result goes).limits;
     }
