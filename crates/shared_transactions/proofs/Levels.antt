@@ -1,4 +1,4 @@
--- Savepoints: what a save and a return leave of a token.
+-- Savepoints: the token after a save and after a return to a level.
 use Rattle.std.proofs.Common.{◌≡◌, ℕ, true, List, [], ◌∷◌, ◌++◌, append_assoc, Some, refl, sym, ap, ◌∙◌}
 use Rattle.std.specs.Prelude.{Result, Ok, Err, OnOk}
 use Rattle.std.specs.Borrow.{MutBor}
@@ -17,7 +17,7 @@ use Rattle.shared_transactions.specs.Keeps.{Keeps}
 use Rattle.shared_transactions.specs.Within.{GoesOn, HoldsWithin, is_quiet}
 use Rattle.shared_transactions.proofs.Within.{Adds, BeginsNone, adds, adds_undoing, append_none, undone_none, same_txn, not_broken, steady_after, goes_on, holds_open}
 
--- A call that passed and added entries that neither commit nor begin.
+-- A call that passed goes on if its entries neither commit nor begin a transaction.
 passed_on : {S : Type 0} (k : Token S) (call : Call) (l : Token S) (es : List Entry) → l.seen ≡ k.seen ++ es → Adds es → BeginsNone es → HoldsWithin l → Passed k call l → GoesOn k l
 passed_on k call l es seen which none holds passed = record {
   since = λ base since. adds base k l es since passed.whose seen which;
@@ -27,7 +27,7 @@ passed_on k call l es seen which none holds passed = record {
   holds = λ _. holds;
 }
 
--- A call that was stopped.
+-- A call that stopped goes on, if it neither begins nor commits.
 stopped_on : {S : Type 0} (words : S → List ℕ) (k : Token S) (call : Call) (stop : Stop) (l : Token S) → is_quiet call ≡ true → Stopped words k call stop l → GoesOn k l
 stopped_on words k call (stops.Busy holder) l inner stopped = goes_on words k call (ends.Busy holder) l inner stopped
 stopped_on words k call (stops.Refused refusal) l inner stopped = goes_on words k call (ends.Refused refusal) l inner stopped

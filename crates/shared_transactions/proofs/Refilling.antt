@@ -1,5 +1,5 @@
--- What a caller does that puts the pairs of a core, and that it is never refused as if there were
--- too few callers.
+-- The entries of a caller that puts the pairs of a core; and that a refill is never refused with
+-- `CallersMissing`.
 use Rattle.std.proofs.Common.{◌≡◌, ℕ, ◌+◌, ◌<◌, ◌≤◌, suc, if◌then◌else◌, Bool, true, false, List, [], ◌∷◌, ◌++◌, length, take, slice_index_or, append_assoc, Option, Some, None, refl, sym, ap, subst, ◌∙◌, inl, inr, arith}
 use Rattle.std.specs.Prelude.{not}
 use Rattle.std.specs.Option.{option_or}
@@ -29,7 +29,7 @@ use Rattle.shared_transactions.specs.Within.{IsBegun, IsCommitted, IsOver, GoesO
 use Rattle.shared_transactions.specs.Works.{IsNew, IsUnclosed}
 use Rattle.shared_transactions.specs.Refilled.{ArePuts, HasPut, IsRefilled, IsNotRefilled, StopsRefilling, StopsWithin, IsUnclosedBy}
 
--- A token with which nothing was done has no transaction.
+-- A token that has seen nothing has no transaction.
 pub over_new : {S : Type 0} (k : Token S) → k.seen ≡ [] → IsOver k
 over_new k none = λ sound. ap (λ es. is_over (seat_after es)) none
 
@@ -45,7 +45,7 @@ puts_push c (first ∷ pairs) es pair reply (r, rest, is, are) = (
 pub put_none : {S : Type 0} (k : Token S) → HasPut [] k k
 put_none k = record { puts = []; are = refl; seen = sym (append-nil k.seen) }
 
--- One pair more.
+-- A put after the puts of `pairs` adds its pair to them.
 pub put_one : {S : Type 0} (pairs : List (ℕ × ℕ)) (pair : ℕ × ℕ) (reply : Option ℕ) (base k l : Token S) → HasPut pairs base k → k.number ≡ base.number
     → l.seen ≡ k.seen ++ Asked k.number (Put pair.0 pair.1) ∷ Did k.number reply ∷ [] → HasPut (pairs ++ pair ∷ []) base l
 put_one pairs pair reply base k l put whose seen = record {
@@ -69,7 +69,7 @@ put_at pairs i reply base k l less put whose seen =
 pub put_all : {S : Type 0} (pairs : List (ℕ × ℕ)) (i : ℕ) (base k : Token S) → length pairs ≤ i → HasPut (take i pairs) base k → HasPut pairs base k
 put_all pairs i base k all put = subst (λ ps. HasPut ps base k) (take_all i pairs all) put
 
--- A transaction that put them all.
+-- A committed transaction that put all pairs is a refill.
 pub refilled : {S : Type 0} (pairs : List (ℕ × ℕ)) (txn place : ℕ) (base begun done last : Token S) → base.seen ≡ [] → IsBegun base txn begun → HasPut pairs begun done → GoesOn begun done
     → (other : ℕ) → IsCommitted other place done last → IsRefilled pairs last
 refilled pairs txn place base begun done last fresh begins put goes_on other committed = record {
@@ -92,12 +92,12 @@ refilled pairs txn place base begun done last fresh begins put goes_on other com
     of_base : base.number ≡ last.number
     of_base = sym begins.whose.number ∙ of_begun
 
--- A transaction that put them all, and whose commit was refused.
+-- If a transaction put all pairs and its commit was refused, the refill stopped.
 pub not_committed : {S : Type 0} (words : S → List ℕ) (pairs : List (ℕ × ℕ)) (txn : ℕ) (stop : Stop) (base begun done last : Token S) → IsBegun base txn begun → HasPut pairs begun done → IsNotCommitted stop done last → StopsRefilling words pairs base stop last
 not_committed words pairs txn stop base begun done last begins put refused =
     inr (record { begun = begun; txn = txn; began = begins; why = inr (record { done = done; put = put; refused = refused }) })
 
--- By a token a begin, an operation and a commit are refused for other reasons than missing callers.
+-- A token never refuses a begin, an operation or a commit with `CallersMissing`.
 module _ {S : Type 0} (k : Token S) where
   begin_allowed : refused_by k calls.Begin ≡ Some CallersMissing → ⊥
   begin_allowed is = at k.broken (seat_after k.seen) is
@@ -145,7 +145,7 @@ module _ {S : Type 0} (k : Token S) where
   not_refused call l allowed may (inl (is, same)) = allowed is
   not_refused call l allowed may (inr (free, found)) = false≢true (sym may ∙ found.may)
 
--- So no refill is refused for them.
+-- A refill is never refused with `CallersMissing`.
 module _ {S : Type 0} (words : S → List ℕ) (pairs : List (ℕ × ℕ)) (k l : Token S) where
   not_within : StopsWithin words pairs k (Refused CallersMissing) l → ⊥
   not_within within = elim within.why [
@@ -172,7 +172,7 @@ unclosed_otherwise stop unclosed is =
     let refusal_is : unclosed.refusal ≡ CallersMissing = cc (sym unclosed.is ∙ is) in
     subst IsUnclosed refusal_is unclosed.why
 
--- The pass of a place.
+-- The pass at an index has the index as its number, and the map's limits.
 pub ticket_at : (limits : Sizes) (items : List Ticket) (place : ℕ) (pass : Ticket) → place < limits.callers → AreTickets limits items → pass ≡ slice_index_or items place pass → (pass.number ≡ place) × (pass.limits ≡ limits)
 ticket_at limits items place pass less all value =
     let here : pass ≡ new_ticket limits all.words place = value ∙ ap (λ ts. slice_index_or ts place pass) all.are ∙ get_or-map-range_with_len (new_ticket limits all.words) 0 limits.callers place place pass less (omega arith) in

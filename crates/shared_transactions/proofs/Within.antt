@@ -1,4 +1,4 @@
--- How a call within a transaction, and an abort, leave a token.
+-- The token after a call within a transaction, and after an abort.
 use Rattle.std.proofs.Common.{◌≡◌, ℕ, zero, suc, ◌==◌, ◌⊎◌, cond, if◌then◌else◌, slice_index, ◌&&◌, Bool, true, false, List, [], ◌∷◌, ◌++◌, append_assoc, is_some, Option, Some, None, refl, sym, ap, subst, ◌∙◌, inl, inr}
 use Rattle.std.specs.List.{filter, fold}
 use Rattle.std.specs.Option.{option_and_then, option_or}
@@ -52,7 +52,7 @@ undoing_quiet c k opening closing first last =
     ap (λ b. cond b (opening ∷ filter is_commit (undone_by c k ++ closing ∷ [])) (filter is_commit (undone_by c k ++ closing ∷ []))) first
     ∙ append_quiet (undone_by c k) (closing ∷ []) (undone_quiet c k) (ap (λ b. cond b (closing ∷ []) []) last)
 
--- After nothing nothing comes.
+-- From no seat no entry leads to a seat.
 none_stays : (es : List Entry) → fold (λ seat e. option_and_then (λ (s : Seat). row s s.phase e) seat) None es ≡ None
 none_stays [] = refl
 none_stays (e ∷ es) = none_stays es
@@ -60,7 +60,7 @@ none_stays (e ∷ es) = none_stays es
 seat_append : (xs ys : List Entry) → seat_after (xs ++ ys) ≡ fold (λ seat e. option_and_then (λ (s : Seat). row s s.phase e) seat) (seat_after xs) ys
 seat_append xs ys = fold-append (λ seat e. option_and_then (λ (s : Seat). row s s.phase e) seat) (Some closed_seat) xs ys
 
--- Where all entries have rows, so have those before.
+-- If all entries have rows, those of a beginning have rows too.
 rows_before : (xs ys : List Entry) → is_some (seat_after (xs ++ ys)) ≡ true → is_some (seat_after xs) ≡ true
 rows_before xs ys there = at (seat_after xs) (sym (ap is_some (seat_append xs ys)) ∙ there)
   where
@@ -68,7 +68,7 @@ rows_before xs ys there = at (seat_after xs) (sym (ap is_some (seat_append xs ys
     at None some = absurd (false≢true (sym (ap is_some (none_stays ys)) ∙ some))
     at (Some s) some = refl
 
--- Each of these entries leaves nothing unfinished.
+-- The kinds of entries after which nothing is unfinished.
 abbrev pub ends_steady : Entry → Type 0
 ends_steady (entries.Began c t) = Unit {0}
 ends_steady (entries.Did c r) = Unit {0}
@@ -118,7 +118,7 @@ row_steady phase standing kept (entries.Leave c n) ends = absurd ends
 row_steady phase standing kept (entries.Undone c) ends = absurd ends
 row_steady phase standing kept (entries.Busy c op x) ends = absurd ends
 
--- After such an entry nothing is unfinished.
+-- After an entry of `ends_steady` nothing is unfinished.
 pub steady_after : (xs : List Entry) (e : Entry) → ends_steady e → is_steady (seat_after (xs ++ e ∷ [])) ≡ true
 steady_after xs e ends = ap is_steady (seat_append xs (e ∷ [])) ∙ at (seat_after xs)
   where
@@ -145,12 +145,12 @@ over_after xs c = ap is_over (seat_append xs (entries.Aborted c ∷ [])) ∙ at 
     at None = refl
     at (Some s) = in_phase s s.phase
 
--- What a call adds: entries that commit nothing, and leave nothing unfinished, whatever came before.
+-- Entries that commit nothing and leave nothing unfinished, whatever is before them.
 pub record Adds (es : List Entry) : Type 0 where
   pub quiet : CommitNothing es
   pub steady : (xs : List Entry) → is_steady (seat_after (xs ++ es)) ≡ true
 
--- No entry of these begins a transaction.
+-- None of these entries begins a transaction.
 abbrev pub BeginsNone : List Entry → Type 0
 BeginsNone es = (t : ℕ) → fold began_by t es ≡ t
 
@@ -173,7 +173,7 @@ adds_undoing c k opening closing first last ends = record {
   steady = λ xs. ap (λ es. is_steady (seat_after es)) (sym (append_assoc xs (opening ∷ undone_by c k) (closing ∷ []))) ∙ steady_after (xs ++ (opening ∷ undone_by c k)) closing ends;
 }
 
--- A token that is the same, or has seen such entries more, is one of the same transaction.
+-- A token stays since `base` if it sees no more; `grows` has the case of added entries.
 stays : {S : Type 0} (base k l : Token S) → IsSince base k → IsSameCaller k l → l.seen ≡ k.seen → (l.broken ≡ false → k.broken ≡ false) → IsSince base l
 stays base k l since whose same sound = record {
   whose = record { number = whose.number ∙ since.whose.number; limits = whose.limits ∙ since.whose.limits };
@@ -197,7 +197,7 @@ pub adds : {S : Type 0} (base k l : Token S) (es : List Entry) → IsSince base 
 adds base k l es since whose more which =
     grows base k l es since whose more (λ _. which.quiet) (λ _. ap (λ xs. is_steady (seat_after xs)) more ∙ which.steady k.seen)
 
--- A call that falls out of step.
+-- A call that falls out of step keeps `IsSince`.
 fell_out : {S : Type 0} (base k : Token S) (call : Call) (l : Token S) → IsSince base k → FellOut k call l → IsSince base l
 fell_out base k call l since fell =
     grows base k l fell.added since fell.whose fell.entries fell.quiet (λ b. absurd (false≢true (sym b ∙ fell.broken)))
@@ -222,7 +222,8 @@ abbrev is_refused : End → Bool
 is_refused (ends.Refused r) = true
 is_refused outcome = false
 
--- What a call that is not refused adds, and neither begins nor commits: nothing, or such entries.
+-- A call that is not refused, and neither begins nor commits, adds nothing or entries as `Adds`
+-- has them.
 made_adds : (c : ℕ) (call : Call) (outcome : End) (es : List Entry) → is_quiet call ≡ true → is_refused outcome ≡ false → IsMade c call outcome es → (es ≡ []) ⊎ Adds es
 made_adds c calls.Begin outcome es inner sound is = absurd (false≢true inner)
 made_adds c calls.Commit outcome es inner sound is = absurd (false≢true inner)
@@ -242,7 +243,7 @@ ran words base k call outcome l since inner sound did =
       | inr which ↦ adds base k l did.added since did.whose did.entries which
     ]
 
--- A call within a transaction leaves its token in it, or has aborted it, or has broken the token.
+-- A call that neither begins nor commits keeps `IsSince`, however it ends.
 pub since_ended : {S : Type 0} (words : S → List ℕ) (base k : Token S) (call : Call) (outcome : End) (l : Token S) → IsSince base k → is_quiet call ≡ true → Ended words k call outcome l → IsSince base l
 since_ended words base k call (ends.Refused r) l since inner refused = since_refused base k call r l since refused
 since_ended words base k call (ends.Answered a) l since inner did = ran words base k call (ends.Answered a) l since inner refl did
@@ -290,7 +291,7 @@ over_committed xs c p = ap is_over (seat_append xs (entries.Committed c p ∷ []
 over_commit : {S : Type 0} (k l : Token S) (c p : ℕ) → l.seen ≡ k.seen ++ entries.Committed c p ∷ [] → IsOver l
 over_commit k l c p is = λ sound. ap (λ es. is_over (seat_after es)) is ∙ over_committed k.seen c p
 
--- Whose call ended.
+-- A call that failed leaves the token to the same caller.
 whose_failed : {S : Type 0} (k : Token S) (call : Call) (r : Refusal) (l : Token S) → Failed k call r l → IsSameCaller k l
 whose_failed k call OutOfStep l fell = fell.whose
 whose_failed k call r l found = found.whose
@@ -325,7 +326,7 @@ since_start k over = record {
   steady = λ sound. over_steady (seat_after k.seen) (over sound);
 }
 
--- A begin that was stopped leaves no transaction where there was none.
+-- After a begin that stopped no transaction is open if none was before.
 over_stopped : {S : Type 0} (words : S → List ℕ) (k : Token S) (stop : Stop) (l : Token S) → IsOver k → Stopped words k calls.Begin stop l → IsOver l
 over_stopped words k (stops.Busy x) l over did = absurd did.made
 over_stopped words k (stops.Refused r) l over (inl (free, same)) = subst IsOver (sym same) over
@@ -336,14 +337,14 @@ sound_refused : {S : Type 0} (k : Token S) (call : Call) (r : Refusal) (l : Toke
 sound_refused k call r l (inl (free, same)) = λ sound. sym (ap (λ (t : Token _). t.broken) same) ∙ sound
 sound_refused k call r l (inr (free, failed)) = λ sound. not_broken k call free
 
--- Whether a token that a call left is not broken.
+-- If a token is not broken after a call, it was not broken before it.
 pub sound_ended : {S : Type 0} (words : S → List ℕ) (k : Token S) (call : Call) (outcome : End) (l : Token S) → Ended words k call outcome l → l.broken ≡ false → k.broken ≡ false
 sound_ended words k call (ends.Refused r) l refused = sound_refused k call r l refused
 sound_ended words k call (ends.Answered a) l did = λ sound. not_broken k call did.free
 sound_ended words k call (ends.Busy x) l did = λ sound. not_broken k call did.free
 sound_ended words k call ends.Helped l did = λ sound. not_broken k call did.free
 
--- What a call that is not refused adds begins no transaction, unless it is a begin.
+-- The entries of a call that is not refused, and neither begins nor commits, begin no transaction.
 made_none : (c : ℕ) (call : Call) (outcome : End) (es : List Entry) → is_quiet call ≡ true → is_refused outcome ≡ false → IsMade c call outcome es → BeginsNone es
 made_none c calls.Begin outcome es inner sound is = absurd (false≢true inner)
 made_none c calls.Commit outcome es inner sound is = absurd (false≢true inner)
@@ -376,7 +377,7 @@ txn_ended words k call (ends.Answered a) l inner did = λ sound. txn_ran words k
 txn_ended words k call (ends.Busy x) l inner did = λ sound. txn_ran words k call (ends.Busy x) l inner refl did
 txn_ended words k call ends.Helped l inner did = λ sound. txn_ran words k call ends.Helped l inner refl did
 
--- Each of these entries leaves a transaction.
+-- The kinds of entries after which a transaction is open.
 abbrev pub ends_open : Entry → Type 0
 ends_open (entries.Began c t) = Unit {0}
 ends_open (entries.Did c r) = Unit {0}
@@ -416,7 +417,7 @@ row_open phase standing kept (entries.Busy c op x) ends = absurd ends
 row_open phase standing kept (entries.Committed c p) ends = absurd ends
 row_open phase standing kept (entries.Aborted c) ends = absurd ends
 
--- A token whose last entry leaves a transaction may hold stripes.
+-- A token may hold stripes if a transaction is open after its last entry.
 pub holds_open : {S : Type 0} (l : Token S) (xs : List Entry) (e : Entry) → ends_open e → l.seen ≡ xs ++ e ∷ [] → HoldsWithin l
 holds_open l xs e ends seen =
     λ sound idle. absurd (false≢true (sym (ap (λ es. is_idle (seat_after es)) seen ∙ ap is_idle (seat_append xs (e ∷ [])) ∙ at (seat_after xs)) ∙ idle))
@@ -425,11 +426,11 @@ holds_open l xs e ends seen =
     at None = refl
     at (Some s) = row_open s.phase s.standing s.kept e ends
 
--- All rights were given back.
+-- After all rights are given back, no stripe is held.
 given_none : (l k : Claimed) → l ≡ given_back k → HoldsNone l
 given_none l k is = (ap (λ (c : Claimed). c.held) is, ap (λ (c : Claimed). c.seat.held) is)
 
--- A token that has seen no more and holds the same stripes.
+-- A token keeps `HoldsWithin` if it has seen no more and its claims are unchanged.
 holds_same : {S : Type 0} (k l : Token S) → k.broken ≡ false → l.seen ≡ k.seen → l.claims ≡ k.claims → HoldsWithin k → HoldsWithin l
 holds_same k l sound seen claims holds =
     λ _ idle. subst HoldsNone (sym claims) (holds sound (sym (ap (λ es. is_idle (seat_after es)) seen) ∙ idle))
@@ -471,7 +472,8 @@ op_open k op free = at k.broken (seat_after k.seen) free
     at false None is = refl
     at false (Some s) is = seated s s.phase is
 
--- A call that was refused later, and not as an operation, has tried no word.
+-- A call that its token let pass and that was then refused leaves the claims unchanged, unless it
+-- is an operation.
 same_claims : {S : Type 0} (k : Token S) (call : Call) (r : Refusal) (l : Token S) → ((c d : Claimed) → Readies c call d → d ≡ c) → TriedNothing k r l ⊎ WentOn k call (ends.Refused r) l → l.claims ≡ k.claims
 same_claims k call r l readied (inl (memory, same)) = same
 same_claims k call r l readied (inr went) = went.claims ∙ readied k.claims went.ready.claims went.readied
@@ -493,7 +495,7 @@ holds_ended words k call (ends.Answered a) l inner did = holds_ran words k call 
 holds_ended words k call (ends.Busy x) l inner did = holds_ran words k call (ends.Busy x) l inner refl did
 holds_ended words k call ends.Helped l inner did = holds_ran words k call ends.Helped l inner refl did
 
--- A call within a transaction.
+-- A call that neither begins nor commits goes on, however it ends.
 pub goes_on : {S : Type 0} (words : S → List ℕ) (k : Token S) (call : Call) (outcome : End) (l : Token S) → is_quiet call ≡ true → Ended words k call outcome l → GoesOn k l
 goes_on words k call outcome l inner ended = record {
   since = λ base since. since_ended words base k call outcome l since inner ended;
@@ -503,7 +505,7 @@ goes_on words k call outcome l inner ended = record {
   holds = holds_ended words k call outcome l inner ended;
 }
 
--- One token after another.
+-- Going on is transitive.
 pub goes_further : {S : Type 0} (k l m : Token S) → GoesOn k l → GoesOn l m → GoesOn k m
 goes_further k l m first second = record {
   since = λ base since. second.since base (first.since base since);
@@ -516,7 +518,7 @@ goes_further k l m first second = record {
 pub keeps_by : {S : Type 0} (words : S → List ℕ) (old new : MutBor (Token S)) (call : Call) (outcome : End) → new.ghost_name ≡ old.ghost_name → is_quiet call ≡ true → Ended words old.now call outcome new.now → Keeps old new
 keeps_by words old new call outcome same inner ended = record { same_token = same; goes_on = goes_on words old.now call outcome new.now inner ended }
 
--- One part of the work after another.
+-- A work that makes no call keeps `Keeps`; `keeps_on` joins one part of a work to the next.
 pub keeps_stay : {S : Type 0} (me : MutBor (Token S)) → Keeps me me
 keeps_stay me = record { same_token = refl; goes_on = record { since = λ base since. since; whose = record { number = refl; limits = refl }; sound = λ sound. sound; txn = λ sound. refl; holds = λ holds. holds } }
 
@@ -526,12 +528,12 @@ keeps_on old between new first second = record {
   goes_on = goes_further old.now between.now new.now first.goes_on second.goes_on;
 }
 
--- A seat of entries that all have rows has no transaction, or one.
+-- If no transaction is open and all entries have rows, the seat is idle.
 idle_of : (seat : Option Seat) → is_over seat ≡ true → is_some seat ≡ true → is_idle seat ≡ true
 idle_of None over rows = absurd (false≢true rows)
 idle_of (Some s) over rows = over
 
--- An abort.
+-- An abort takes the transaction back, however it ends.
 pub taken_back_by : {S : Type 0} (words : S → List ℕ) (k : Token S) (outcome : End) (l : Token S) → Ended words k calls.Abort outcome l → IsTakenBack k l
 taken_back_by words k outcome l ended = record {
   goes_on = goes_on words k calls.Abort outcome l refl ended;
@@ -540,7 +542,7 @@ taken_back_by words k outcome l ended = record {
       holds_ended words k calls.Abort outcome l refl ended holds sound (idle_of (seat_after l.seen) (over_ended words base k outcome l since ended sound) rows);
 }
 
--- A call that was refused, whichever it is.
+-- A refused call goes on, whichever call it is.
 refused_on : {S : Type 0} (k : Token S) (call : Call) (r : Refusal) (l : Token S) → WasRefused k call r l → GoesOn k l
 refused_on k call r l refused = record {
   since = λ base since. since_refused base k call r l since refused;
@@ -550,7 +552,7 @@ refused_on k call r l refused = record {
   holds = holds_refused k call r l refused;
 }
 
--- A commit that was refused, and the abort after it.
+-- A refused commit and the abort after it take the transaction back.
 pub not_committed : {S T : Type 0} (words : S → List ℕ) (k : Token S) (result : Result T Stop) (stop : Stop) (l m : Token S) → result ≡ Err stop → LeavesBy words k calls.Commit result l → IsTakenBack l m → IsTakenBack k m
 not_committed words k result stop l m is leaves back =
     after stop (subst (λ r. LeavesBy words k calls.Commit r l) is leaves)
@@ -565,7 +567,7 @@ not_committed words k result stop l m is leaves back =
           given = λ base since holds. back.given base (on.since base since) (on.holds holds);
         }
 
--- The cause of a commit that was refused.
+-- A refused commit and the abort after it, with the refusal's cause.
 pub commit_refused : {S T : Type 0} (words : S → List ℕ) (k : Token S) (result : Result T Stop) (stop : Stop) (l m : Token S) → result ≡ Err stop → LeavesBy words k calls.Commit result l → IsTakenBack l m → IsNotCommitted stop k m
 commit_refused words k result stop l m is leaves back = record {
   left = l;
@@ -577,7 +579,7 @@ commit_refused words k result stop l m is leaves back = record {
     after (stops.Busy x) did = absurd did.made
     after (stops.Refused r) refused = refused
 
--- A commit.
+-- A commit that passed.
 pub committed : {S : Type 0} (k l : Token S) (txn place : ℕ) → txn ≡ last_txn k.seen → l.seen ≡ k.seen ++ entries.Committed k.number place ∷ [] → l.claims ≡ given_back k.claims → Passed k calls.Commit l → IsCommitted txn place k l
 committed k l txn place txn_is seen claims passed = record {
   numbered = txn_is;
@@ -588,7 +590,7 @@ committed k l txn place txn_is seen claims passed = record {
   claims = claims;
 }
 
--- A begin.
+-- A token that lets a begin pass has no transaction.
 over_free : {S : Type 0} (k : Token S) → refused_by k calls.Begin ≡ None → IsOver k
 over_free k free = λ sound. at k.broken (seat_after k.seen) free
   where
@@ -625,7 +627,7 @@ undone_not_begun stop k l none = record { since = none.goes_on.since; over = non
 since_begun : {S : Type 0} (base k l : Token S) (txn : ℕ) → IsSince base k → IsBegun k txn l → IsSince base l
 since_begun base k l txn since begun = adds base k l (entries.Began k.number txn ∷ []) since begun.whose begun.seen (record { quiet = refl; steady = λ xs. steady_after xs (entries.Began k.number txn) tt })
 
--- A transaction that began, went on and was taken back.
+-- A transaction that began, went on and was taken back is undone.
 pub undone_after : {S : Type 0} (k t u m : Token S) (txn : ℕ) → IsBegun k txn t → GoesOn t u → IsTakenBack u m → IsUndone k m
 undone_after k t u m txn begun goes_on back = record {
   since = λ base since. back.goes_on.since base (goes_on.since base (since_begun base k t txn since begun));
@@ -633,7 +635,7 @@ undone_after k t u m txn begun goes_on back = record {
   holds = λ _. back.goes_on.holds (goes_on.holds (holds_open t k.seen (entries.Began k.number txn) tt begun.seen));
 }
 
--- A transaction that began, went on and was committed: its receipt has its number.
+-- A transaction that began, went on and was committed is a run, and its receipt has its number.
 pub run : {S : Type 0} (base t u l : Token S) (began txn place : ℕ) → IsBegun base began t → GoesOn t u → IsCommitted txn place u l → IsRun base t u l txn place
 run base t u l began txn place begun goes_on committed =
     let same : began ≡ txn = sym (committed.numbered ∙ goes_on.txn committed.sound ∙ ap last_txn begun.seen ∙ fold-append began_by 0 base.seen (entries.Began base.number began ∷ [])) in
@@ -646,7 +648,7 @@ run base t u l began txn place begun goes_on committed =
       given = given_none l.claims u.claims committed.claims;
     }
 
--- One try after another.
+-- An unchanged token is undone; `undone_on` joins one try to the next.
 pub undone_same : {S : Type 0} (k : Token S) → IsUndone k k
 undone_same k = record { since = λ base since. since; over = λ over. over; holds = λ holds. holds }
 
@@ -657,7 +659,7 @@ undone_on a b c first second = record {
   holds = λ holds. second.holds (first.holds holds);
 }
 
--- An abort where there is no transaction is refused by the token.
+-- A token without a transaction refuses an abort.
 over_refused : {S : Type 0} (k : Token S) → IsOver k → refused_by k calls.Abort ≡ None → ⊥
 over_refused k over = at k.broken (seat_after k.seen) over
   where

@@ -1,5 +1,5 @@
--- That a closed map has no entries but those of the callers that worked on it, and what works in
--- threads come to.
+-- A closed map has no entries but those of the callers that worked on it, and the works of threads
+-- are done with their outcomes.
 use Rattle.std.proofs.Common.{◌≡◌, ℕ, ◌+◌, ◌<◌, ◌≤◌, zero, suc, cond, List, [], ◌∷◌, ◌++◌, length, length-append, map, Option, Some, None, refl, sym, ap, subst, ◌∙◌, inl, inr, arith}
 use Rattle.std.specs.Prelude.{All, slice_get}
 use Rattle.std.specs.List.{sum_by}
@@ -61,7 +61,7 @@ together_most n (e ∷ h) = elim (cases_lt (caller_of e) n) [
   | inr past ↦ let none = together_out n e h past in let rest = together_most n h in omega (arith, none, rest)
 ]
 
--- If these are all entries, each is of a caller below the number.
+-- If the callers below a number have as many entries as the history, each entry is of one of them.
 all_below : (n : ℕ) (h : List Entry) → together n h ≡ length h → All (λ e. caller_of e < n) h
 all_below n [] whole i d less = absurd (omega (arith, less))
 all_below n (e ∷ h) whole zero d less = elim (cases_lt (caller_of e) n) [
@@ -80,7 +80,8 @@ module _ {S : Type 0} (h : List Entry) where
   sum_by-one : (k : Token S) (ks : List (Token S)) → sum_by (λ k. length k.seen) (k ∷ ks) ≡ length k.seen + sum_by (λ k. length k.seen) ks
   sum_by-one k ks = let parts = sum_by-append (λ (l : Token S). length l.seen) (k ∷ []) ks in omega (arith, parts)
 
-  -- Callers with numbers in a row, from `j` on, have seen as many entries as they have.
+  -- Callers with the numbers `j`, `j + 1` and so on have together seen as many entries as the
+  -- history has of them.
   seen_together : (j : ℕ) (ks : List (Token S)) → ((i : ℕ) (k : Token S) → slice_get ks i ≡ Some k → k.number ≡ j + i) → ((i : ℕ) (k : Token S) → slice_get ks i ≡ Some k → IsOwn h k)
       → sum_by (λ k. length k.seen) ks + together j h ≡ together (j + length ks) h
   seen_together j [] numbered theirs = let same : together j h ≡ together (j + 0) h = ap (λ n. together n h) (omega arith) in omega (arith, same)
@@ -98,7 +99,7 @@ module _ {S : Type 0} (h : List Entry) where
       let rest = none_seen ks (λ i x less. new (suc i) x (omega (arith, less))) in
       omega (arith, here, rest, sum_by-one k ks)
 
--- What a map that is closed says, if of its callers only the first ones worked.
+-- If only the first callers of a map worked, closing it gives `IsClosedBy` of these callers.
 pub closed_by : {S : Type 0} (limits : Sizes) (ks unused all : List (Token S)) (core : State) → AreNumbered ks → All IsNew unused → all ≡ ks ++ unused → core.limits ≡ limits → IsLegal Begun core.limits.stripes core.history → All (λ k. IsOwn core.history k) all → AreCounted core.history all → IsClosedBy limits ks core
 closed_by {S} limits ks unused all core numbered new are limits_are legal own_all counted =
     let h = core.history in
@@ -132,8 +133,8 @@ get_right (x ∷ xs) ys i =
     let next : suc (length xs) + i ≡ suc (length xs + i) = omega arith in
     ap (slice_get (x ∷ xs ++ ys)) next ∙ get_right xs ys i
 
--- What works came to, each seated with a caller before, and done after it. Their callers are the
--- first ones of those that worked.
+-- Works that were seated and are done, each with its caller, are done on the closed map. Their
+-- callers are the first of those that worked.
 pub are_done : {S J D W T : Type 0} (work_of : J → W) (me_of : D → Token S) (outcome_of : D → T) (promises : W → T → Token S → Type 0) (limits : Sizes) (works : List W) (seated : List J) (done : List D) (others : List (Token S)) (core : State) (callers : ℕ)
     → length works + length others ≡ callers → callers ≤ limits.callers → map work_of seated ≡ works → length done ≡ length seated
     → ((i : ℕ) (s : J) (d : D) → slice_get seated i ≡ Some s → slice_get done i ≡ Some d → promises (work_of s) (outcome_of d) (me_of d))
@@ -160,13 +161,13 @@ are_done work_of me_of outcome_of promises limits works seated done others core 
       only = subst (λ (n : ℕ). All (λ e. caller_of e < n) core.history) in_all closed.only;
     }
 
--- The callers after these.
+-- The callers `others`, after the callers `ks`, have exactly their entries in the history.
 pub are_in : {S : Type 0} (limits : Sizes) (ks others : List (Token S)) (place : ℕ) (core : State) → length ks ≡ place → IsClosedBy limits (ks ++ others) core → AreIn core.history place others
 are_in limits ks others place core as_many closed i k at =
     let here : slice_get (ks ++ others) (length ks + i) ≡ Some k = get_right ks others i ∙ at in
     (closed.numbered (length ks + i) k here ∙ ap (λ n. n + i) as_many, all_at (λ k. IsOwn core.history k) (ks ++ others) closed.own (length ks + i) k here)
 
--- The only one of them.
+-- A single caller has the number `place`, and exactly its entries in the history.
 pub is_in : {S : Type 0} (h : List Entry) (place : ℕ) (me : Token S) → AreIn h place (me ∷ []) → (me.number ≡ place) × IsOwn h me
 is_in h place me are =
     let (number, own) = are 0 me refl in

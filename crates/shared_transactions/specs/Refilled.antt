@@ -1,4 +1,5 @@
--- A map that begins with the pairs of a core: what the caller has done that put them.
+-- A map that begins with the pairs of a core: the entries of the caller that puts them, and the
+-- causes if they are not put.
 use Rattle.std.specs.Prelude.{ℕ, ◌≡◌, ◌<◌, ◌≤◌, ◌⊎◌, List, [], ◌∷◌, ◌++◌, length, take, Option}
 use Rattle.std.specs.Prelude.{slice_index_or}
 use Rattle.map_answers.specs.declared.stop.Stop.{Stop}
@@ -17,20 +18,20 @@ use Rattle.shared_transactions.specs.Tries.{IsNotBegun}
 use Rattle.shared_transactions.specs.Within.{IsBegun, IsOver, IsTakenBack}
 use Rattle.shared_transactions.specs.Works.{IsNew, IsUnclosed}
 
--- The entries by which a caller puts these pairs, in this order, whatever the replies are.
+-- The entries by which caller `c` puts these pairs in their order, with any replies.
 abbrev pub ArePuts : ℕ → List (ℕ × ℕ) → List Entry → Type 0
 ArePuts c [] es = es ≡ []
 ArePuts c (pair ∷ pairs) es =
     (reply : Option ℕ) × (rest : List Entry)
     × (es ≡ Asked c (Put pair.0 pair.1) ∷ Did c reply ∷ rest) × ArePuts c pairs rest
 
--- Since `k` a caller has put these pairs, and done nothing else.
+-- Between `k` and `l` a caller has put these pairs, and done nothing else.
 pub record HasPut {S : Type 0} (pairs : List (ℕ × ℕ)) (k l : Token S) : Type 0 where
   pub puts : List Entry
   pub are : ArePuts k.number pairs puts
   pub seen : l.seen ≡ k.seen ++ puts
 
--- All that a caller has seen is one committed transaction, which puts these pairs. It has none
+-- The caller has seen just one committed transaction, which puts these pairs. No transaction is
 -- open.
 pub record IsRefilled {S : Type 0} (pairs : List (ℕ × ℕ)) (k : Token S) : Type 0 where
   pub txn : ℕ
@@ -40,15 +41,15 @@ pub record IsRefilled {S : Type 0} (pairs : List (ℕ × ℕ)) (k : Token S) : T
   pub seen : k.seen ≡ (Began k.number txn ∷ puts) ++ Committed k.number place ∷ []
   pub over : IsOver k
 
--- In this history a caller of this number has exactly the entries of one committed transaction,
--- which puts these pairs.
+-- The caller `number` has exactly the entries of one committed transaction in this history, and
+-- the transaction puts these pairs.
 pub record IsRefilledIn (h : List Entry) (number : ℕ) (pairs : List (ℕ × ℕ)) : Type 0 where
   pub me : Token NoSide
   pub number_is : me.number ≡ number
   pub refilled : IsRefilled pairs me
   pub own : IsOwn h me
 
--- Since `k` the first of these pairs were put, and the put of the next one stopped.
+-- After `k` the first of these pairs were put, and the put of the next one stopped.
 pub record StopsPutting {S : Type 0} (words : S → List ℕ) (pairs : List (ℕ × ℕ)) (k : Token S)
     (stop : Stop) (l : Token S) : Type 0 where
   pub put : ℕ
@@ -58,21 +59,21 @@ pub record StopsPutting {S : Type 0} (words : S → List ℕ) (pairs : List (ℕ
   pub stopped : StoppedGrowing words between
       (Put (slice_index_or pairs put (0, 0)).0 (slice_index_or pairs put (0, 0)).1) stop l
 
--- Since `k` a put of these pairs stopped, and then the transaction was taken back.
+-- After `k` a put of these pairs stopped, and then the transaction was taken back.
 pub record IsPutBack {S : Type 0} (words : S → List ℕ) (pairs : List (ℕ × ℕ)) (k : Token S)
     (stop : Stop) (l : Token S) : Type 0 where
   pub left : Token S
   pub stopped : StopsPutting words pairs k stop left
   pub back : IsTakenBack left l
 
--- Since `k` all these pairs were put, and the commit was refused.
+-- After `k` all these pairs were put, and the commit was refused.
 pub record StopsCommitting {S : Type 0} (pairs : List (ℕ × ℕ)) (k : Token S) (stop : Stop)
     (l : Token S) : Type 0 where
   pub done : Token S
   pub put : HasPut pairs k done
   pub refused : IsNotCommitted stop done l
 
--- The transaction that was to put these pairs began, and a put or its commit stopped.
+-- The transaction that puts these pairs began, and a put or its commit stopped.
 pub record StopsWithin {S : Type 0} (words : S → List ℕ) (pairs : List (ℕ × ℕ)) (k : Token S)
     (stop : Stop) (l : Token S) : Type 0 where
   pub begun : Token S
@@ -80,8 +81,8 @@ pub record StopsWithin {S : Type 0} (words : S → List ℕ) (pairs : List (ℕ 
   pub began : IsBegun k txn begun
   pub why : IsPutBack words pairs begun stop l ⊎ StopsCommitting pairs begun stop l
 
--- Putting these pairs in one transaction stopped: its begin was refused, or it did not get to its
--- end.
+-- Putting these pairs in one transaction stopped: its begin was refused, or a put or its commit
+-- stopped.
 abbrev pub StopsRefilling : {S : Type 0} → (S → List ℕ) → List (ℕ × ℕ) → Token S → Stop → Token S
     → Type 0
 StopsRefilling words pairs k stop l =
@@ -100,8 +101,8 @@ pub record IsUnclosedBy (stop : Stop) : Type 0 where
   pub is : stop ≡ Refused refusal
   pub why : IsUnclosed refusal
 
--- A caller of this number of a new map of these limits, with which nothing was done before, did not
--- put these pairs.
+-- The caller `number` of a new map of these limits, which had done nothing before, did not put
+-- these pairs.
 pub record IsUnrefilled {S : Type 0} (words : S → List ℕ) (limits : Sizes) (number : ℕ)
     (pairs : List (ℕ × ℕ)) (stop : Stop) : Type 0 where
   pub old : Token S
@@ -111,7 +112,7 @@ pub record IsUnrefilled {S : Type 0} (words : S → List ℕ) (limits : Sizes) (
   pub unused : IsNew old
   pub why : IsNotRefilled words pairs old stop new
 
--- Works have a caller each on a map of these limits, and one is left, which is to put these pairs
+-- A map of these limits has a caller for each of the works, and one more that puts these pairs
 -- first; but the map was not made or not closed, or the pairs were not put.
 pub record IsUnended {S : Type 0} (words : S → List ℕ) (limits : Sizes) (works : ℕ)
     (pairs : List (ℕ × ℕ)) (stop : Stop) : Type 0 where
@@ -119,9 +120,8 @@ pub record IsUnended {S : Type 0} (words : S → List ℕ) (limits : Sizes) (wor
   pub other : stop ≡ Refused CallersMissing → ⊥
   pub why : IsUnclosedBy stop ⊎ IsUnrefilled words limits works pairs stop
 
--- Why so many works have no outcomes on a map of these limits that was to begin with these pairs:
--- `CallersMissing` if there are not more callers than works, and then there is no other reason;
--- else another one.
+-- Why works have no outcomes on a map of these limits that begins with these pairs; `works` is
+-- their number. The refusal is `CallersMissing` exactly if there are not more callers than works.
 abbrev pub IsUnrunFrom : {S : Type 0} → (S → List ℕ) → Sizes → ℕ → List (ℕ × ℕ) → Stop → Type 0
 IsUnrunFrom words limits works pairs stop =
     ((stop ≡ Refused CallersMissing) × (limits.callers ≤ works))

@@ -1,5 +1,5 @@
--- Why a call of a transaction was not done, and what it left of its token: by the causes that the
--- map's call has.
+-- The causes for which a call of a transaction stops, which are those of the map's call, and the
+-- token that it leaves.
 use Rattle.std.specs.Prelude.{ℕ, ◌≡◌, ◌⊎◌, List, None}
 use Rattle.map_answers.specs.declared.stop.Stop.{Stop}
 use Rattle.map_answers.specs.declared.stop.Stop.TheVariants as stops
@@ -14,7 +14,7 @@ use Rattle.locked_map.specs.Calls.{Ran, Stopped, WasRefused}
 use Rattle.core_tokens.specs.Tokens.{Token}
 use Rattle.shared_transactions.specs.Within.{IsTakenBack}
 
--- A call that is never busy was refused.
+-- A call that is never busy was refused, with this stop.
 abbrev pub IsRefusalOf : {S : Type 0} → Token S → Call → Stop → Token S → Type 0
 IsRefusalOf k call (stops.Busy holder) l = ⊥
 IsRefusalOf k call (stops.Refused refusal) l = WasRefused k call refusal l
@@ -25,7 +25,7 @@ pub record IsNotCommitted {S : Type 0} (stop : Stop) (k l : Token S) : Type 0 wh
   pub refused : IsRefusalOf k calls.Commit stop left
   pub back : IsTakenBack left l
 
--- An operation was done, at a key that was not there, and the help for the key after it fell out of
+-- An operation was done at a key that was absent, and the help for the key after it fell out of
 -- step.
 pub record IsOutGrowing {S : Type 0} (words : S → List ℕ) (k : Token S) (op : Op) (l : Token S) :
     Type 0 where
@@ -33,8 +33,8 @@ pub record IsOutGrowing {S : Type 0} (words : S → List ℕ) (k : Token S) (op 
   pub done : Ran words k (calls.Op op) (ends.Answered (answers.Done None)) between
   pub out : WasRefused between (calls.Help (key_of op)) OutOfStep l
 
--- An operation after which the table may grow stopped: by itself, or since the growth fell out of
--- step.
+-- An operation that may grow the table stopped: the operation itself did, or the growth after it
+-- fell out of step.
 abbrev pub StoppedGrowing : {S : Type 0} → (S → List ℕ) → Token S → Op → Stop → Token S → Type 0
 StoppedGrowing words k op stop l =
     Stopped words k (calls.Op op) stop l

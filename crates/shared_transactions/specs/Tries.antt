@@ -1,6 +1,6 @@
--- Tries of one work, one after the other, each in a transaction that is begun for it. `work`
--- relates what holds the token as the work found it, its answer, and what holds the token as it
--- left it; `me` is the token at such a moment.
+-- Tries of one work, one after another, each in its own transaction. `work` relates the value that
+-- holds the token before the work, the work's answer, and that value after it; `me` gives the token
+-- that such a value holds.
 use Rattle.std.specs.Prelude.{ℕ, ◌≡◌, ◌≤◌, ◌⊎◌, zero, suc, Bool, true, false, Result, Ok, Err}
 use Rattle.map_answers.specs.declared.stop.Stop.{Stop}
 use Rattle.map_answers.specs.declared.stop.Stop.TheVariants.{Busy, Refused}
@@ -9,7 +9,7 @@ use Rattle.core_tokens.specs.Tokens.{Token}
 use Rattle.shared_transactions.specs.Stops.{IsNotCommitted, IsRefusalOf}
 use Rattle.shared_transactions.specs.Within.{GoesOn, IsBegun, IsOver, IsTakenBack, IsUndone}
 
--- Whether a call stopped because a stripe was held.
+-- Whether a call stopped because another caller held a stripe.
 abbrev pub is_busy_stop : Stop → Bool
 is_busy_stop (Busy holder) = true
 is_busy_stop (Refused refusal) = false
@@ -18,12 +18,14 @@ abbrev pub is_busy : {T : Type 0} → Result T Stop → Bool
 is_busy (Ok value) = false
 is_busy (Err stop) = is_busy_stop stop
 
--- Why a try failed after its begin: the work did; or the commit was refused, which is never busy.
+-- Why a try failed after its begin: the work failed, or the commit was refused, which is never
+-- busy.
 abbrev pub IsWhy : {S T : Type 0} → Result T Stop → Stop → Token S → Token S → Type 0
 IsWhy (Err found) stop done new = stop ≡ found
 IsWhy (Ok value) stop done new = IsNotCommitted stop done new
 
--- A try that failed: a transaction was begun, the work ran in it, and it was taken back.
+-- A try that failed: a transaction was begun, the work ran in it, and the transaction was taken
+-- back.
 pub record IsFailedTry {S X T : Type 0} (work : X → Result T Stop → X → Type 0)
     (me : X → Token S) (stop : Stop) (old new : Token S) : Type 0 where
   pub begun : X
@@ -36,18 +38,18 @@ pub record IsFailedTry {S X T : Type 0} (work : X → Result T Stop → X → Ty
   pub goes_on : GoesOn (me begun) (me left)
   pub back : IsTakenBack (me left) new
 
--- A begin that was refused, which is never busy: no transaction was begun.
+-- A begin was refused, and no transaction was begun. A begin is never busy.
 pub record IsNotBegun {S : Type 0} (stop : Stop) (old new : Token S) : Type 0 where
   pub refused : IsRefusalOf old calls.Begin stop new
   pub goes_on : GoesOn old new
   pub over : IsOver old → IsOver new
 
--- One try without a commit.
+-- One try failed: after its begin, or because its begin was refused.
 abbrev pub Fails : {S X T : Type 0} → (X → Result T Stop → X → Type 0) → (X → Token S) → Stop
     → Token S → Token S → Type 0
 Fails work me stop old new = IsFailedTry work me stop old new ⊎ IsNotBegun stop old new
 
--- This many tries in a row found a stripe held.
+-- A number of tries in a row each found a stripe held.
 abbrev pub BusyTries : {S X T : Type 0} → (X → Result T Stop → X → Type 0) → (X → Token S) → ℕ
     → Token S → Token S → Type 0
 BusyTries work me zero old new = new ≡ old
@@ -55,7 +57,7 @@ BusyTries {S} work me (suc n) old new =
     (between : Token S) × (holder : ℕ) × BusyTries work me n old between
     × IsFailedTry work me (Busy holder) between new
 
--- At most this many tries found a stripe held, and nothing else was done.
+-- At most `most` tries each found a stripe held, and nothing else was done.
 pub record HasTried {S X T : Type 0} (work : X → Result T Stop → X → Type 0) (me : X → Token S)
     (most : ℕ) (old new : Token S) : Type 0 where
   pub busy : ℕ
@@ -63,8 +65,8 @@ pub record HasTried {S X T : Type 0} (work : X → Result T Stop → X → Type 
   pub tries : BusyTries work me busy old new
   pub undone : IsUndone old new
 
--- Tries that were given up: each before the last found a stripe held, and the last failed. If that
--- one found a stripe held too, it was the last that there could be.
+-- The tries were given up: each before the last found a stripe held, and the last failed. If the
+-- last found a stripe held too, `most` tries had been made before it.
 pub record GivesUp {S X T : Type 0} (work : X → Result T Stop → X → Type 0) (me : X → Token S)
     (most : ℕ) (stop : Stop) (old new : Token S) : Type 0 where
   pub last : Token S

@@ -1,4 +1,4 @@
--- Works that threads do on one map, each with a caller of its own.
+-- Works that threads do on one map, each with its own caller.
 use Rattle.std.specs.Prelude.{ℕ, ◌≡◌, ◌+◌, ◌<◌, ◌≤◌, false, List, [], length, slice_get, Some, All}
 use Rattle.txn_words.specs.declared.entry.Entry.{Entry}
 use Rattle.txn_words.specs.declared.holder.Holder.TheVariants.{Begun}
@@ -12,18 +12,18 @@ use Rattle.core_tokens.specs.Claims.{IsIdle}
 use Rattle.core_tokens.specs.Tokens.{Token}
 use Rattle.locked_map.specs.Closes.{IsOwn}
 
--- A token with which nothing was done yet.
+-- A new token: it has seen nothing, claims nothing, and is not broken.
 pub record IsNew {S : Type 0} (k : Token S) : Type 0 where
   pub seen : k.seen ≡ []
   pub idle : IsIdle k.claims
   pub sound : k.broken ≡ false
 
--- Each token has the number of its place.
+-- The number of each token is its index.
 abbrev pub AreNumbered : {S : Type 0} → List (Token S) → Type 0
 AreNumbered {S} ks = (i : ℕ) (k : Token S) → slice_get ks i ≡ Some k → k.number ≡ i
 
--- A map of these limits was closed: its history is legal, the entries of these callers, each with
--- the number of its place, are what they saw, and there are no other entries.
+-- A map of these limits was closed. Its history is legal, and has no entries but those that these
+-- callers saw; the number of each caller is its index.
 pub record IsClosedBy {S : Type 0} (limits : Sizes) (ks : List (Token S)) (core : State) : Type 0
   where
     pub limits_are : core.limits ≡ limits
@@ -32,13 +32,14 @@ pub record IsClosedBy {S : Type 0} (limits : Sizes) (ks : List (Token S)) (core 
     pub own : All (λ k. IsOwn core.history k) ks
     pub only : All (λ e. caller_of e < length ks) core.history
 
--- These callers have numbers in a row from a place on, and exactly their entries in the history.
+-- The numbers of these callers are `place`, `place + 1` and so on, and each has seen exactly its
+-- entries in the history.
 abbrev pub AreIn : {S : Type 0} → List Entry → ℕ → List (Token S) → Type 0
 AreIn {S} h place ks =
     (i : ℕ) (k : Token S) → slice_get ks i ≡ Some k → (k.number ≡ place + i) × IsOwn h k
 
--- The work was done by the caller of its place, and came to this outcome: it keeps its promise, of
--- a token with exactly the entries that this caller has in the history.
+-- The caller with the number `place` did the work, with this outcome. The work keeps its promise,
+-- about a token with exactly the entries that this caller has in the history.
 pub record IsDoneIn {S W T : Type 0} (promises : W → T → Token S → Type 0) (h : List Entry)
     (place : ℕ) (work : W) (outcome : T) : Type 0 where
   pub me : Token S
@@ -46,8 +47,9 @@ pub record IsDoneIn {S W T : Type 0} (promises : W → T → Token S → Type 0)
   pub promised : promises work outcome me
   pub own : IsOwn h me
 
--- These works came to these outcomes on a map of these limits, each by the caller of its place. The
--- map was closed: its history is legal, and has only entries of callers below this number.
+-- These works were done on a map of these limits, with these outcomes, each by the caller whose
+-- number is the work's index. The map was closed: its history is legal, and has only entries of
+-- callers with numbers below `callers`.
 pub record AreDone {S W T : Type 0} (promises : W → T → Token S → Type 0) (limits : Sizes)
     (callers : ℕ) (works : List W) (core : State) (outcomes : List T) : Type 0 where
   pub limits_are : core.limits ≡ limits
@@ -58,14 +60,14 @@ pub record AreDone {S W T : Type 0} (promises : W → T → Token S → Type 0) 
       → slice_get outcomes i ≡ Some outcome → IsDoneIn promises core.history i work outcome
   pub only : All (λ e. caller_of e < callers) core.history
 
--- Why a map was not closed: memory was refused, or the map did not close.
+-- The refusals of a map that was not closed: of memory, or because the map does not close.
 abbrev pub IsUnclosed : Refusal → Type 0
 IsUnclosed NoMemory = Unit {0}
 IsUnclosed OutOfStep = Unit {0}
 IsUnclosed refusal = ⊥
 
--- Why works that need this number of callers have no outcomes on a map of so many: it has too few,
--- and then there is no other reason; or the map was not made or not closed.
+-- Why works that need `needed` callers have no outcomes on a map with `callers` callers: exactly if
+-- it has too few, `CallersMissing`; else the map was not made or not closed.
 abbrev pub IsUnrun : ℕ → ℕ → Refusal → Type 0
 IsUnrun callers needed CallersMissing = callers < needed
 IsUnrun callers needed refusal = (needed ≤ callers) × IsUnclosed refusal

@@ -1,7 +1,7 @@
-//! Work that is run in a transaction, and begun anew if another caller holds a stripe.
+//! Work that is run in a transaction, and begun again if another caller holds a stripe.
 //!
-//! `Attempts` stands between `transact` and `Transaction`, since a bound cannot name the latter:
-//! its parameter `L` is owned by a ghost member of a bound.
+//! The trait `Attempts` stands between `transact` and `Transaction`, because a bound cannot name
+//! `Transaction`: its parameter `L` is owned by a ghost member of a bound.
 ghost use Rattle.std.specs.Prelude.{◌≡◌, true, false, IfOk, IfErr, OnErr, Ok};
 ghost use Rattle.std.specs.Borrow.{MutBor};
 ghost use Rattle.core_tokens.specs.Tokens.{Token};
@@ -15,20 +15,20 @@ ghost use Rattle.shared_transactions.specs.Within.{IsTakenBack, IsUndone};
 use crate::retry::Retry;
 use locked_map::{Receipt, Stop};
 
-/// What can begin a transaction, be worked in, and end it: a `Transaction`. No other type need
-/// implement it.
+/// A value that begins a transaction, is worked in, and ends it. `Transaction` implements it; no
+/// other type needs to.
 pub trait Attempts {
-    /// The token.
+    /// The caller's token.
     ghost me: { Self → MutBor (Token NoSide) };
 
-    /// Begins a transaction.
+    /// Begins a transaction, and answers its number.
     fn begin_anew(&mut self) -> Result<u64, Stop>
         ensures same_token { (me self.new).ghost_name ≡ (me self.old).ghost_name }
         ensures ok { IfOk result (λ txn. IsBegun (me self.old).now txn (me self.new).now
             × IsOver (me self.old).now) }
         ensures err { IfErr result (λ stop. IsNotBegun stop (me self.old).now (me self.new).now) };
 
-    /// Commits, or aborts where that is refused.
+    /// Commits; aborts if the commit is refused.
     fn finish(&mut self) -> Result<Receipt, Stop>
         ensures same_token { (me self.new).ghost_name ≡ (me self.old).ghost_name }
         ensures ok { IfOk result (λ receipt. IsCommitted receipt.txn receipt.place
@@ -37,16 +37,16 @@ pub trait Attempts {
         ensures stopped { IfErr result (λ stop. IsNotCommitted stop
             (me self.old).now (me self.new).now) };
 
-    /// Aborts.
+    /// Aborts the transaction.
     fn give_up(&mut self)
         ensures same_token { (me self.new).ghost_name ≡ (me self.old).ghost_name }
         ensures back { IsTakenBack (me self.old).now (me self.new).now };
 
-    /// Waits after the try of a round, from 0, as `retry` says.
+    /// Waits after the try with number `round`, from 0, for as long as `retry` says.
     fn wait(&self, retry: Retry, round: u64);
 }
 
-/// Begins, runs the work, and commits; or aborts.
+/// Begins, runs the work, and commits; aborts if the work or the commit fails.
 #[tactic(auto, using(crate::proofs::Within::undone_after, crate::proofs::Within::undone_not_begun))]
 fn attempt<T: Drop, G: Attempts, F: Fn(&mut G) -> Result<T, Stop>>(
     it: &mut G,
@@ -77,7 +77,7 @@ fn attempt<T: Drop, G: Attempts, F: Fn(&mut G) -> Result<T, Stop>>(
     }
 }
 
-/// Whether a try found a stripe held.
+/// Whether a try failed because another caller held a stripe.
 fn found_busy<T>(outcome: &Result<T, Stop>) -> bool
     ensures { result ≡ is_busy outcome.now }
 {
@@ -85,20 +85,20 @@ fn found_busy<T>(outcome: &Result<T, Stop>) -> bool
 }
 
 /// Runs the work in a transaction and commits it. If another caller held a stripe, waits and begins
-/// anew, as often and as long as `retry` says. So the work may run several times, and whatever it
-/// does besides the calls of its transaction is done each time. `it` is a `Transaction`, and the
-/// work's parameter is written with that type.
+/// again, as often and as long as `retry` says. The work may therefore run several times, with all
+/// that it does besides the calls of its transaction. `it` is a `Transaction`, and the work's
+/// parameter is written with that type.
 ///
 /// # Errors
 ///
 /// No transaction is open if none was before, and nothing was committed.
-/// - `Busy` if a stripe was held at each try: at the first one, and at as many more as `retry` has.
-/// - What `begin` or `commit` was refused with, or what else the work answers: that is not tried
-///   again.
+/// - `Busy` if every try found a stripe held: the first one, and all further ones that `retry`
+///   allows.
+/// - Any other error of `begin`, of the work or of `commit`: after it no further try is made.
 ///
 /// # Cost
 ///
-/// A begin, the work, and a commit or an abort, for each try; and the waits between them.
+/// For each try a begin, the work, and a commit or an abort; and the waits between the tries.
 #[tactic(auto, using(crate::proofs::Within::undone_same, crate::proofs::Within::undone_on))]
 pub fn transact<T: Drop, G: Attempts, F: Fn(&mut G) -> Result<T, Stop>>(
     it: &mut G,

@@ -4,15 +4,16 @@
 //! - A `Transaction` is a caller's token with its map. It is begun, worked in, and committed; if it
 //!   is dropped before it is committed, at a `?` or an early return, it is aborted.
 //! - `transact` begins, runs the work and commits. If another caller held a stripe, the thread
-//!   gives way or sleeps, and the work begins anew, as often and as long as its `Retry` says. Any
-//!   other refusal takes everything back and is handed on.
-//! - `run_works` makes the map, does each `Work` in a thread of its own and closes the map, so that
-//!   its user names no ledger. `run_works_after` does another work before them, and
-//!   `run_works_from` puts the pairs of a closed map before them, so that no history grows without
-//!   end. `refill` puts such pairs in a map that is there.
-//! - `run_session` makes the map and hands it, with a pass for each caller, to a `Session` that
-//!   starts no threads, which names no ledger either. Take it for callers that take turns in one
-//!   thread, and `run_works` for threads. `callers_of` makes tokens of the passes.
+//!   gives way or sleeps, and the work begins again, as often and as long as its `Retry` says. Any
+//!   other refusal takes everything back and is returned.
+//! - `run_works` makes the map, does each `Work` in its own thread and closes the map; its user
+//!   need not name the map's ledger. `run_works_after` does one more work before the others.
+//!   `run_works_from` first puts the pairs of a closed map, so no history grows without end;
+//!   `refill` puts such pairs in an existing map.
+//! - `run_session` makes the map and hands it, with a pass for each caller, to a `Session`. Its
+//!   user need not name the ledger either, but a session starts no threads: use it for callers that
+//!   take turns in one thread, and `run_works` for threads. `callers_of` makes the passes into
+//!   tokens.
 //!
 //! ```text
 //! fn count<L: Ledger, R: Wait>(t: &mut Transaction<'_, L, R>) -> Result<u64, Stop>
@@ -29,34 +30,35 @@
 //! ```
 //!
 //! The model is the caller's token: the entries that its calls have added to the history. Promised:
-//! - With `Ok` the token's last entries are one run of the work, begun from a token that has no
-//!   transaction, and its commit, with the number and the place of the receipt (`IsRun`).
-//! - With `Err` there is no transaction if there was none before, and of what was added nothing is
-//!   committed (`IsUndone`). A drop says the same of the transaction that it ends (`IsTakenBack`).
+//! - If `transact` answers `Ok`, the token's last entries are one transaction: the begin of a token
+//!   that had none, one run of the work, and the commit. The receipt has its numbers (`IsRun`).
+//! - If it answers `Err`, no transaction is open if none was before, and no added entry commits
+//!   (`IsUndone`). A drop leaves no transaction open and commits nothing (`IsTakenBack`).
 //! - Each try before the last began one transaction, ran the work, which found a stripe held, and
-//!   was taken back (`BusyTries`). `Busy` is answered only after all tries, and any other refusal
-//!   by the try that met it (`GivesUp`).
-//! - A call that was not done has one of the causes that the map's call has, and leaves the token
-//!   as that call does: `Stopped` of `locked_map`, and `StoppedGrowing` for what may grow the table.
-//!   A commit that was refused is followed by an abort (`IsNotCommitted`).
-//! - All that a caller has seen that puts a core's pairs is one committed transaction, which puts
-//!   them in the order of the core's list (`IsRefilled`). If they are not put, memory was refused
-//!   for their list, or a call of that transaction stopped (`IsNotRefilled`), and nothing of it is
-//!   committed (`IsUndone`).
-//! - A session's own promise holds of what it answers (`Session::promises`).
-//! - Each work in a thread keeps its own promise (`Work::promises`), of a token with exactly the
+//!   was taken back (`BusyTries`). `Busy` is answered only after all tries; after any other refusal
+//!   no further try is made (`GivesUp`).
+//! - A call of a transaction stops for the causes of the map's call, and leaves the token as that
+//!   call does: `Stopped` of `locked_map`, and `StoppedGrowing` for a call that may grow the table.
+//!   A refused commit is followed by an abort (`IsNotCommitted`).
+//! - If `refill` answers `Ok`, the caller has seen just one committed transaction, which puts the
+//!   core's pairs in the order of the core's list (`IsRefilled`). If it answers `Err`, memory was
+//!   refused for the list of pairs or a call of the transaction stopped (`IsNotRefilled`), and
+//!   nothing was committed (`IsUndone`).
+//! - A session's promise holds of its outcome (`Session::promises`).
+//! - Each work in a thread keeps its promise (`Work::promises`), about a token with exactly the
 //!   entries that its caller has in the history of the closed map. Work `i` has caller `i`. The
 //!   history is legal, and has no entries but those of these callers (`AreDone`).
 //!
-//! What a map holds afterwards is said when it is closed, as `locked_map` says: other callers'
-//! steps come between. No clause speaks of time: not that a call returns, nor how long it waits.
+//! What a map holds is known when it is closed, as `locked_map` says, and not after a call, since
+//! other callers may take steps at once. No clause is about time: none says that a call returns, or
+//! how long it waits.
 //!
 //! A work states what every call keeps by one definition, `Keeps`; `proofs/Within.antt` has
 //! `keeps_stay` and `keeps_on`, by which the check joins the calls of a work. The side value is
 //! `NoSide`.
 //!
-//! A transaction costs what its calls do. The idea of a transaction that is taken back and run
-//! again is that of Herlihy and Koskinen, "Transactional Boosting" (PPoPP 2008), section 2.
+//! A transaction costs what its calls cost. Transactions that are taken back and run again are
+//! those of Herlihy and Koskinen, "Transactional Boosting" (PPoPP 2008), section 2.
 #![tactic(auto)]
 
 mod attempts;

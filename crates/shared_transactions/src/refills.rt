@@ -1,9 +1,9 @@
-//! Putting the pairs of a core in a map of threads, so that a new map goes on where a closed one
-//! ended, and no history grows without end.
+//! Puts the pairs of a core in a map of threads, so that a new map continues from a closed one and
+//! no history grows without end.
 //!
-//! A map of threads keeps its history and cannot cut it off: its name is its ledger's, and each
-//! token has a share of that. So the map is closed, which hands out the core with its legal
-//! history, and a new map of another ledger begins with the same pairs.
+//! A map of threads cannot cut off its history: its name is its ledger's, and each token has a
+//! share of the ledger. So the map is closed, which returns the core with its legal history, and a
+//! new map with another ledger begins with the core's pairs.
 ghost use Rattle.std.specs.Prelude.{◌≡◌, [], IfErr, OnErr, OnOk};
 ghost use Rattle.txn_trace.specs.Now.{now};
 ghost use Rattle.txn_words.specs.Ordered.{ordered};
@@ -23,18 +23,20 @@ use std::sync::ledger::Ledger;
 use undo_log::Side;
 
 /// Puts the pairs of a core, in the order of its list, in one committed transaction of a caller
-/// that has done nothing yet. With the core of a closed map, and before other callers work, this is
-/// the trim of a map of threads; `run_works_from` does both. The core, whose history is legal, is
-/// unchanged, and may be dropped afterwards.
+/// that has done nothing yet. The core, whose history is legal, is unchanged, and may be dropped
+/// afterwards.
+///
+/// With the core of a closed map, and before other callers work, this trims a map of threads;
+/// `run_works_from` calls it so.
 ///
 /// # Errors
 ///
 /// No transaction is open, and none was committed.
-/// - `Refused` with `NoMemory` if memory is refused, for the list of pairs before anything was
-///   done; or with `StampsUsedUp` if the map has more keys than there are stamps.
-/// - What else a call of the map answers to the caller: its begin, a put or its commit. So `BadKey`
-///   for a key of 2^63 or more if the map takes only half keys, and `Busy` if another caller held a
-///   stripe.
+/// - `Refused` with `NoMemory` if memory is refused. If it is refused for the list of pairs,
+///   nothing was done.
+/// - `Refused` with `StampsUsedUp` if the map has more keys than there are stamps.
+/// - Any other error of the begin, a put or the commit: `Refused` with `BadKey` for a key of 2^63
+///   or more if the map takes only half keys, and `Busy` if another caller held a stripe.
 ///
 /// # Cost
 ///
@@ -80,7 +82,7 @@ fn put_pairs<L: Ledger, R: Wait>(
     Ok(())
 }
 
-/// Puts pairs, one after the other.
+/// Puts pairs in their order.
 fn put_each<L: Ledger, R: Wait>(
     t: &mut Transaction<'_, L, R>,
     pairs: &[(u64, u64)],

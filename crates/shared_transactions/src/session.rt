@@ -1,10 +1,10 @@
-//! A call that makes a map of threads and does something on it, so that nobody else names the map's
-//! ledger.
+//! A call that makes a map of threads and runs a session on it, so that its user need not name the
+//! map's ledger.
 //!
-//! A closure cannot be generic over the ledger's name, so what is done is a trait with a generic
-//! method. A `run` that starts threads gets no proof from the toolchain: what it sends to a thread
-//! rests on the bounds of the method. So a session is for callers that take turns in one thread;
-//! for threads there is `run_works`.
+//! A closure cannot be generic over the ledger's name, so a session is a trait with a generic
+//! method. The toolchain does not prove a `run` that starts threads, since the values that it sends
+//! to a thread rest on the bounds of the method. So a session is for callers that take turns in one
+//! thread; for threads there is `run_works`.
 ghost use Rattle.std.specs.Prelude.{◌≡◌, ◌<◌, All, IfOk, IfErr, OnErr, length, map};
 ghost use Rattle.core_tokens.specs.Tokens.{AreTickets};
 ghost use Rattle.shared_transactions.specs.Works.{IsNew};
@@ -15,15 +15,15 @@ use std::marker::Brand;
 use std::sync::ledger::{Blank, Ledger};
 use txn_trace::{Limits, Refusal};
 
-/// What is done on a map of threads, whatever the name of its ledger.
+/// A session on a map of threads, for any name of the map's ledger.
 pub trait Session<R> {
-    /// What comes of it.
+    /// The outcome of the session.
     type Output;
 
-    /// What the session promises of its outcome.
+    /// The session's promise about its outcome.
     ghost promises: { Self → Self.Output → Type 0 };
 
-    /// Does it. There is a pass for each caller's number, rising.
+    /// Runs the session. `passes` has one pass for each caller, by rising numbers.
     fn run<L: Ledger + Send + Sync>(
         self,
         rt: &R,
@@ -36,7 +36,7 @@ pub trait Session<R> {
         ensures { promises self result };
 }
 
-/// Makes a map of threads, which picks its ledger's name, and does a session on it.
+/// Makes a map of threads, which picks its ledger's name, and runs a session on it.
 ///
 /// # Errors
 ///
@@ -58,7 +58,7 @@ pub fn run_session<R, W: Session<R> + Drop>(
     run_under::<Brand, R, W>(rt, alloc, blank, limits, session)
 }
 
-/// The same under a ledger that has a name.
+/// `run_session` under a ledger that has a name.
 fn run_under<L: Ledger + Send + Sync, R, W: Session<R> + Drop>(
     rt: &R,
     alloc: Global,
@@ -76,12 +76,13 @@ fn run_under<L: Ledger + Send + Sync, R, W: Session<R> + Drop>(
     Ok(session.run(rt, alloc, map, passes))
 }
 
-/// The callers of passes, in their order, none with a side value. None has done anything yet.
+/// Makes the callers of passes, in the order of the passes. They have no side value, and have done
+/// nothing yet.
 ///
 /// # Errors
 ///
-/// `AllocError` if memory is refused, which is asked for only if there are passes: then they are
-/// gone, and the map cannot be closed.
+/// `AllocError` if memory is refused: the passes are dropped then, and the map cannot be closed.
+/// Memory is needed only if there are passes.
 ///
 /// # Cost
 ///

@@ -1,7 +1,7 @@
 //! A caller's token with its map, by which a transaction is begun, worked in and ended.
 //!
-//! It stands apart from the token so that no other call can be made with it meanwhile. It has no
-//! state of its own: whether a transaction is open, the token says.
+//! It borrows the token, so no other call can be made with the token meanwhile. It adds no state:
+//! the token says whether a transaction is open.
 ghost use Rattle.std.specs.Prelude.{◌≡◌, ◌+◌, ◌++◌, [], ◌∷◌, ℕ, Option, Some, is_some, length};
 ghost use Rattle.std.specs.Prelude.{nat_eq, true, false, IfErr, IfOk, OnErr, OnOk};
 ghost use Rattle.std.specs.Option.{option_eq};
@@ -25,7 +25,7 @@ use std::sync::ledger::Ledger;
 use txn_trace::{Answer, Op, Refusal, Reply};
 use undo_log::Side;
 
-/// Hears nothing.
+/// The observer that does nothing.
 struct Unheard;
 
 impl OnRelease for Unheard {
@@ -42,7 +42,7 @@ pub struct Transaction<'a, L: Ledger, R: Wait> {
 }
 
 impl<'a, L: Ledger, R: Wait> Transaction<'a, L, R> {
-    /// A caller with its map; nothing is done yet. Constant time.
+    /// Joins a caller with its map; no call is made yet. Constant time.
     pub fn new(
         rt: &'a R,
         map: &'a SharedMap<L>,
@@ -58,7 +58,7 @@ impl<'a, L: Ledger, R: Wait> Transaction<'a, L, R> {
     ///
     /// # Errors
     ///
-    /// `Refused` as the map's `begin` is: no transaction was begun, and nothing was committed.
+    /// Each `Refused` of the map's `begin`: no transaction was begun, and nothing was committed.
     ///
     /// # Cost
     ///
@@ -77,8 +77,9 @@ impl<'a, L: Ledger, R: Wait> Transaction<'a, L, R> {
     ///
     /// # Errors
     ///
-    /// `Busy` if another caller held the key's stripe: the transaction is aborted then, and every
-    /// further call of it is refused as `NotOpen`. `Refused` as the map's `get` is.
+    /// - `Busy` if another caller held the key's stripe. The transaction is then aborted, and every
+    ///   further call of it is refused as `NotOpen`.
+    /// - Each `Refused` of the map's `get`.
     ///
     /// # Cost
     ///
@@ -117,12 +118,12 @@ impl<'a, L: Ledger, R: Wait> Transaction<'a, L, R> {
 
     /// Puts a value at a key, and answers the value before. If the key is new, the table grows by a
     /// step, if that is due: it is doubled if it is full, and the key's bucket is initialised. If
-    /// memory is refused for that, the table stays smaller and nothing else is changed.
+    /// memory is refused for the growth, the table stays smaller and nothing else changes.
     ///
     /// # Errors
     ///
-    /// Those of `get`, as the map's `put` lists them. `OutOfStep` too if the put was done and the
-    /// growth after it fell out of step, which breaks the token.
+    /// `Busy` as for `get`, and each `Refused` of the map's `put`. Also `Refused` with `OutOfStep`
+    /// if the put was done and the growth after it fell out of step, which breaks the token.
     ///
     /// # Cost
     ///
@@ -138,11 +139,11 @@ impl<'a, L: Ledger, R: Wait> Transaction<'a, L, R> {
         self.operate_growing(Op::Put(key, value))
     }
 
-    /// Takes a key out, and answers its value.
+    /// Takes a key out, and answers the value that it had, if it was there.
     ///
     /// # Errors
     ///
-    /// Those of `get`, as the map's `take` lists them.
+    /// `Busy` as for `get`, and each `Refused` of the map's `take`.
     ///
     /// # Cost
     ///
@@ -158,13 +159,14 @@ impl<'a, L: Ledger, R: Wait> Transaction<'a, L, R> {
         self.operate(Op::Take(key))
     }
 
-    /// Puts a value at a key exactly if the key has what is expected, a value or none, and
-    /// answers what it had.
+    /// Puts a value at a key if the key has the expected value, or, if none is expected, if the key
+    /// is absent. Answers the value before: the new one was put exactly if that is the expected
+    /// one.
     ///
     /// # Errors
     ///
-    /// Those of `get`, as the map's `put_if` lists them, and that of a growth that falls out of
-    /// step, as `put` has it.
+    /// `Busy` as for `get`, and each `Refused` of the map's `put_if`. Also `Refused` with
+    /// `OutOfStep` if the growth after it fell out of step, as for `put`.
     ///
     /// # Cost
     ///
@@ -180,8 +182,8 @@ impl<'a, L: Ledger, R: Wait> Transaction<'a, L, R> {
         self.operate_growing(Op::PutIf(key, expected, value))
     }
 
-    /// Puts a value at a key exactly if the key has what is expected, a value or none, and answers
-    /// whether it did. It is `put_if` for who need not know what the key had.
+    /// Puts a value at a key if the key has the expected value, or, if none is expected, if the key
+    /// is absent. Answers whether it did; `put_if` answers the value before instead.
     ///
     /// # Errors
     ///
@@ -208,7 +210,7 @@ impl<'a, L: Ledger, R: Wait> Transaction<'a, L, R> {
     ///
     /// # Errors
     ///
-    /// `Refused` as the map's `save` is: the transaction is unchanged.
+    /// Each `Refused` of the map's `save`: the transaction is unchanged.
     ///
     /// # Cost
     ///
@@ -225,12 +227,12 @@ impl<'a, L: Ledger, R: Wait> Transaction<'a, L, R> {
         self.map.save(self.rt, self.me)
     }
 
-    /// Takes every change since a savepoint back, newest first, and keeps the savepoint; level 0 is
-    /// the beginning. Stripes stay held.
+    /// Takes back every change since a savepoint, newest first, and keeps the savepoint. Level 0 is
+    /// the beginning of the transaction. Stripes stay held.
     ///
     /// # Errors
     ///
-    /// `Refused` as the map's `back` is: the transaction is unchanged.
+    /// Each `Refused` of the map's `back`: the transaction is unchanged.
     ///
     /// # Cost
     ///
@@ -247,15 +249,15 @@ impl<'a, L: Ledger, R: Wait> Transaction<'a, L, R> {
         self.map.back(self.rt, self.me, level)
     }
 
-    /// Commits, and answers the transaction's number and its place among the commits.
+    /// Commits, and answers the transaction's number and its commit number.
     ///
     /// # Errors
     ///
-    /// `Refused` as the map's `commit` is: the transaction is aborted then.
+    /// Each `Refused` of the map's `commit`: the transaction is then aborted.
     ///
     /// # Cost
     ///
-    /// That of the map's `commit`, and where that is refused of an abort.
+    /// That of the map's `commit`, and of an abort if the commit is refused.
     pub fn commit(self) -> Result<Receipt, Stop>
         ensures ok { IfOk result (λ receipt. IsCommitted receipt.txn receipt.place
             self.entry.me.now self.exit.1.1.0.now) }
@@ -267,7 +269,7 @@ impl<'a, L: Ledger, R: Wait> Transaction<'a, L, R> {
         end(rt, map, me)
     }
 
-    /// Aborts, as a drop does.
+    /// Aborts the transaction, as a drop does.
     ///
     /// # Cost
     ///
@@ -313,7 +315,7 @@ impl<'a, L: Ledger, R: Wait> Transaction<'a, L, R> {
         Ok(reply)
     }
 
-    /// Doubles the table, if it is full, and initialises the bucket of a key. If memory is refused
+    /// Doubles the table if it is full, and initialises the bucket of a key. If memory is refused
     /// for that, or no stamp is left, the table stays smaller.
     fn grow(&mut self, key: u64) -> Result<(), Stop>
         ensures keeps { Keeps self.old.me self.new.me }
@@ -327,7 +329,7 @@ impl<'a, L: Ledger, R: Wait> Transaction<'a, L, R> {
         }
     }
 
-    /// Takes a call that neither begins nor commits a transaction.
+    /// Makes a call that neither begins nor commits a transaction.
     fn call(&mut self, call: Call) -> End
         requires { is_quiet call ≡ true }
         ensures keeps { Keeps self.old.me self.new.me }
@@ -368,7 +370,7 @@ impl<L: Ledger, R: Wait> Drop for Transaction<'_, L, R> {
     }
 }
 
-/// Commits a caller's transaction; or aborts it, where that is refused.
+/// Commits a caller's transaction; aborts it if the commit is refused.
 fn end<L: Ledger, R: Wait>(
     rt: &R,
     map: &SharedMap<L>,

@@ -1,9 +1,9 @@
-//! Work that threads do on one map, each with a caller of its own, so that nobody else names the
-//! map's ledger.
+//! Works that threads do on one map, each with its own caller. Their user need not name the map's
+//! ledger.
 //!
-//! A closure cannot be generic over the ledger's name, so the work of a thread is a trait with a
-//! generic method, which starts no threads. A free function starts them: the toolchain proves that
-//! of it, and not of a trait's method.
+//! A closure cannot be generic over the ledger's name, so a thread's work is a trait with a generic
+//! method, which starts no threads. A free function starts them, because the toolchain proves a
+//! free function that starts threads, but not a trait's method that does.
 ghost use Rattle.std.specs.Prelude.{◌≡◌, ◌+◌, ◌≤◌, ◌<◌, [], ◌∷◌, true, IfOk, IfErr};
 ghost use Rattle.std.specs.Prelude.{All, length, map, Some, slice_get};
 ghost use Rattle.txn_trace.specs.Now.{now};
@@ -27,27 +27,27 @@ use std::thread::Threads;
 use txn_trace::{Limits, Refusal};
 use undo_log::Side;
 
-/// The work of one thread on a map of threads, whatever the name of its ledger.
+/// The work of one thread on a map of threads, for any name of the map's ledger.
 pub trait Work<R> {
-    /// What comes of it.
+    /// The outcome of the work.
     type Output: Send + Drop;
 
-    /// What the work promises of its outcome, and of its caller's token afterwards. A work that
+    /// The work's promise about its outcome and about its caller's token afterwards. A work that
     /// leaves this out promises nothing.
     ghost promises: { Self → Self.Output → Token NoSide → Type 0 } = { λ work outcome me. Unit {0} };
 
-    /// Does it, with a caller that nobody else has and that has done nothing yet.
+    /// Does the work, with a caller that has done nothing yet and does no other work.
     fn run<L: Ledger>(self, rt: &R, map: &SharedMap<L>, me: &mut Caller<L, NoSide>) -> Self::Output
         requires { IsNew me.old }
         ensures { promises self result me.new };
 }
 
-/// What came of works that threads did on one map.
+/// The core and the outcomes of works that threads did on one map.
 #[derive(Drop)]
 pub struct Finished<T> {
-    /// The core of the map, which was closed.
+    /// The core of the closed map.
     pub core: Core,
-    /// The outcome of each work, in their order.
+    /// The outcome of each work, in the order of the works.
     pub outcomes: Vec<T>,
 }
 
@@ -66,7 +66,7 @@ struct Done<L: Ledger, T> {
     me: Caller<L, NoSide>,
 }
 
-/// A work with the caller of a pass.
+/// Joins a work with the caller of a pass.
 fn seat<L: Ledger, W>(alloc: Global, pass: Pass<L>, work: W) -> Seated<L, W>
     ensures { result.work ≡ work }
 {
@@ -76,7 +76,8 @@ fn seat<L: Ledger, W>(alloc: Global, pass: Pass<L>, work: W) -> Seated<L, W>
     }
 }
 
-/// Each work with the caller of a pass, the last pass first. The other passes stay.
+/// Joins each work with the caller of a pass. Takes the passes from the end, and leaves those that
+/// are not needed.
 ///
 /// # Errors
 ///
@@ -99,7 +100,7 @@ fn seat_all<L: Ledger, W: Drop>(
     Ok(seated)
 }
 
-/// Does a work.
+/// Does a work with its caller.
 fn go<L: Ledger, R, W: Work<R>>(
     rt: &R,
     map: &SharedMap<L>,
@@ -112,7 +113,7 @@ fn go<L: Ledger, R, W: Work<R>>(
     Done { outcome, me }
 }
 
-/// Does each work in a thread of its own.
+/// Does each work in its own thread.
 ///
 /// # Errors
 ///
@@ -129,7 +130,7 @@ fn go_all<L: Ledger + Send + Sync, R: Threads + Wait + Sync, W: Work<R> + Send +
     thread::map_vec(rt, seated, &|s| go(rt, map, s))
 }
 
-/// The callers of works that are done, and their outcomes.
+/// Separates works that are done into their callers and their outcomes.
 ///
 /// # Errors
 ///
@@ -150,7 +151,7 @@ fn unzip<L: Ledger, T: Drop>(
     Ok((callers, outcomes))
 }
 
-/// Whether each caller has the number of its place.
+/// Whether each caller's number is its index.
 fn are_numbered<L: Ledger>(callers: &[Caller<L, NoSide>]) -> bool
     ensures { result ≡ true → AreNumbered callers.now }
 {
@@ -162,12 +163,13 @@ fn are_numbered<L: Ledger>(callers: &[Caller<L, NoSide>]) -> bool
     true
 }
 
-/// Closes a map with the callers that worked on it, if each has the number of its place, and with
+/// Closes a map with the callers that worked on it, if the number of each is its index, and with
 /// those that did nothing.
 ///
 /// # Errors
 ///
-/// `NoMemory` if memory is refused, `OutOfStep` if the map does not close.
+/// `NoMemory` if memory is refused, `OutOfStep` if a number is not the index or the map does not
+/// close.
 fn close<L: Ledger>(
     map: SharedMap<L>,
     mut callers: Vec<Caller<L, NoSide>>,
@@ -188,20 +190,20 @@ fn close<L: Ledger>(
     }
 }
 
-/// Makes a map of threads, which picks its ledger's name, does each work in a thread of its own,
-/// and closes the map. Work `i` has caller `i`; the other callers do nothing. Where no thread can
-/// be started, works are done one after the other.
+/// Makes a map of threads, which picks its ledger's name, does each work in its own thread, and
+/// closes the map. Work `i` has caller `i`; the other callers do nothing. If no thread can be
+/// started, works are done one after the other.
 ///
-/// With `Ok` each work keeps its promise, of a token with exactly the entries that its caller has
-/// in the core's history. The history is legal by the rule that a Busy may name any other caller
-/// that has begun a transaction, and has no other entries.
+/// If it answers `Ok`, each work keeps its promise, about a token with exactly the entries that its
+/// caller has in the core's history. The history is legal by the rule that a Busy may name any
+/// other caller that has begun a transaction, and has no entries but those of the works.
 ///
 /// # Errors
 ///
-/// - `CallersMissing` exactly if there are more works than callers; no work is done then.
+/// - `CallersMissing` exactly if there are more works than callers. No work is done then.
 /// - `NoMemory` if memory is refused for the map, for the threads or for the outcomes.
 /// - `OutOfStep` if the map does not close: a token is not the one that its work was given, or has
-///   not seen what the history says.
+///   not seen exactly its entries in the history.
 ///
 /// # Cost
 ///
@@ -223,16 +225,17 @@ pub fn run_works<R: Threads + Wait + Sync, W: Work<R> + Send + Drop>(
     run_under::<Brand, R, W>(rt, alloc, blank, limits, works)
 }
 
-/// `run_works`, after another work was done in this thread, by the caller whose number is that of
-/// the works: an opening, which gives the map its first pairs. Answers its outcome too.
+/// Does an opening in this thread, which gives the map its first pairs, and then the works, as
+/// `run_works` does. The opening's caller has the number `works.len()`. Answers the opening's
+/// outcome too.
 ///
-/// With `Ok` the opening keeps its promise as the works do, and the history has no entries but
-/// theirs. That those of the opening are the first no clause says, since no contract sees through
-/// the map's lock; they are, as no other thread has been started before.
+/// If it answers `Ok`, the opening keeps its promise as the works do, and the history has only
+/// their entries. The opening's entries are the first, since no other thread is started before it
+/// ends. No clause says so, because no contract sees through the map's lock.
 ///
 /// # Errors
 ///
-/// Those of `run_works`; `CallersMissing` exactly if there are not more callers than works.
+/// Those of `run_works`, but `CallersMissing` exactly if there are not more callers than works.
 ///
 /// # Cost
 ///
@@ -257,20 +260,22 @@ pub fn run_works_after<R: Threads + Wait + Sync, O: Work<R> + Drop, W: Work<R> +
     open_under::<Brand, R, O, W>(rt, alloc, blank, limits, opening, works)
 }
 
-/// `run_works`, on a map that goes on from a core: a caller whose number is that of the works puts
-/// the core's pairs in this thread, as `refill` does, before any work is started. The core, of a
-/// map that was closed, is unchanged. The limits need not be those of the core: the works need one
-/// caller each, and the pairs one more.
+/// Puts the pairs of a closed map's core in a new map, in this thread and as `refill` does, and
+/// then does the works, as `run_works` does. The caller that puts the pairs has the number
+/// `works.len()`. The core is unchanged. The limits need not be the core's: each work needs a
+/// caller, and the pairs need one more.
 ///
-/// With `Ok` that caller has exactly the entries of one committed transaction, which puts the pairs
-/// in the order of the core's list, and the history has no entries but those and the works'. That
-/// they are the first no clause says, as for `run_works_after`.
+/// If it answers `Ok`, that caller has exactly the entries of one committed transaction, which puts
+/// the pairs in the order of the core's list, and the history has no entries but those and the
+/// works'. That transaction is the first of the history, since no other thread is started before it
+/// ends. No clause says so, because no contract sees through the map's lock.
 ///
 /// # Errors
 ///
-/// - `CallersMissing` exactly if there are not more callers than works; nothing is done then.
-/// - What else `refill` answers: then no work was started, and the new map is gone.
-/// - Those of `run_works`, as `Refused`.
+/// - `Refused` with `CallersMissing` exactly if there are not more callers than works. Nothing is
+///   done then.
+/// - Any error of `refill`: no work was started, and the new map is dropped.
+/// - Any other error of `run_works`, as `Refused`.
 ///
 /// # Cost
 ///
@@ -377,7 +382,7 @@ fn refill_under<L: Ledger + Send + Sync, R: Threads + Wait + Sync, W: Work<R> + 
     Ok(finished)
 }
 
-/// One caller, in a list.
+/// A list of one caller.
 ///
 /// # Errors
 ///
@@ -393,9 +398,9 @@ fn alone<L: Ledger>(
     Ok(callers)
 }
 
-/// Does each work in a thread of its own, with the caller of a pass, the first pass first. Closes
-/// the map with these callers, with those that were used before, which have the numbers after
-/// theirs, and with those that did nothing.
+/// Does each work in its own thread, with the caller of a pass, from the first pass on. Closes the
+/// map with these callers, with those in `used`, whose numbers follow theirs, and with those that
+/// did nothing.
 ///
 /// # Errors
 ///

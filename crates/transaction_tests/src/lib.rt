@@ -1,8 +1,8 @@
-//! Tests of transactions as values, on the map with one owner and on the map of threads: what no
-//! contract says, that a work which is not refused succeeds, also at the limits, how far a table
-//! grows, and what is left where memory is refused.
+//! Tests of transactions as values, on the map with one owner and on the map of threads. They show
+//! what no contract says: that a work that is not refused succeeds, also at the limits; how far a
+//! table grows; and what is left if memory is refused.
 //!
-//! They stand in a crate of their own, since a crate with tests is proved twice.
+//! They are a separate crate, because a crate with tests is proved twice.
 #![tactic(auto)]
 
 #[cfg(test)]

@@ -3,7 +3,7 @@ use owned_map::Stop;
 use std::alloc::{AllocError, Global};
 use txn_words::{Op, Refusal, Reply};
 
-/// What a transaction is asked for.
+/// A call of a transaction.
 #[derive(Clone, Copy)]
 pub(crate) enum Call {
     Do(Op),
@@ -13,7 +13,7 @@ pub(crate) enum Call {
     Back(u64),
 }
 
-/// What it answers: nothing, a reply, a level, yes or no, or why it did not do it.
+/// The answer to a call: nothing, a reply, a level, yes or no, or why the call was not done.
 #[derive(Clone, Copy, PartialEq, Eq)]
 pub(crate) enum Told {
     Done,
@@ -23,17 +23,18 @@ pub(crate) enum Told {
     Stopped(Stop),
 }
 
-/// A call, and what it must answer.
+/// A call, and the answer that it must get.
 pub(crate) type Line = (Call, Told);
 
-/// A key that is not there, one that has 0, and one that has 2^64 - 1.
+/// The reply of an absent key. `ZERO` is that of a key with 0, `MOST` of a key with 2^64 - 1.
 const NONE: Told = Told::Replied(None);
 
 const ZERO: Told = Told::Replied(Some(0));
 
 const MOST: Told = Told::Replied(Some(u64::MAX));
 
-/// Each call on a key that is not there, with the values 0 and 2^64 - 1. At last it has 2^64 - 1.
+/// Each call on a key that is absent at first, with the values 0 and 2^64 - 1. At the end the key
+/// has 2^64 - 1.
 fn each_call(key: u64) -> [Line; 21] {
     [
         (Call::Do(Op::Get(key)), NONE),
@@ -60,7 +61,7 @@ fn each_call(key: u64) -> [Line; 21] {
     ]
 }
 
-/// A call that half keys do not allow.
+/// The answer to a call on a key that half keys do not allow.
 const BAD: Told = Told::Stopped(Stop::Refused(Refusal::BadKey));
 
 /// Each call on a key that half keys do not allow.
@@ -87,7 +88,7 @@ fn add(all: &mut Vec<Line>, lines: &[Line]) -> Result<(), AllocError> {
     Ok(())
 }
 
-/// Each call on the keys 0, 2^63 - 1, 2^63 and 2^64 - 1, which are there at last.
+/// Each call on the keys 0, 2^63 - 1, 2^63 and 2^64 - 1, which are all there at the end.
 pub(crate) fn whole_keys(alloc: Global) -> Result<Vec<Line>, AllocError> {
     let mut all = Vec::new(alloc);
     for key in [0, HALF - 1, HALF, u64::MAX] {
@@ -96,7 +97,8 @@ pub(crate) fn whole_keys(alloc: Global) -> Result<Vec<Line>, AllocError> {
     Ok(all)
 }
 
-/// The same if only half keys are taken: the first two keys are there at last.
+/// Each call on the keys 0, 2^63 - 1, 2^63 and 2^64 - 1 of a map that takes only half keys. The
+/// first two keys are there at the end.
 pub(crate) fn half_keys(alloc: Global) -> Result<Vec<Line>, AllocError> {
     let mut all = Vec::new(alloc);
     for key in [0, HALF - 1] {
@@ -109,11 +111,11 @@ pub(crate) fn half_keys(alloc: Global) -> Result<Vec<Line>, AllocError> {
     Ok(all)
 }
 
-/// A level that is not there.
+/// The answer to a return to a level that does not exist.
 const NO_LEVEL: Told = Told::Stopped(Stop::Refused(Refusal::NoSuchLevel));
 
-/// Returns to levels, each of which has its number at key 1, and 1 at the key ten thousand above
-/// it. Key 2 is there at last.
+/// Returns to levels. Level `n` has `n` at key 1, and 1 at key 10,000 + `n`. Only key 2 is there at
+/// the end.
 const LEVELS: [Line; 24] = [
     (Call::Do(Op::Take(1)), Told::Replied(Some(1000))),
     (Call::Back(1001), NO_LEVEL),
@@ -141,8 +143,8 @@ const LEVELS: [Line; 24] = [
     (Call::Save, Told::Level(1)),
 ];
 
-/// Sets a thousand savepoints, each after key 1 was given the level that comes next and one new key
-/// was put, and returns to levels.
+/// Sets a thousand savepoints, and returns to levels. Before each savepoint its level is put at key
+/// 1, and one new key is put.
 pub(crate) fn a_thousand_savepoints(alloc: Global) -> Result<Vec<Line>, AllocError> {
     let mut all = Vec::new(alloc);
     for level in 1..1001u64 {

@@ -1,5 +1,5 @@
-//! A work in a thread that looks at one key, by which tests see whether works were started, and
-//! what was there.
+//! A work in a thread that looks at one key. By it tests see whether works were started, and which
+//! values they found.
 ghost use Rattle.shared_transactions.specs.Keeps.{Keeps};
 
 use boost_core::Core;
@@ -13,7 +13,7 @@ use std::sync::ledger::Ledger;
 use std::thread::Threads;
 use txn_words::{Limits, Refusal, Reply};
 
-/// Counts itself, and gets the value at a key, which must be this one.
+/// A work that counts itself in `started`, and gets the value at a key, which must be `wanted`.
 #[derive(Clone, Copy)]
 pub(crate) struct Look<'a> {
     pub(crate) started: &'a AtomicU64,
@@ -27,7 +27,7 @@ fn get<L: Ledger, R: Wait>(t: &mut Transaction<'_, L, R>, key: u64) -> Result<Re
     t.get(key)
 }
 
-/// Gets in a transaction of its own.
+/// Gets the value at a key, in its own transaction.
 fn get_by<L: Ledger, R: Wait>(
     rt: &R,
     map: &SharedMap<L>,
@@ -40,7 +40,7 @@ fn get_by<L: Ledger, R: Wait>(
 }
 
 impl<R: Wait + Abort> Work<R> for Look<'_> {
-    /// Whether memory was not refused.
+    /// Whether the get was done; it is not if memory is refused.
     type Output = bool;
 
     fn run<L: Ledger>(self, rt: &R, map: &SharedMap<L>, me: &mut Caller<L, NoSide>) -> bool {
@@ -58,8 +58,8 @@ impl<R: Wait + Abort> Work<R> for Look<'_> {
     }
 }
 
-/// So many looks at the keys 0, 16, 32 and so on, each of which has its number if there are so many
-/// keys.
+/// Makes `count` looks, at the keys 0, 16, 32 and so on. A key below `keys` must have itself as its
+/// value; the others must be absent.
 pub(crate) fn looks(
     alloc: Global,
     started: &AtomicU64,
@@ -78,7 +78,7 @@ pub(crate) fn looks(
     Ok(all)
 }
 
-/// A new map goes on from a core, with these works.
+/// Does these works on a new map that begins with the pairs of a core.
 pub(crate) fn go_on<R: Threads + Wait + Sync + Abort>(
     rt: &R,
     alloc: Global,
@@ -89,7 +89,7 @@ pub(crate) fn go_on<R: Threads + Wait + Sync + Abort>(
     run_works_from(rt, alloc, limits, core, works)
 }
 
-/// Sees that two cores have the same pairs, if there is memory for their lists.
+/// Checks that two cores have the same pairs, if there is memory for their lists.
 pub(crate) fn have_same_pairs(rt: &impl Abort, alloc: Global, old: &Core, new: &Core) {
     if let (Ok(old), Ok(new)) = (old.regular_list(alloc), new.regular_list(alloc)) {
         assert!(rt; new.as_slice() == old.as_slice());

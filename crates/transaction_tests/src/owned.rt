@@ -1,5 +1,6 @@
-//! The map with one owner: its table grows, a history is cut off, a savepoint is gone back to. Each
-//! test is also run with each allocation refused in turn, and with all from one on.
+//! Tests of the map with one owner: its table grows, its history is cut off, and a transaction
+//! returns to a savepoint. Each test is also run with each allocation refused in turn, and with all
+//! allocations from one on refused.
 ghost use Rattle.std.specs.Prelude.{◌≡◌};
 ghost use Rattle.owned_map.specs.Keeps.{Keeps};
 
@@ -9,7 +10,7 @@ use std::alloc::Global;
 use std::process::Abort;
 use txn_words::{Limits, Refusal, Reply};
 
-/// How many keys are put: 0, 3, 6 and so on.
+/// The number of keys that are put: 0, 3, 6 and so on.
 const KEYS: u64 = 40;
 
 /// A map of two callers, if there is memory for it.
@@ -92,7 +93,7 @@ fn work_in(map: &mut OwnedMap, caller: u64, work: Work) -> Result<Reply, Stop> {
     map.transact(caller, |t: &mut Transaction<'_>| do_work(t, work))
 }
 
-/// Cuts the history off, and answers the number of entries of the one that is cut off.
+/// Cuts the history off, and answers how many entries the history that is cut off has.
 fn trim(alloc: Global, map: &mut OwnedMap) -> Result<u64, Refusal> {
     match map.trim(alloc) {
         Ok(old) => Ok(length_of(&old)),
@@ -135,7 +136,7 @@ fn fill(rt: &impl Abort, map: &mut OwnedMap) -> u64 {
     KEYS
 }
 
-/// Sees that the map has just the first so many keys.
+/// Checks that the map has exactly the first `count` keys.
 fn has_keys(rt: &impl Abort, map: &mut OwnedMap, count: u64) {
     for key in 0..KEYS.wrapping_mul(3) {
         let is_there = key % 3 == 0 && key / 3 < count;
@@ -147,12 +148,12 @@ fn has_keys(rt: &impl Abort, map: &mut OwnedMap, count: u64) {
     assert_eq!(rt; counts_of(map).0, count);
 }
 
-/// Fills a map.
+/// Fills a map, and checks its counts before and after.
 fn grow(rt: &impl Abort, map: &mut OwnedMap) {
     assert_eq!(rt; counts_of(map), (0, 2, true));
     let count = fill(rt, map);
     if count == KEYS {
-        // It doubles where there are more than two keys a bucket: at 6, 10, 18 and 34.
+        // It doubles if there are more than two keys for each bucket: at 6, 10, 18 and 34.
         assert_eq!(rt; counts_of(map), (40, 32, false));
     }
     has_keys(rt, map, count);
@@ -165,7 +166,8 @@ fn the_table_grows_by_itself(rt: HostRuntime) {
     }
 }
 
-/// Cuts the history off. If memory is refused, nothing has changed.
+/// Cuts the history off, and checks the number of entries before and after. If memory is refused,
+/// nothing changes.
 fn trim_in(rt: &impl Abort, alloc: Global, map: &mut OwnedMap) {
     let entries = entries_in(map);
     let count = counts_of(map).0;
@@ -192,7 +194,7 @@ fn are_same(rt: &impl Abort, before: &Pairs, after: &Pairs) {
     }
 }
 
-/// Cuts the history off, which leaves the pairs.
+/// Cuts the history off, and checks that the pairs are unchanged.
 fn trim_beside(rt: &impl Abort, alloc: Global, map: &mut OwnedMap) {
     let before = pairs_of(alloc, map);
     trim_in(rt, alloc, map);

@@ -1,4 +1,4 @@
-//! Transactions on the map with one owner at the limits of keys, values and savepoints.
+//! Tests of transactions on the map with one owner at the limits of keys, values and savepoints.
 ghost use Rattle.std.specs.Prelude.{◌≡◌};
 ghost use Rattle.owned_map.specs.Keeps.{Keeps};
 
@@ -37,7 +37,7 @@ fn make_call(t: &mut Transaction<'_>, what: Call) -> Result<Told, Stop>
     }
 }
 
-/// Makes a call; whether it is answered as the line says.
+/// Makes the call of a line, and answers whether it got the line's answer.
 fn is_told(t: &mut Transaction<'_>, line: &Line) -> bool
     ensures { Keeps t.old t.new }
 {
@@ -47,8 +47,8 @@ fn is_told(t: &mut Transaction<'_>, line: &Line) -> bool
     }
 }
 
-/// Asks as the table says, up to the first line that is answered otherwise. Answers how many lines
-/// were answered as it says.
+/// Makes the calls of the lines, up to the first that gets another answer than its line's. Answers
+/// how many got their line's answer.
 #[tactic(auto, using(owned_map::proofs::Calls::keeps_stay, owned_map::proofs::Calls::keeps_on))]
 fn ask_all(t: &mut Transaction<'_>, lines: &[Line]) -> u64
     ensures { Keeps t.old t.new }
@@ -63,7 +63,7 @@ fn ask_all(t: &mut Transaction<'_>, lines: &[Line]) -> u64
     done
 }
 
-/// Asks in a transaction of a caller.
+/// Makes the calls of the lines in a transaction of a caller.
 fn ask_in(map: &mut OwnedMap, caller: u64, lines: &[Line]) -> Result<u64, Stop> {
     map.transact(caller, |t: &mut Transaction<'_>| Ok(ask_all(t, lines)))
 }
@@ -73,7 +73,8 @@ fn count_of(map: &OwnedMap) -> u64 {
     map.len()
 }
 
-/// Asks in a transaction of a caller. It must answer as the table says, and leave so many keys.
+/// Makes the calls of the lines in a transaction of a caller. Each must get its line's answer, and
+/// `left` keys must be there afterwards.
 fn play(rt: &impl Abort, map: &mut OwnedMap, caller: u64, lines: &[Line], left: u64) {
     match ask_in(map, caller, lines) {
         Ok(done) => assert_eq!(rt; done, lines.len() as u64),
@@ -82,7 +83,7 @@ fn play(rt: &impl Abort, map: &mut OwnedMap, caller: u64, lines: &[Line], left: 
     assert_eq!(rt; count_of(map), left);
 }
 
-/// Plays on a new map, as its last caller.
+/// Plays the lines on a new map, as its last caller.
 fn play_new(rt: &impl Abort, alloc: Global, limits: Limits, lines: &[Line], left: u64) {
     let caller = u64::from(limits.callers()).wrapping_sub(1);
     let mut map = OwnedMap::new(alloc, limits).expect(rt, "memory");

@@ -1,4 +1,4 @@
-//! Maps of threads that go on from a core, by `run_works_from` and by `refill`.
+//! Tests of maps of threads that begin with the pairs of a core, by `run_works_from` and `refill`.
 ghost use Rattle.owned_map.specs.Keeps.{Keeps};
 
 use crate::looks::{go_on, have_same_pairs, looks};
@@ -15,20 +15,20 @@ use std::test::Fail;
 use std::thread::Threads;
 use txn_words::{Entry, Limits, Refusal, Reply};
 
-/// Puts a key with its number.
+/// Puts a key with itself as its value.
 fn put(t: &mut Transaction<'_>, key: u64) -> Result<Reply, Stop>
     ensures { Keeps t.old t.new }
 {
     t.put(key, key)
 }
 
-/// Puts a key in a transaction; whether it was committed.
+/// Puts a key in a transaction, and answers whether it was committed.
 fn is_put(map: &mut OwnedMap, key: u64) -> bool {
     let result: Result<Reply, Stop> = map.transact(0, |t: &mut Transaction<'_>| put(t, key));
     result.is_ok()
 }
 
-/// A core with the keys of a range, each with its number.
+/// A core with the keys of a range, each with itself as its value.
 fn core_of(rt: &impl Abort, alloc: Global, limits: Limits, first: u64, end: u64) -> Core {
     let mut map = OwnedMap::new(alloc, limits).expect(rt, "memory");
     for key in first..end {
@@ -37,8 +37,8 @@ fn core_of(rt: &impl Abort, alloc: Global, limits: Limits, first: u64, end: u64)
     map.into_core()
 }
 
-/// Sees that a history begins with one transaction, of a caller of this number, that ends at this
-/// place.
+/// Checks that a history begins with a transaction of `caller`, and that its entry at index `end`
+/// is the commit.
 fn begins_with_one(rt: &impl Abort, core: &Core, caller: u64, end: usize) {
     let trace = core.trace();
     assert!(rt; end < trace.len());
@@ -46,7 +46,7 @@ fn begins_with_one(rt: &impl Abort, core: &Core, caller: u64, end: usize) {
     assert!(rt; trace[end].entry() == Entry::Committed(caller, 1));
 }
 
-/// Sees that a new core has the pairs of an old one, and that memory was refused to no work.
+/// Checks that a new core has the pairs of an old one, and that memory was refused to no work.
 fn is_made(rt: &impl Abort, alloc: Global, old: &Core, finished: Finished<bool>) -> Core {
     have_same_pairs(rt, alloc, old, &finished.core);
     for seen in finished.outcomes {
@@ -55,8 +55,8 @@ fn is_made(rt: &impl Abort, alloc: Global, old: &Core, finished: Finished<bool>)
     finished.core
 }
 
-/// A map goes on from a core that has the keys below this number, with so many works, all of which
-/// are started.
+/// Does `works` looks on a new map that begins with the pairs of a core, which has the keys below
+/// `keys`. Checks that all works were started.
 fn restart<R: Threads + Wait + Sync + Abort>(
     rt: &R,
     alloc: Global,
@@ -75,8 +75,8 @@ fn restart<R: Threads + Wait + Sync + Abort>(
 }
 
 /// Makes maps without pairs and with a thousand, at the least and at the greatest limits, from
-/// cores of other limits, with as many works as there may be. The pairs are the first of the
-/// history.
+/// cores of other limits, with as many works as the callers allow. The history must begin with the
+/// puts of the pairs.
 #[test]
 fn every_restart_is_made(rt: HostRuntime) -> Result<(), Fail> {
     let least = Limits::new(1, 1, 2)?;
@@ -91,7 +91,7 @@ fn every_restart_is_made(rt: HostRuntime) -> Result<(), Fail> {
     Ok(())
 }
 
-/// A map does not go on from a core, and no work is started.
+/// Checks that no map is made from a core and no work is started, and answers why.
 fn is_refused<R: Threads + Wait + Sync + Abort>(
     rt: &R,
     alloc: Global,
@@ -108,7 +108,7 @@ fn is_refused<R: Threads + Wait + Sync + Abort>(
     }
 }
 
-/// The works need a caller each, and the pairs one more.
+/// Each work needs a caller, and the pairs need one more.
 #[test]
 fn a_caller_is_missing(rt: HostRuntime) -> Result<(), Fail> {
     let core = core_of(&rt, rt.alloc(), Limits::new(1, 1, 2)?, 0, 1);
@@ -123,8 +123,8 @@ fn a_caller_is_missing(rt: HostRuntime) -> Result<(), Fail> {
 /// 2^63.
 const HALF: u64 = 9_223_372_036_854_775_808;
 
-/// A map that takes only half keys does not go on from a core that has 2^63. It does from one that
-/// has 2^63 - 2 and 2^63 - 1.
+/// A map that takes only half keys cannot begin with the pairs of a core that has the key 2^63. It
+/// can with those of a core that has the keys 2^63 - 2 and 2^63 - 1.
 #[test]
 fn a_key_is_too_large(rt: HostRuntime) -> Result<(), Fail> {
     let limits = Limits::new(2, 8, 64)?;
@@ -137,7 +137,7 @@ fn a_key_is_too_large(rt: HostRuntime) -> Result<(), Fail> {
     Ok(())
 }
 
-/// Puts the pairs of a core.
+/// An opening that puts the pairs of a core.
 #[derive(Clone, Copy)]
 struct Refills<'a> {
     core: &'a Core,
@@ -157,7 +157,7 @@ impl<R: Wait> Work<R> for Refills<'_> {
     }
 }
 
-/// An opening puts the pairs of a core, and a work looks at one.
+/// Makes a map whose opening puts the pairs of a core, and on which a work looks at one of them.
 fn open_with<R: Threads + Wait + Sync + Abort>(
     rt: &R,
     alloc: Global,

@@ -1,6 +1,7 @@
-//! Transactions as values on a map of threads: its table grows, a key is looked for, a try is made
-//! again, and a new map goes on from a closed one, with works in threads. The test is also run with
-//! each allocation refused in turn, and with all from one on.
+//! Tests of transactions as values on a map of threads: its table grows, a key is looked for, a try
+//! is made again, and a new map begins with the pairs of a closed one, with works in threads. Each
+//! test is also run with each allocation refused in turn, and with all allocations from one on
+//! refused.
 ghost use Rattle.std.specs.Prelude.{◌≡◌};
 ghost use Rattle.shared_transactions.specs.Keeps.{Keeps};
 
@@ -20,7 +21,7 @@ use std::thread::Threads;
 use std::time::Duration;
 use txn_words::{Entry, Limits, Refusal, Reply, SmallEntry};
 
-/// How many keys are put: 0, 3, 6 and so on.
+/// The number of keys that are put: 0, 3, 6 and so on.
 const KEYS: u64 = 20;
 
 fn put<L: Ledger, R: Wait>(
@@ -58,7 +59,7 @@ fn do_work<L: Ledger, R: Wait>(t: &mut Transaction<'_, L, R>, work: Work) -> Res
     }
 }
 
-/// Does a work in a transaction of its own.
+/// Does a work in its own transaction.
 fn work_by<L: Ledger, R: Wait>(
     t: &mut Transaction<'_, L, R>,
     retry: Retry,
@@ -69,7 +70,8 @@ fn work_by<L: Ledger, R: Wait>(
     Ok(reply)
 }
 
-/// Puts in a transaction of its own, tried again a few times with the shortest sleeps.
+/// Puts a value at a key in its own transaction, with up to eight further tries and the shortest
+/// sleeps.
 fn put_by<L: Ledger, R: Wait>(
     t: &mut Transaction<'_, L, R>,
     key: u64,
@@ -123,7 +125,7 @@ fn fill<L: Ledger, R: Wait + Abort>(rt: &R, t: &mut Transaction<'_, L, R>) -> u6
     KEYS
 }
 
-/// Sees that the map has just the first so many keys.
+/// Checks that the map has exactly the first `count` keys.
 fn has_keys<L: Ledger, R: Wait + Abort>(rt: &R, t: &mut Transaction<'_, L, R>, count: u64) {
     for key in 0..KEYS.wrapping_mul(3) {
         let is_there = key % 3 == 0 && key / 3 < count;
@@ -134,7 +136,8 @@ fn has_keys<L: Ledger, R: Wait + Abort>(rt: &R, t: &mut Transaction<'_, L, R>, c
     }
 }
 
-/// A put at key 1, whose stripe another caller holds: it is tried nine times and then busy.
+/// Puts at key 1, whose stripe another caller holds. The put must be tried nine times, and then be
+/// busy.
 fn is_busy<L: Ledger, R: Wait + Abort>(rt: &R, map: &SharedMap<L>, me: &mut Caller<L, NoSide>) {
     let before = begun_by(me);
     let tried = put_by(&mut open(rt, map, me), 1, 2);
@@ -147,8 +150,8 @@ fn is_busy<L: Ledger, R: Wait + Abort>(rt: &R, map: &SharedMap<L>, me: &mut Call
     }
 }
 
-/// While the other caller's transaction is open, a put at its key is busy. When that is dropped the
-/// put is done, and finds nothing there.
+/// Checks that a put is busy while another caller's transaction, which has put the key, is open.
+/// After that transaction is dropped, the put must be done and find the key absent.
 fn try_again<L: Ledger, R: Wait + Abort>(
     rt: &R,
     map: &SharedMap<L>,
@@ -168,8 +171,8 @@ fn try_again<L: Ledger, R: Wait + Abort>(
     }
 }
 
-/// A caller fills the map and tries again beside another. Then the map is closed: its core, and how
-/// many keys were put, if there was memory for the callers.
+/// A session in which a caller fills the map, and tries again beside another; then the map is
+/// closed. Answers its core and how many keys were put, if there was memory for the callers.
 #[derive(Drop)]
 struct Works;
 
@@ -191,7 +194,7 @@ impl<R: Wait + Abort> Session<R> for Works {
     }
 }
 
-/// The core of a map that closes.
+/// Closes a map, which must succeed, and answers its core.
 fn close<L: Ledger>(rt: &impl Abort, shared: SharedMap<L>, callers: Vec<Caller<L, NoSide>>) -> Core
     requires { shared.limits.callers ≡ L.parts }
 {
@@ -215,15 +218,16 @@ fn work_on<L: Ledger, R: Wait + Abort>(
     count
 }
 
-/// Sees that a core with this number of puts has grown.
+/// Checks how far the table of a core has grown, if all keys were put.
 fn has_grown(rt: &impl Abort, core: &Core, count: u64) {
     if count == KEYS {
-        // It doubles where there are more than two keys a bucket: at 5, 9 and 17.
+        // It doubles if there are more than two keys for each bucket: at 5, 9 and 17.
         assert_eq!(rt; core.size(), 16);
     }
 }
 
-/// A new map goes on from a core, with a work that finds its first pair, if memory is not refused.
+/// Makes a new map with the pairs of a core, on which a work looks at the first key, if memory is
+/// not refused. Checks that the new core has the same pairs.
 fn goes_on<R: Threads + Wait + Sync + Abort>(
     rt: &R,
     alloc: Global,
@@ -260,7 +264,7 @@ fn transactions_and_a_restart(rt: HostRuntime) -> Result<(), Fail> {
     Ok(())
 }
 
-/// Closes a map without its callers.
+/// A session that closes a map without its callers, which must fail.
 #[derive(Drop)]
 struct ClosesAlone;
 

@@ -1,4 +1,4 @@
-//! Transactions on a map of threads at the limits of keys, values and savepoints.
+//! Tests of transactions on a map of threads at the limits of keys, values and savepoints.
 ghost use Rattle.std.specs.Prelude.{◌≡◌};
 
 use crate::lines::{Call, Line, Told, a_thousand_savepoints, half_keys, whole_keys};
@@ -35,7 +35,7 @@ fn make_call<L: Ledger, R: Wait>(t: &mut Transaction<'_, L, R>, what: Call) -> R
     }
 }
 
-/// What a transaction answers.
+/// Makes a call, and answers what the transaction answers.
 fn answer<L: Ledger, R: Wait>(t: &mut Transaction<'_, L, R>, what: Call) -> Told {
     match make_call(t, what) {
         Ok(told) => told,
@@ -43,7 +43,7 @@ fn answer<L: Ledger, R: Wait>(t: &mut Transaction<'_, L, R>, what: Call) -> Told
     }
 }
 
-/// Begins, and asks as the table says. Each line must be answered as it says.
+/// Begins, and makes the calls of the lines. Each must get its line's answer.
 fn ask_all<L: Ledger, R: Wait + Abort>(rt: &R, t: &mut Transaction<'_, L, R>, lines: &[Line]) {
     let begun = t.begin();
     assert_eq!(rt; begun, Ok(1));
@@ -53,14 +53,14 @@ fn ask_all<L: Ledger, R: Wait + Abort>(rt: &R, t: &mut Transaction<'_, L, R>, li
     }
 }
 
-/// Plays in a transaction, and commits it.
+/// Plays the lines in a transaction, and commits it.
 fn play_in<L: Ledger, R: Wait + Abort>(rt: &R, mut t: Transaction<'_, L, R>, lines: &[Line]) {
     ask_all(rt, &mut t, lines);
     let committed = t.commit();
     assert!(rt; committed.is_ok());
 }
 
-/// Plays in a transaction of the last caller.
+/// Plays the lines in a transaction of the last caller.
 fn play<L: Ledger, R: Wait + Abort>(
     rt: &R,
     map: &SharedMap<L>,
@@ -73,7 +73,7 @@ fn play<L: Ledger, R: Wait + Abort>(
     play_in(rt, Transaction::new(rt, map, me), lines);
 }
 
-/// The number of keys of a map that closes.
+/// Closes a map, and answers the number of its keys.
 fn count_at_close<L: Ledger>(
     shared: SharedMap<L>,
     callers: Vec<Caller<L, NoSide>>,
@@ -86,7 +86,8 @@ fn count_at_close<L: Ledger>(
     }
 }
 
-/// A caller plays these lines. Then the map is closed; how many keys it has.
+/// A session in which a caller plays these lines, and then the map is closed. Answers how many keys
+/// it has.
 #[derive(Drop)]
 struct Plays {
     lines: Vec<Line>,
@@ -112,7 +113,7 @@ impl<R: Wait + Abort> Session<R> for Plays {
     }
 }
 
-/// Plays on a new map, and leaves so many keys.
+/// Plays the lines on a new map, and checks that `left` keys are there afterwards.
 fn play_new<R: Wait + Abort>(
     rt: &R,
     alloc: Global,

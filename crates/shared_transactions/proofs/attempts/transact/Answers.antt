@@ -8,7 +8,7 @@ use Rattle.shared_transactions.proofs.attempts.transact.Goals as goal
 pub loop-round-init : goal.loop-round-init
 loop-round-init g c = record { same_token = refl; undone = undone_same _; within = omega arith; tries = refl }
 
--- A stripe was held.
+-- The try found a stripe held.
 pub loop-round-preserved : goal.loop-round-preserved
 loop-round-preserved g c =
     let busy : is_busy c.attempt-outcome.result ≡ true = sym c.found_busy.ensures ∙ c.if-not-found_busy.false in
@@ -20,7 +20,7 @@ loop-round-preserved g c =
       tries = one_more _ _ _ _ _ _ c.attempt-outcome.result busy so_far.tries c.attempt-outcome.ensures.failed;
     }
 
--- No stripe was held.
+-- The try found no stripe held.
 pub returns-then-not-found_busy-clause-ok : goal.returns-then-not-found_busy-clause-ok
 returns-then-not-found_busy-clause-ok g c =
     let so_far = c.loop-round.invariant in
