@@ -277,6 +277,22 @@ impl Core {
         &self.history
     }
 
+    /// Makes room in the history for this many more entries, besides those that callers owe, so
+    /// that it need not grow while they are added. Nothing else changes.
+    ///
+    /// # Errors
+    ///
+    /// `AllocError` if memory is refused; the core is unchanged.
+    ///
+    /// # Cost
+    ///
+    /// One allocation, and a copy of the history if there is one.
+    pub fn reserve(&mut self, entries: usize) -> Result<(), AllocError>
+        ensures { self.new ≡ self.old }
+    {
+        self.history.reserve(self.owed.saturating_add(entries))
+    }
+
     /// The map now: the one that the committed transactions left, with the standing changes of the
     /// open ones.
     ///

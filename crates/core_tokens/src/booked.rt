@@ -55,9 +55,36 @@ impl<L: Ledger> Booked<L> {
         ensures passes { IfOk result (λ r. AreTickets limits r.1.items) }
         ensures err { IfErr result (λ refusal. refusal ≡ Refusal.NoMemory) }
     {
+        Booked::with_capacity(alloc, blank, limits, 0)
+    }
+
+    /// `new`, and takes the room for this many entries of the history at once; if that is refused,
+    /// the history grows as entries are added.
+    ///
+    /// # Errors
+    ///
+    /// `NoMemory` if memory is refused for anything else.
+    ///
+    /// # Cost
+    ///
+    /// That of `new`, and the memory for the entries.
+    pub fn with_capacity(
+        alloc: Global,
+        blank: Blank,
+        limits: Limits,
+        entries: usize,
+    ) -> Result<(Booked<L>, Vec<Pass<L>>), Refusal>
+        requires name { blank.name ≡ L.name }
+        requires parts { blank.parts ≡ L.parts }
+        requires one_each { blank.parts ≡ limits.callers }
+        ensures core { IfOk result (λ r. r.0.core ≡ start_with_words limits) }
+        ensures passes { IfOk result (λ r. AreTickets limits r.1.items) }
+        ensures err { IfErr result (λ refusal. refusal ≡ Refusal.NoMemory) }
+    {
         let (book, mut all) = blank.open::<L>();
         let none = all.empty();
-        let core = Core::with_words(alloc, limits)?;
+        let mut core = Core::with_words(alloc, limits)?;
+        let _room = core.reserve(entries);
         let booked = Booked { core, book, none };
         let (words, seats) = words_of(alloc, limits)?;
         match passes_of(alloc, limits, words, seats, &mut all) {

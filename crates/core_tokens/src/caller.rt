@@ -124,6 +124,22 @@ impl<L: Ledger, S: Side> Caller<L, S> {
         self.seen.entries()
     }
 
+    /// Makes room in `seen` for this many more entries, so that it need not grow while they are
+    /// added. The token is unchanged.
+    ///
+    /// # Errors
+    ///
+    /// `AllocError` if memory is refused; the token is unchanged.
+    ///
+    /// # Cost
+    ///
+    /// One allocation, and a copy of the entries if there are any.
+    pub fn reserve(&mut self, entries: usize) -> Result<(), AllocError>
+        ensures { self.new ≡ self.old }
+    {
+        self.seen.reserve_entries(entries)
+    }
+
     /// Whether it has no transaction open and may begin one. For a broken token, which may do
     /// nothing, the answer tells only what its entries say.
     pub fn is_idle(&self) -> bool

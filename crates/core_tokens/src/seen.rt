@@ -106,6 +106,17 @@ impl<L: Ledger> Seen<L> {
         self.seat.refusal(limits, step)
     }
 
+    /// Makes room for this many more entries.
+    ///
+    /// # Errors
+    ///
+    /// `AllocError` if memory is refused.
+    pub(crate) fn reserve_entries(&mut self, entries: usize) -> Result<(), AllocError>
+        ensures { self.new.entries ≡ self.old.entries }
+    {
+        self.entries.reserve(entries)
+    }
+
     /// Makes room for the entry that a step may add, and for all that is owed after it.
     ///
     /// # Errors

@@ -68,7 +68,33 @@ impl<L: Ledger> SharedMap<L> {
         ensures passes { IfOk result (λ r. AreTickets limits r.1.items) }
         ensures err { IfErr result (λ refusal. refusal ≡ Refusal.NoMemory) }
     {
-        let (booked, passes) = Booked::new(alloc, blank, limits)?;
+        SharedMap::with_capacity(alloc, blank, limits, 0)
+    }
+
+    /// `new`, and takes the room for this many entries of the history at once; if that is refused,
+    /// the history grows as entries are added.
+    ///
+    /// # Errors
+    ///
+    /// `NoMemory` if memory is refused for anything else.
+    ///
+    /// # Cost
+    ///
+    /// That of `new`, and the memory for the entries.
+    pub fn with_capacity(
+        alloc: Global,
+        blank: Blank,
+        limits: Limits,
+        entries: usize,
+    ) -> Result<(SharedMap<L>, Vec<Pass<L>>), Refusal>
+        requires name { blank.name ≡ L.name }
+        requires parts { blank.parts ≡ L.parts }
+        requires one_each { blank.parts ≡ limits.callers }
+        ensures map { IfOk result (λ r. r.0.limits ≡ limits) }
+        ensures passes { IfOk result (λ r. AreTickets limits r.1.items) }
+        ensures err { IfErr result (λ refusal. refusal ≡ Refusal.NoMemory) }
+    {
+        let (booked, passes) = Booked::with_capacity(alloc, blank, limits, entries)?;
         let booked = Mutex::new(booked);
         Ok((SharedMap { booked, limits }, passes))
     }

@@ -87,11 +87,13 @@ fn run_under<L: Ledger + Send + Sync, T: Terms + Send + Sync, G: Gate, R: Thread
     ensures ran { IfOk result (IsRunOf limits workers tries scripts.now) }
     ensures err { IfErr result IsRunRefusal }
 {
-    let (map, passes) = SharedMap::<L>::new(alloc, blank, limits)?;
+    let entries = entries_of(scripts);
+    let (map, passes) = SharedMap::<L>::with_capacity(alloc, blank, limits, entries)?;
     let orders = Orders::<L, G, T> {
         map: &map,
         scripts,
         workers,
+        entries: entries / workers,
         tries,
         gate,
         terms: PhantomData,
@@ -112,6 +114,17 @@ fn run_under<L: Ledger + Send + Sync, T: Terms + Send + Sync, G: Gate, R: Thread
         Ok(outcomes) => Ok(Ran { outcomes, trace }),
         Err(AllocError) => Err(Refusal::NoMemory),
     }
+}
+
+/// The most entries that scripts add if no attempt is repeated: two for each action, a begin and an
+/// end.
+fn entries_of(scripts: &[Script]) -> usize {
+    let mut entries = 0usize;
+    for script in scripts {
+        let own = script.actions().len().saturating_mul(2).saturating_add(2);
+        entries = entries.saturating_add(own);
+    }
+    entries
 }
 
 /// The callers of the reports, and each caller's outcomes, the last one first.

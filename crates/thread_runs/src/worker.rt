@@ -34,6 +34,8 @@ pub(crate) struct Orders<'a, L: Ledger, G: Gate, T: Terms> {
     pub(crate) scripts: &'a [Script],
     /// The number of workers.
     pub(crate) workers: usize,
+    /// About how many entries each worker sees.
+    pub(crate) entries: usize,
     /// How often a script that found a stripe held is tried again.
     pub(crate) tries: u64,
     /// The observer of the run.
@@ -60,6 +62,8 @@ impl<L: Ledger, G: Gate, T: Terms> Orders<'_, L, G, T> {
             pass.number) }
     {
         let mut caller = pass.caller(alloc, NoSide);
+        // If room for all entries is refused, each call makes its own.
+        let _room = caller.reserve(self.entries);
         let outcomes = self.outcomes(rt, alloc, &mut caller)?;
         Ok(WorkerReport { caller, outcomes })
     }

@@ -257,3 +257,37 @@ fn largest_table(rt: HostRuntime) -> Result<(), Fail> {
     let alloc = rt.alloc();
     fill_and_run(&rt, alloc, &mut large_core(&rt, alloc))
 }
+
+/// Room for more entries than memory can hold is refused, and room for some is made: with either
+/// the core goes on.
+#[test]
+fn room_for_entries(rt: HostRuntime) -> Result<(), Fail> {
+    let alloc = rt.alloc();
+    let mut core = small_core(&rt, alloc);
+    makes_room(&rt, &mut core)?;
+    fill_and_count(&rt, &mut core)
+}
+
+/// Asks for the least room, for some and for too much, before and in a transaction.
+fn makes_room(rt: &impl Abort, core: &mut Core) -> Result<(), Fail> {
+    has_room(rt, core);
+    begin(rt, core)?;
+    has_room(rt, core);
+    Ok(())
+}
+
+/// Room for no entry and for a thousand is made, and room for 2^64 - 1 is refused.
+fn has_room(rt: &impl Abort, core: &mut Core) {
+    assert!(rt; core.reserve(0).is_ok());
+    assert!(rt; core.reserve(1_000).is_ok());
+    assert!(rt; core.reserve(usize::MAX).is_err());
+}
+
+/// One put and the commit add three entries to that of the begin.
+fn fill_and_count(rt: &impl Abort, core: &mut Core) -> Result<(), Fail> {
+    let answer = operate(core, 0, Op::Put(7, 70))?;
+    assert_eq!(rt; answer, Answer::Done(None));
+    step_is(rt, core, Step::Commit(0), Answer::Committed(1))?;
+    assert_eq!(rt; core.trace().len(), 4);
+    Ok(())
+}
