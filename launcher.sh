@@ -3,17 +3,19 @@
 #
 #   root     the top of the repository
 #   program  the program's crate
+#   part     the crate of a program with fewer crates that answers some of the calls, or nothing
 #   trial    arguments of a call of the program that ends with status 0
 #   look     a command that runs the program without a proof
 #
-# and have defined `is_call`, which says whether arguments are a call of the program, and `usage`, which
-# prints its usage.
+# and have defined `is_call`, which says whether arguments are a call of the program, `needs_whole`, which
+# says whether a call is one that `part` does not answer, and `usage`, which prints the usage.
 #
 # If the program is not built yet, or one of its sources is newer, its crates are proved and it is built
-# first, with nothing kept but the program. If `rt run` has built the program before, as it is told to
-# people who change sources, then `rt run` builds it again, over what it has kept. Standard error shows
-# the progress. If the build fails, the status is 125, which no other call returns. RT names a command to
-# run instead of rt.
+# first. A call that `part` answers waits only for that one. What `part` stands on is then kept beside it,
+# until the whole program is built; otherwise nothing is kept but the program. If `rt run` has built the
+# program before, as it is told to people who change sources, then `rt run` builds it again, over what it
+# has kept. Standard error shows the progress. If the build fails, the status is 125, which no other call
+# returns. RT names a command to run instead of rt.
 #
 # A crate is proved as soon as those below it are, by the prover that `rt` calls. The crate for which the
 # most others wait gets all processors. Beside it, other crates that are ready get one process each, at a
@@ -21,8 +23,18 @@
 # the last crates, each of which waits for the one before, one process.
 # shellcheck shell=bash disable=SC2154
 
-out=$root/crates/$program/out
-built=$out/$program
+whole=$program
+# One call at a time builds.
+lock=$root/crates/$whole/out/lock
+# What is kept of the build of `part`: its libraries, and the toolchain that proved them.
+kept=$root/crates/$part/out/libraries
+
+# Makes this program the one that is built and run.
+choose() {
+    program=$1
+    out=$root/crates/$program/out
+    built=$out/$program
+}
 
 # Prints the crates of the program, in the order of crates.txt: its libraries, and the program itself,
 # each on a line. In crates.txt a crate follows those below it.
@@ -66,24 +78,23 @@ libraries_of() {
     awk -v name="$1" -F ': *' '{ split($1, head, " "); if (head[1] == name) print $2 }' "$root/crates.txt"
 }
 
-# Prints how many lines of source a crate has.
-lines_of() {
-    find "$root/crates/$1" \( -name out -o -name must-fail \) -prune -o \
-        \( -name '*.rt' -o -name '*.antt' \) -exec cat {} + | wc -l
+# Prints about how many seconds one processor takes to prove a crate: 15 to read what is below it, and
+# one for ten lines of code.
+seconds_of() {
+    echo $((15 + $(cat -- "$root/crates/$1/src/"*.rt | wc -l) / 10))
 }
 
-# Prints a line for each of the program's crates: its name and the libraries that it names. The
-# first is the crate with the most lines of source in the longest chain of crates that wait for each
-# other, from itself on.
+# Prints a line for each of the program's crates: its name and the libraries that it names. The first is
+# the crate that begins the longest chain, in seconds, of crates that wait for each other.
 schedule() {
     local name
     for name in $(crates); do
-        echo "$name $(lines_of "$name") $(libraries_of "$name")"
+        echo "$name $(seconds_of "$name") $(libraries_of "$name")"
     done | awk '
-        { names[NR] = $1; lines[$1] = $2; $2 = ""; line[$1] = $0 }
+        { names[NR] = $1; seconds[$1] = $2; $2 = ""; line[$1] = $0 }
         END {
             for (i = NR; i > 0; i--) {
-                chain = lines[names[i]] + behind[names[i]]
+                chain = seconds[names[i]] + behind[names[i]]
                 count = split(line[names[i]], words)
                 for (j = 2; j <= count; j++) if (behind[words[j]] < chain) behind[words[j]] = chain
                 print chain, line[names[i]]
@@ -91,13 +102,34 @@ schedule() {
         }' | sort -s -k1,1nr | cut -d ' ' -f 2-
 }
 
-# Says how long a build takes.
+# Says how long it takes to prove this many crates and to build the program: a crate takes about 100
+# seconds of a processor.
 say_how_long() {
-    local minutes='ten minutes or more'
-    [ "$(nproc)" -ge 4 ] || minutes='twenty minutes or more'
-    [ "$(nproc)" -ge 2 ] || minutes='forty minutes or more'
-    echo "$program: building. This proves $1 crates; with $(nproc) processors it takes $minutes." \
-        "For a first look: $look" >&2
+    local processors
+    processors=$(nproc)
+    [ "$processors" -lt 4 ] || processors=4
+    echo "$program: building. This proves $1 crates; with $(nproc) processors it takes" \
+        "$(($1 * 100 / 60 / processors + 1)) minutes or more. For a first look: $look" >&2
+}
+
+# Takes the libraries that are kept of the build of `part`, if neither their sources nor the toolchain
+# has changed since.
+take_kept() {
+    local library name
+    [ -f "$kept/toolchain" ] && [ "$program" = "$whole" ] || return 0
+    "${RT:-rt}" version | cmp -s - "$kept/toolchain" || return 0
+    ! (choose "$part" && needs_build) || return 0
+    for library in "$kept"/*.rlib; do
+        name=$(basename -- "$library" .rlib)
+        ln -s -- "$library" "$work/$name.rlib" && proved[$name]=
+    done
+}
+
+# Keeps the libraries of `part`, and drops them once the whole program is built.
+keep_or_drop() {
+    rm -rf -- "$kept"
+    [ "$program" = "$part" ] || return 0
+    mkdir -- "$kept" && mv -- "$work"/*.rlib "$kept" && "${RT:-rt}" version >"$kept/toolchain"
 }
 
 # Proves a crate over the libraries that it names, by this many processes that are this much nicer than
@@ -176,7 +208,8 @@ build_from_nothing() {
         order+=" $name"
         needs[$name]=$libraries
     done < <(schedule)
-    say_how_long ${#needs[@]}
+    take_kept
+    say_how_long $((${#needs[@]} - ${#proved[@]}))
     # A prover takes up to 4 GB.
     most=$(awk -v most="$(nproc)" '/^MemAvailable/ { m = int($2 / 4e6); print m < 1 ? 1 : m < most ? m : most }' \
         /proc/meminfo)
@@ -185,7 +218,7 @@ build_from_nothing() {
         await_one || return 1
         begin_ready
     done
-    mv -- "$work/$program" "$built"
+    mv -- "$work/$program" "$built" && keep_or_drop
 }
 
 # Proves what has changed since `rt run` has built the program, and builds it again.
@@ -206,16 +239,21 @@ build() {
     touch -- "$built"
 }
 
+choose "$whole"
 if needs_build; then
     if ! is_call "$@"; then
         usage >&2
         exit 2
     fi
-    mkdir -p -- "$out" || exit 125
+    if [ -n "$part" ] && [ ! -d "$out/incremental" ] && ! needs_whole "$@"; then choose "$part"; fi
+fi
+if needs_build; then
+    mkdir -p -- "$out" "$(dirname -- "$lock")" || exit 125
     # Another call may be building the program.
-    exec 9>"$out/lock" && flock 9 || exit 125
+    exec 9>"$lock" && flock 9 || exit 125
     if needs_build; then
-        work=$(mktemp -d) || exit 125
+        rm -rf -- "$out"/build.*
+        work=$(mktemp -d "$out/build.XXXXXX") || exit 125
         trap 'kill $(jobs -p) 2>/dev/null; wait; rm -rf -- "$work"' EXIT
         build || exit 125
         rm -rf -- "$work"

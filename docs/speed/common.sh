@@ -29,7 +29,7 @@ build_proved() {
 # proved and built if necessary.
 take_program() {
   if [ -z "${PROGRAM:-}" ]; then
-    quietly ./boostmap check examples/checked.json
+    quietly ./boostmap run examples/first_scripts.json
   fi
   cp "${PROGRAM:-crates/boostmap/out/boostmap}" "$work/proved"
 }

@@ -1,13 +1,14 @@
 #!/usr/bin/env bash
 # Runs the built program from outside: each command on each file of examples/, every exit status,
-# standard error to the letter, /dev/stdin, outputs that fail, and little memory. By default the program
-# is the one that `rt ci` and ./boostmap build. The last line is 'program: N passed, M failed', and the
-# status is 1 if M is not 0.
-# Usage: docs/tests/program.sh [PROGRAM]
+# standard error to the letter, /dev/stdin, outputs that fail, and little memory. At the end come a few
+# calls of `unthreaded`. By default the programs are those that `rt ci` builds. The last line is
+# 'program: N passed, M failed', and the status is 1 if M is not 0.
+# Usage: docs/tests/program.sh [PROGRAM [UNTHREADED]]
 set -uo pipefail
 cd "$(dirname "${BASH_SOURCE[0]}")/../.." || exit 1
 name=program
 program=${1:-crates/boostmap/out/boostmap}
+unthreaded=${2:-crates/unthreaded/out/unthreaded}
 . docs/tests/common.sh
 
 # The usage, from the tests of the command line, without its last line feed.
@@ -297,6 +298,25 @@ little_memory() {
   done
 }
 
+# The program without threads prints the same, but runs no scripts in threads.
+without_threads() {
+  local program=$unthreaded words file
+  while read -r words; do
+    file=examples/${words##* }.json
+    words=${words% *}
+    if [ "$words" = run ]; then
+      wants 4 '' 'no thread' run "$file"
+    else
+      # shellcheck disable=SC2086
+      wants 0 "$(shown "$words ${file##*/}")" '' $words "$file"
+    fi
+  done < <(commands)
+  wants 1 'illegal entry 12 rule 1' '' check "$work/reply.json"
+  wants 3 '' 'refused 20' replay "$work/cut.json"
+  wants 4 '' 'read failed' run "$work/missing.json"
+  wants 2 '' "$usage" run
+}
+
 each_command_on_each_example
 readme
 usage_errors
@@ -309,4 +329,5 @@ failing_devices
 early_pipes
 standard_input
 little_memory
+without_threads
 conclude

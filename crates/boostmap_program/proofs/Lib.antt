@@ -1,2 +1,1 @@
 pub mod Threading
-pub mod Running

@@ -1,2 +1,1 @@
 pub mod Threaded
-pub mod Runs

@@ -1,5 +1,5 @@
 -- The history of a script file whose workers run in threads.
-use Rattle.std.specs.Prelude.{◌≡◌, ℕ, List, Option, Ok}
+use Rattle.std.specs.Prelude.{◌≡◌, ℕ, true, List, Option, Ok, Err}
 use Rattle.std.specs.Io.KnownBytes.{Keeps}
 use Rattle.txn_words.specs.declared.entry.Entry.{Entry}
 use Rattle.txn_words.specs.declared.refusal.Refusal.{Refusal}
@@ -13,7 +13,8 @@ use Rattle.boostmap_engine.specs.declared.fault.Fault.{Fault}
 use Rattle.boostmap_engine.specs.declared.fault.Fault.TheVariants as faults
 use Rattle.boostmap_engine.specs.Mixture.{IsNoScriptFile}
 use Rattle.boostmap_engine.specs.Report.{line}
-use Rattle.boostmap_engine.specs.Written.{HasNone, Leaves}
+use Rattle.boostmap_engine.specs.Written.{HasNone, Leaves, Writes}
+use Rattle.unthreaded_program.specs.Runs.{Engine}
 
 -- The outcomes and the history of a run of the scripts in threads; and the history's text, of
 -- version 3.
@@ -42,6 +43,11 @@ LeavesThreaded remaining old new faults.NoThread = Keeps old new
 LeavesThreaded remaining old new faults.OutOfStep = Keeps old new
 LeavesThreaded remaining old new fault =
     Leaves IsThreadedOf IsNoScriptFile remaining old new fault
+
+-- The engine of `run` in threads.
+abbrev pub RunsThreads : Engine
+RunsThreads bytes old new (Ok well) = Writes IsThreadedOf bytes old new × (well ≡ true)
+RunsThreads bytes old new (Err fault) = LeavesThreaded bytes old new fault
 
 -- The fault of a run in threads that was refused as a whole.
 abbrev pub of_run : Refusal → Fault

@@ -1,5 +1,5 @@
 -- The call that the words of a command line spell, by the rules of `clap`.
-use Rattle.std.specs.Prelude.{ℕ, ◌^◌, ◌&&◌, true, List, [], ◌∷◌, codes, length}
+use Rattle.std.specs.Prelude.{ℕ, ◌^◌, ◌&&◌, true, List, [], ◌∷◌, codes}
 use Rattle.std.specs.Prelude.{Option, Some, None, if◌then◌else◌, nat_lt, option_map}
 use Rattle.std.specs.Prelude.{option_and_then}
 use Rattle.std.specs.List.{list_any}
@@ -11,24 +11,26 @@ use Rattle.clap.specs.Words.{new_rule, subcommand_of, with_rule, with_subcommand
 use Rattle.clap.specs.Simple.{on_top}
 use Rattle.program_host.specs.Words.{is_numeral}
 use Rattle.command_line.specs.declared.words.Call.{Call}
-use Rattle.command_line.specs.declared.words.Call.TheVariants.{Replay, Run, Mix, Check}
+use Rattle.command_line.specs.declared.words.Command.{Command}
+use Rattle.command_line.specs.declared.words.Command.TheVariants.{Replay, Run, Mix, Check}
 
 -- A call: the name of its command, the seed of `mix`, and the name of its file.
 abbrev pub Asked : Type 0
 Asked = Text × Option ℕ × Text
 
-abbrev pub asked_of : Call → Asked
-asked_of (Replay file) = (codes "replay", None, file.now)
-asked_of (Run file) = (codes "run", None, file.now)
-asked_of (Mix seed file) = (codes "mix", Some seed, file.now)
-asked_of (Check file) = (codes "check", None, file.now)
+-- The name of a command, and the seed that it is given.
+abbrev pub name_of : Command → Text
+name_of Replay = codes "replay"
+name_of Run = codes "run"
+name_of (Mix seed) = codes "mix"
+name_of Check = codes "check"
 
--- The name of a call's file.
-abbrev pub file_of : Call → List ℕ
-file_of (Replay file) = file.now
-file_of (Run file) = file.now
-file_of (Mix seed file) = file.now
-file_of (Check file) = file.now
+abbrev pub given_seed : Command → Option ℕ
+given_seed (Mix seed) = Some seed
+given_seed command = None
+
+abbrev pub asked_of : Call → Asked
+asked_of call = (name_of call.command, given_seed call.command, call.file.now)
 
 -- The command line: `replay FILE`, `run FILE`, `mix --seed N FILE` and `check FILE`, each as an
 -- application of `clap`, whose rules say how words are read.

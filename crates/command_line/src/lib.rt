@@ -4,12 +4,12 @@
 //! FILE` or `check FILE`, by the rules of `clap`, or that they are no call (`asked`,
 //! `specs/Words.antt`).
 //!
-//! The program itself (`boostmap_program`), which runs the engine of the call, is another crate:
-//! words need none of the proofs about threads.
+//! The programs (`unthreaded_program`, `boostmap_program`), which run the engine of the call, are
+//! other crates: words need none of the proofs about engines and threads.
 #![tactic(auto)]
 
 mod no_call;
 mod words;
 
 pub use no_call::NoCall;
-pub use words::{Call, call_in};
+pub use words::{Call, Command, call_in};

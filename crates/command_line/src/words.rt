@@ -4,53 +4,38 @@ ghost use Rattle.std.specs.Prelude.{◌≡◌, ◌⊎◌, Some, None, false, IfO
 ghost use Rattle.std.specs.String.{string_bytes};
 ghost use Rattle.clap.specs.Words.{found_of, rows_of, rule_of};
 ghost use Rattle.program_host.specs.Words.{Has};
-ghost use Rattle.command_line.specs.Words.{asked, asked_in, asked_of, file_of, seed_of};
+ghost use Rattle.command_line.specs.Words.{asked, asked_in, asked_of, seed_of};
 ghost use Rattle.command_line.specs.Words.{command_line, file_word, over_file, seed_word, seeded};
 ghost use Rattle.command_line.specs.declared.no_call.NoCall.TheVariants as reasons;
 
 use crate::no_call::NoCall;
 use clap::error::ErrorKind;
-use clap::{Arg, ArgAction, ArgMatches, Command};
+use clap::{Arg, ArgAction, ArgMatches};
 use std::alloc::{AllocError, Global};
 
-/// The call that the words ask for.
+/// A command of the program.
 #[derive(Clone, Copy, Debug, PartialEq, Eq)]
-pub enum Call<'a> {
+pub enum Command {
     /// Runs the steps of a file.
-    Replay {
-        /// The file's name.
-        file: &'a str,
-    },
+    Replay,
     /// Runs the scripts of a file, each worker in its own thread.
-    Run {
-        /// The file's name.
-        file: &'a str,
-    },
+    Run,
     /// Runs the scripts of a file, with the workers' turns mixed as a seed says.
     Mix {
         /// The seed of the generator that draws the turns.
         seed: u64,
-        /// The file's name.
-        file: &'a str,
     },
     /// Judges the history of a file.
-    Check {
-        /// The file's name.
-        file: &'a str,
-    },
+    Check,
 }
 
-impl<'a> Call<'a> {
-    /// The name of the call's file.
-    pub fn file(self) -> &'a str
-        ensures { result.now ≡ file_of self.entry }
-    {
-        let (Call::Replay { file }
-        | Call::Run { file }
-        | Call::Mix { file, .. }
-        | Call::Check { file }) = self;
-        file
-    }
+/// The call that the words ask for.
+#[derive(Clone, Copy, Debug, PartialEq, Eq)]
+pub struct Call<'a> {
+    /// The command.
+    pub command: Command,
+    /// The name of the file that it runs on.
+    pub file: &'a str,
 }
 
 /// The name of a file, which may not be left out.
@@ -75,14 +60,14 @@ fn seed_option<'a>(alloc: Global) -> Arg<'a>
 }
 
 /// A command of this name over one file.
-fn command_on_file<'a>(alloc: Global, name: &'a str) -> Result<Command<'a>, AllocError>
+fn command_on_file<'a>(alloc: Global, name: &'a str) -> Result<clap::Command<'a>, AllocError>
     ensures { IfOk result (λ command. Has command (over_file name.entry.now)) }
 {
-    Command::new(alloc, name).arg(file_name(alloc))
+    clap::Command::new(alloc, name).arg(file_name(alloc))
 }
 
 /// The command `mix`, which also has a seed.
-fn mix_command<'a>(alloc: Global) -> Result<Command<'a>, AllocError>
+fn mix_command<'a>(alloc: Global) -> Result<clap::Command<'a>, AllocError>
     ensures { IfOk result (λ command. Has command seeded) }
 {
     command_on_file(alloc, "mix")?.arg(seed_option(alloc))
@@ -90,10 +75,10 @@ fn mix_command<'a>(alloc: Global) -> Result<Command<'a>, AllocError>
 
 /// The command line of the program. Each command is added as soon as it is made, so that little has
 /// to be freed if memory is refused.
-fn command<'a>(alloc: Global) -> Result<Command<'a>, AllocError>
+fn all_commands<'a>(alloc: Global) -> Result<clap::Command<'a>, AllocError>
     ensures { IfOk result (λ command. Has command command_line) }
 {
-    Command::new(alloc, "boostmap")
+    clap::Command::new(alloc, "boostmap")
         .subcommand_required(true)
         .subcommand(command_on_file(alloc, "replay")?)?
         .subcommand(command_on_file(alloc, "run")?)?
@@ -117,13 +102,25 @@ fn call_named<'a>(name: &str, found: &ArgMatches<'a>) -> Option<Call<'a>>
 {
     let file = found.get_str("FILE")?;
     match name {
-        "replay" => Some(Call::Replay { file }),
-        "run" => Some(Call::Run { file }),
+        "replay" => Some(Call {
+            command: Command::Replay,
+            file,
+        }),
+        "run" => Some(Call {
+            command: Command::Run,
+            file,
+        }),
         "mix" => {
             let seed = seed_in(found.get_str("seed")?)?;
-            Some(Call::Mix { seed, file })
+            Some(Call {
+                command: Command::Mix { seed },
+                file,
+            })
         }
-        "check" => Some(Call::Check { file }),
+        "check" => Some(Call {
+            command: Command::Check,
+            file,
+        }),
         _ => None,
     }
 }
@@ -144,7 +141,7 @@ pub fn call_in<'a>(alloc: Global, words: &'a [String]) -> Result<Call<'a>, NoCal
     ensures err { IfErr result (λ reason. (reason ≡ reasons.NoMemory)
         ⊎ ((reason ≡ reasons.Usage) × (asked (map string_bytes words.entry.now) ≡ None))) }
 {
-    let command = command(alloc)?;
+    let command = all_commands(alloc)?;
     let matches = match command.try_get_matches_from(words) {
         Ok(matches) => matches,
         Err(error) => {

@@ -2,13 +2,14 @@
 
 use crate::devices::{Desk, Ended, Narrow, compare_ended};
 use boostmap_engine::mix;
-use boostmap_program::{Ending, run};
+use boostmap_program::run;
 use std::alloc::Global;
 use std::io::ErrorKind;
 use std::process::Abort;
 use std::sync::Wait;
 use std::test::Fail;
 use std::thread::Threads;
+use unthreaded_program::Ending;
 
 /// One transaction that commits.
 const STEPS: &str =
@@ -95,6 +96,18 @@ fn run_at<T: Threads + Wait + Sync>(
 ) -> Ended {
     let [mut output, mut errors] = writers;
     let Ending { status, is_told } = run(rt, alloc, desk, &mut output, &mut errors);
+    Ended {
+        output,
+        errors,
+        status,
+        is_told,
+    }
+}
+
+/// Runs the program without threads on a system.
+fn run_unthreaded(alloc: Global, desk: &Desk<'_>) -> Ended {
+    let (mut output, mut errors) = (Narrow::whole(), Narrow::whole());
+    let Ending { status, is_told } = unthreaded_program::run(alloc, desk, &mut output, &mut errors);
     Ended {
         output,
         errors,
@@ -191,6 +204,33 @@ fn each_command_and_each_status(rt: HostRuntime) {
     }
     for words in NO_CALLS.lines() {
         compare(&rt, rt.alloc(), &Desk::new(words, FILES), ("", USAGE, 2));
+    }
+}
+
+/// Calls of the program without threads.
+const UNTHREADED_CALLS: &[Called] = &[
+    ("boostmap ", "", USAGE, 2),
+    ("boostmap run", "", USAGE, 2),
+    ("boostmap replay steps.json", REPORT, "", 0),
+    ("boostmap replay bad.json", "", "refused 21 step 4\n", 3),
+    ("boostmap mix --seed 7 script.json", HISTORY, "", 0),
+    ("boostmap check legal.json", LEGAL_LINE, "", 0),
+    (
+        "boostmap check illegal.json",
+        "illegal entry 2 rule 1\n",
+        "",
+        1,
+    ),
+    ("boostmap run script.json", "", "no thread\n", 4),
+    ("boostmap run steps.json", "", "no thread\n", 4),
+    ("boostmap run missing.json", "", READ_FAILED, 4),
+];
+
+#[test]
+fn without_threads(rt: HostRuntime) {
+    for (words, output, errors, status) in UNTHREADED_CALLS {
+        let ended = run_unthreaded(rt.alloc(), &Desk::new(words, FILES));
+        compare_ended(&rt, &ended, (*output, *errors, *status), words);
     }
 }
 

@@ -1,5 +1,6 @@
 //! Tests of the crates from files to the program: `files` tests `txn_files`, `pieces` tests
-//! `piece_files`, `engines` tests `boostmap_engine`, and `commands` tests `command_line`.
+//! `piece_files`, `engines` tests `boostmap_engine` and the engine of `run`, and `commands` tests
+//! `command_line`, `unthreaded_program` and `boostmap_program`.
 //!
 //! They are a separate crate, since a crate with tests is proved twice. Each call of a tested crate
 //! is in a small function without a contract, and the tests go over tables only through those

@@ -4,7 +4,7 @@ use Rattle.clap.specs.Simple.{Shape, app_of_fields, on_top}
 use Rattle.program_host.specs.Words.{Has}
 use Rattle.program_host.proofs.Building.{added}
 use Rattle.command_line.specs.Words.{without_commands}
-use Rattle.command_line.proofs.words.command.Goals as goal
+use Rattle.command_line.proofs.words.all_commands.Goals as goal
 
 pub returns : goal.returns
 returns c =

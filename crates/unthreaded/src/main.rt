@@ -1,0 +1,16 @@
+//! The program `boostmap` without threads: its command `run` answers that no thread could be
+//! started. The script `boostmap` builds it first, since it needs none of the proofs about threads.
+//! `unthreaded_program::run` decides everything, as `boostmap_program::run` does for `boostmap`.
+#![tactic(auto)]
+
+use program_host::Host;
+use std::io;
+use std::process::ExitCode;
+use unthreaded_program::run;
+
+fn main(rt: HostRuntime) -> ExitCode {
+    let mut output = io::writer(&rt);
+    let mut errors = rt.stderr();
+    let ending = run(rt.alloc(), &Host::new(&rt), &mut output, &mut errors);
+    ExitCode::from(ending.status)
+}

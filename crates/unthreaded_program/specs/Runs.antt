@@ -1,0 +1,77 @@
+-- The effect of the program, from the words of its call, and its end.
+use Rattle.std.specs.Prelude.{◌≡◌, ◌⊎◌, ℕ, Bool, true, false, List, Option, Result, Ok, Err}
+use Rattle.std.specs.Io.KnownBytes.{Appends, Keeps}
+use Rattle.boostmap_engine.specs.declared.fault.Fault.{Fault}
+use Rattle.boostmap_engine.specs.declared.fault.Fault.TheVariants.{NoThread}
+use Rattle.boostmap_engine.specs.Faults.{status_of, message_of}
+use Rattle.boostmap_engine.specs.Written.{Writes, Leaves}
+use Rattle.boostmap_engine.specs.Report.{line, IsReportOf, IsNoStepFile}
+use Rattle.boostmap_engine.specs.Mixture.{IsMixtureOf, IsNoScriptFile}
+use Rattle.boostmap_engine.specs.Judgement.{IsJudgement, IsJudgementOf, IsNoHistoryFile}
+use Rattle.command_line.specs.declared.words.Command.{Command}
+use Rattle.command_line.specs.declared.words.Command.TheVariants.{Replay, Run, Mix, Check}
+use Rattle.unthreaded_program.specs.Opening.{IsOpened, IsUnopened}
+use Rattle.unthreaded_program.specs.declared.ending.Ending.{Ending}
+
+-- The outcome of a run: whether all is well, or a fault.
+abbrev pub Outcome : Type 0
+Outcome = Result Bool Fault
+
+-- What an engine does: the bytes of its file, if they are known, standard output before and after,
+-- and the outcome.
+abbrev pub Engine : Type 1
+Engine = Option (List ℕ) → Option (List ℕ) → Option (List ℕ) → Outcome → Type 0
+
+-- The engine of `run` in a program that starts no threads.
+abbrev pub StartsNone : Engine
+StartsNone bytes old new outcome = (outcome ≡ Err NoThread) × Keeps old new
+
+-- A command ran on a file, with this engine of `run`.
+abbrev pub Does : Engine → Command → Engine
+Does OfRun Replay bytes old new (Ok well) = Writes IsReportOf bytes old new × (well ≡ true)
+Does OfRun Replay bytes old new (Err fault) = Leaves IsReportOf IsNoStepFile bytes old new fault
+Does OfRun Run bytes old new outcome = OfRun bytes old new outcome
+Does OfRun (Mix seed) bytes old new (Ok well) =
+    Writes (IsMixtureOf seed) bytes old new × (well ≡ true)
+Does OfRun (Mix seed) bytes old new (Err fault) =
+    Leaves (IsMixtureOf seed) IsNoScriptFile bytes old new fault
+Does OfRun Check bytes old new (Ok well) = Writes (IsJudgement well) bytes old new
+Does OfRun Check bytes old new (Err fault) =
+    Leaves IsJudgementOf IsNoHistoryFile bytes old new fault
+
+-- No command ran, and standard output is unchanged.
+abbrev pub RunsNone : Option (List (List ℕ)) → Option (List ℕ) → Option (List ℕ) → Outcome → Type 0
+RunsNone spoken old new (Err fault) = Keeps old new × IsUnopened spoken fault
+RunsNone spoken old new (Ok well) = ⊥
+
+-- The command that the words ask for ran on the bytes of its file.
+pub record RunsOne (OfRun : Engine) (spoken : Option (List (List ℕ)))
+    (bytes_of : List ℕ → Option (List ℕ)) (old new : Option (List ℕ)) (outcome : Outcome)
+    : Type 0 where
+  pub command : Command
+  pub bytes : Option (List ℕ)
+  pub opened : IsOpened spoken bytes_of command bytes
+  pub does : Does OfRun command bytes old new outcome
+
+-- The outcome of a run, from its words and the files' bytes, if they are known.
+abbrev pub Runs : Engine → Option (List (List ℕ)) → (List ℕ → Option (List ℕ)) → Option (List ℕ)
+    → Option (List ℕ) → Outcome → Type 0
+Runs OfRun spoken bytes_of old new outcome =
+    RunsOne OfRun spoken bytes_of old new outcome ⊎ RunsNone spoken old new outcome
+
+-- The exit status.
+abbrev pub status_after : Outcome → ℕ
+status_after (Ok true) = 0
+status_after (Ok false) = 1
+status_after (Err fault) = status_of fault
+
+-- Standard error after a run: the line of a fault, unless standard error did not take all of it,
+-- and nothing if there was none.
+abbrev pub Tells : Option (List ℕ) → Option (List ℕ) → Bool → Outcome → Type 0
+Tells old new is_told (Ok well) = Keeps old new × (is_told ≡ true)
+Tells old new is_told (Err fault) = is_told ≡ true → Appends old new (line (message_of fault))
+
+-- A run with such an outcome has ended: with its status, and standard error has told it.
+abbrev pub HasEnded : (Outcome → Type 0) → (Bool → Outcome → Type 0) → Ending → Type 0
+HasEnded HasRun HasTold ending = (outcome : Outcome) × HasRun outcome
+    × (ending.status ≡ status_after outcome) × HasTold ending.is_told outcome

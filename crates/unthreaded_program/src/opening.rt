@@ -1,0 +1,73 @@
+//! The beginning of a call: its words are read, and the file that they name is opened. Nothing is
+//! written.
+ghost use Rattle.std.specs.Prelude.{◌≡◌, IfOk, IfErr};
+ghost use Rattle.std.specs.IoError.{error_kind};
+ghost use Rattle.unthreaded_program.specs.Opening.{IsOpened, IsUnopened, memory_or, of_words};
+
+use boostmap_engine::Fault;
+use command_line::{Command, NoCall, call_in};
+use program_host::System;
+use std::alloc::Global;
+use std::io;
+
+/// A command with its file, which is open.
+#[derive(Drop)]
+pub struct Opened<I> {
+    /// The command.
+    pub command: Command,
+    /// The file.
+    pub input: I,
+}
+
+/// `NoMemory` if the error is that memory was refused, else the other fault.
+fn memory_or(error: &io::Error, other: Fault) -> Fault
+    ensures { result ≡ memory_or (error_kind error.now) other }
+{
+    match error.kind() {
+        io::ErrorKind::OutOfMemory => Fault::NoMemory,
+        _ => other,
+    }
+}
+
+/// The fault of words that give no call, for this reason.
+fn fault_of(reason: NoCall) -> Fault
+    ensures { result ≡ of_words reason }
+{
+    match reason {
+        NoCall::Usage => Fault::Usage,
+        NoCall::NoMemory => Fault::NoMemory,
+    }
+}
+
+/// Reads the words of the call and opens the file that they name: the command, with that file.
+///
+/// # Errors
+///
+/// - `Usage` if the words are no call of the program, or no texts.
+/// - `Read` if the file cannot be opened.
+/// - `NoMemory` if memory is refused.
+///
+/// # Cost
+///
+/// That of the system, and time and memory in proportion to the words.
+pub fn open<S: System>(alloc: Global, system: &S) -> Result<Opened<S::Input>, Fault>
+    ensures ok { IfOk result (λ opened. IsOpened (S.spoken system.now) (S.bytes system.now)
+        opened.command (S.Input.remaining opened.input)) }
+    ensures err { IfErr result (IsUnopened (S.spoken system.now)) }
+{
+    let words = match system.words(alloc) {
+        Ok(words) => words,
+        Err(error) => return Err(memory_or(&error, Fault::Usage)),
+    };
+    let call = match call_in(alloc, &words) {
+        Ok(call) => call,
+        Err(reason) => return Err(fault_of(reason)),
+    };
+    match system.open(call.file) {
+        Ok(input) => Ok(Opened {
+            command: call.command,
+            input,
+        }),
+        Err(error) => Err(memory_or(&error, Fault::Read)),
+    }
+}

@@ -1,0 +1,76 @@
+//! The commands on an open file, and the whole call: words, file, engine, the line of a fault, exit
+//! status. It is generic over the system and both outputs, so that contracts and tests reach all of
+//! it.
+ghost use Rattle.std.specs.Prelude.{◌≡◌};
+ghost use Rattle.unthreaded_program.specs.Runs.{Does, HasEnded, Runs, StartsNone, Tells};
+
+use crate::ending::{Ending, end};
+use crate::opening::open;
+use boostmap_engine::{Fault, check, mix, replay};
+use command_line::Command;
+use program_host::System;
+use std::alloc::Global;
+use std::io::{Read, Write};
+
+/// Runs the engine of a command on its open file. Answers whether all is well: it is unless a
+/// history is illegal.
+///
+/// # Errors
+///
+/// Those of the engine. The command `run` is refused with `NoThread`: nothing is read or written.
+///
+/// # Cost
+///
+/// That of the engine.
+pub fn run_command<R: Read, W: Write>(
+    alloc: Global,
+    command: Command,
+    input: &mut R,
+    output: &mut W,
+) -> Result<bool, Fault>
+    ensures { Does StartsNone command (R.remaining input.old) (W.contents output.old)
+        (W.contents output.new) result }
+{
+    match command {
+        Command::Replay => {
+            replay(alloc, input, output)?;
+            Ok(true)
+        }
+        Command::Run => Err(Fault::NoThread),
+        Command::Mix { seed } => {
+            mix(alloc, seed, input, output)?;
+            Ok(true)
+        }
+        Command::Check => check(alloc, input, output),
+    }
+}
+
+/// Reads the words, opens the file that they name, and runs the engine that they ask for.
+fn run_words<S: System, W: Write>(alloc: Global, system: &S, output: &mut W) -> Result<bool, Fault>
+    ensures { Runs StartsNone (S.spoken system.now) (S.bytes system.now) (W.contents output.old)
+        (W.contents output.new) result }
+{
+    let mut opened = open(alloc, system)?;
+    run_command(alloc, opened.command, &mut opened.input, output)
+}
+
+/// Does all that the program does in one thread: reads the words of the call, opens the file that
+/// they name, runs the engine of the command on it, which writes to `output`, and writes the line of
+/// a fault to `errors`. The command `run` ends with `NoThread`.
+///
+/// # Cost
+///
+/// That of the engine, and time and memory in proportion to the words.
+pub fn run<S: System, W: Write, E: Write>(
+    alloc: Global,
+    system: &S,
+    output: &mut W,
+    errors: &mut E,
+) -> Ending
+    ensures { HasEnded (Runs StartsNone (S.spoken system.now) (S.bytes system.now)
+        (W.contents output.old) (W.contents output.new))
+        (Tells (E.contents errors.old) (E.contents errors.new)) result }
+{
+    let outcome = run_words(alloc, system, output);
+    end(&outcome, errors)
+}
