@@ -1,4 +1,6 @@
-//! The last change of a key, and its fate.
+//! The last change of a key, and its fate: open, committed or taken back. The answers need no
+//! checker, so they hold for any entries, legal or not. Each answer takes one pass over the
+//! entries; the pass for the fate begins after the change and takes no memory.
 ghost use Rattle.std.specs.Prelude.{◌≡◌, ◌+◌, ◌<◌, ◌≤◌, ◌^◌, List, Option, None, IfOk};
 ghost use Rattle.std.specs.List.{All};
 ghost use Rattle.txn_words.specs.Kinds.{caller_of};

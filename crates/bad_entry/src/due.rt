@@ -1,4 +1,6 @@
-//! The value of a key: the reply that an operation on it is due.
+//! The questions that need a checker: the value of a key, the last commit that changed it, and the
+//! first reply of a transaction that contradicts earlier ones. Each call feeds all entries to a new
+//! checker, so it costs as much as a verdict. Contracts promise an answer only if no entry is bad.
 ghost use Rattle.std.specs.Prelude.{◌≡◌, ℕ, ◌<◌, List, Some, None, if◌then◌else◌, IfOk};
 ghost use Rattle.std.specs.List.{All};
 ghost use Rattle.std.specs.Option.{option_or};

@@ -1,4 +1,6 @@
-//! The holder of a stripe, and the entry since which it holds it.
+//! The holder of a stripe, its transaction, and the entry since which it holds the stripe. A
+//! checker does not keep that entry, so this module searches the history for it, in constant time
+//! an entry. `held_by` promises its answer for legal histories only.
 ghost use Rattle.std.specs.Prelude.{◌≡◌, ℕ, ◌<◌, List, Option, None, IfOk};
 ghost use Rattle.std.specs.List.{All, fold};
 ghost use Rattle.txn_trace.specs.History.{txn_after};

@@ -1,4 +1,6 @@
-//! The reason of a verdict of illegal: what leads to the bad entry, by the rule that it breaks.
+//! The reason of a verdict of illegal, chosen by the rule that the bad entry breaks. Only this
+//! module knows the rules; `change`, `due` and `held` answer single questions. Each question goes
+//! through the entries anew, so a reason costs a few passes over them.
 ghost use Rattle.std.specs.Prelude.{◌≡◌, ℕ, ◌<◌, ◌%◌, List, Option, IfOk};
 ghost use Rattle.std.specs.List.{All};
 ghost use Rattle.txn_words.specs.Kinds.{caller_of};

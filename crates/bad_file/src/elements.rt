@@ -1,4 +1,6 @@
-//! The elements of an entry, up to the first at fault.
+//! The search for the first fault in one entry, element by element; `file` calls it for each entry.
+//! A word decides which elements must follow, so a stack keeps those that are still expected. An
+//! element too many ends the search, so the cost of an entry is bounded.
 ghost use Rattle.std.specs.Prelude.{◌≡◌, ◌++◌, IfOk, MatchOption, OnOk, IsSome, map, reverse};
 ghost use Rattle.serde_json.specs.View.{view};
 ghost use Rattle.bad_file.specs.Flaws.{IsFault, entry_in};

@@ -1,4 +1,6 @@
-//! The values allowed at the places of a history file.
+//! Names for the values that the format of history files allows, and the text of each in a flaw.
+//! The tests of values against these names are in `values`. The texts are constants with the ranges
+//! written out, as the contract says (`expected_text`).
 ghost use Rattle.std.specs.Prelude.{◌≡◌};
 ghost use Rattle.bad_file.specs.Texts.{expected_text};
 

@@ -1,4 +1,6 @@
-//! A history file as a whole: the first place at fault, in the order in which faults count.
+//! The search through a whole history file for its first flaw. Only this module knows the order in
+//! which `txn_files` counts faults: all shapes before any range, so it goes through the entries at
+//! most twice. The JSON value of the file is in memory as a whole.
 ghost use Rattle.std.specs.Prelude.{◌≡◌, ℕ, map, option_map, slice_get, IfOk, IfSome, IsNone, MatchOption, Some};
 ghost use Rattle.serde_json.specs.Data.{Data};
 ghost use Rattle.serde_json.specs.View.{view};

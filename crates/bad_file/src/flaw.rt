@@ -1,4 +1,6 @@
-//! The flaw of a history file, in one line.
+//! The answer of the crate, and how it is printed; the search for it is in `file`. The texts of its
+//! parts are in `place`, `found` and `expected`. A flaw borrows nothing from the file, so it can be
+//! printed after the file is dropped.
 ghost use Rattle.std.specs.Prelude.{◌≡◌};
 ghost use Rattle.bad_file.specs.Texts.{is_a_word};
 

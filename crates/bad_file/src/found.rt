@@ -1,4 +1,6 @@
-//! The findings at the places of a history file.
+//! The finding at a place that a flaw names: the kind of the value there, with its number or its
+//! length. The tests that a value is as expected are in `values`. A finding is made in constant
+//! time, and holds no reference to the file.
 ghost use Rattle.std.specs.Prelude.{◌≡◌, option_map};
 ghost use Rattle.serde_json.specs.View.{view};
 ghost use Rattle.bad_file.specs.Meets.{found_of, kind_of};

@@ -1,4 +1,6 @@
-//! Values in JSON, and whether they are what is expected.
+//! The tests that a JSON value is as expected, and the elements of an array; `file`, `elements` and
+//! `found` share them. A test looks at the range only on demand, since all shapes count before any
+//! range. Each test takes constant time and no memory.
 ghost use Rattle.std.specs.Prelude.{◌≡◌, map, is_some, option_map};
 ghost use Rattle.piece_files.specs.Elements.{elements_of, optional};
 ghost use Rattle.serde_json.specs.Find.{as_str};

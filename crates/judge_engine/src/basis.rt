@@ -1,4 +1,6 @@
-//! The rules by which a history is judged.
+//! The choice of rules for `watch`. A history file states its stripes and its version, but lines
+//! state neither, so the command line chooses. Each function that takes a `Basis` requires that
+//! `Locks` has at least one stripe (`HasStripes`).
 
 use txn_trace::Holder;
 

@@ -1,4 +1,6 @@
-//! The verdict on a history file, with the lines that lead to its bad entry.
+//! The verdict on the bytes of a history file, and the lines that lead to its bad entry. No reader
+//! or writer is used here, so the contracts are about bytes only. `judge_file` drops the bytes
+//! before it judges; `explain_file` borrows them, so that `why` can search them for a flaw.
 ghost use Rattle.std.specs.Prelude.{◌≡◌, ◌<◌, IfOk, IfErr};
 ghost use Rattle.std.specs.List.{All};
 ghost use Rattle.txn_words.specs.Kinds.{caller_of};

@@ -1,4 +1,6 @@
-//! A checker of either kind.
+//! One type for the checkers of `history_check` and `serial_check`, so that `Watcher` need not tell
+//! them apart. Each method passes its call on to the checker, and costs the same. `IsFedBy` says
+//! which entries a judge was fed, and by which rules it judges.
 ghost use Rattle.std.specs.Prelude.{◌≡◌, ◌<◌, ◌++◌, [], ◌∷◌, List, IfOk, OnOk};
 ghost use Rattle.txn_words.specs.declared.entry.Entry.{Entry};
 ghost use Rattle.txn_words.specs.Kinds.{caller_of};

@@ -1,4 +1,6 @@
-//! The output of a verdict, with the lines after it, or of a fault.
+//! Only this module writes for `check`, `watch` and `why`, as the last step of each: a verdict, a
+//! verdict with lines after it, or the flaw of a refused file. A verdict and its lines become one
+//! text before the first write, so the output is unchanged if memory is refused.
 ghost use Rattle.std.specs.Prelude.{◌≡◌, ◌⊎◌, ◌++◌, IfErr, IfOk, string_bytes};
 ghost use Rattle.std.specs.Io.KnownBytes.{Appends};
 ghost use Rattle.judge_engine.specs.declared.fault.Fault.TheVariants as faults;

@@ -1,4 +1,6 @@
-//! Entries that are read as lines, in parts of any length: the state between two parts.
+//! The judgement of lines that arrive in chunks, without the reader that gives them. A chunk may
+//! end anywhere, so contracts speak of the bytes of all chunks together (`TookIn`). Between two
+//! chunks, a `Watcher` keeps at most `MAX_LINE` of these bytes: the start of an unfinished line.
 ghost use Rattle.std.specs.Prelude.{◌≡◌, ◌++◌, [], ◌∷◌, ℕ, List, Option, Some, None, Ok, IfOk, IfErr, OnOk, IfSome, MatchResult};
 ghost use Rattle.std.specs.List.{position};
 ghost use Rattle.txn_words.specs.declared.entry.Entry.{Entry};

@@ -1,4 +1,6 @@
-//! The system that the judge runs on: that of a process, whose standard input has the name `-`.
+//! The system of a process: the `Host` of `program_host`, and standard input under the name `-`.
+//! Only this module needs a process; the rest of the crate works with any `System`. The toolchain
+//! promises nothing of a process's words and files, so no contract says what they are.
 use program_host::System;
 use std::alloc::Global;
 use std::env::Env;
