@@ -1,4 +1,6 @@
-//! A map as a whole: made, freed, counted, and helped to grow. These calls need no transaction.
+//! The calls on a map as a whole, which make it, free it, count its keys and help it to grow. They
+//! are apart from `operations` and `transactions`, since they need no transaction. Only
+//! `boostmap_new` fills a map's handle, and only `boostmap_free` empties it.
 ghost use Rattle.std.specs.Prelude.{◌≡◌, Some, None};
 ghost use Rattle.txn_words.specs.Map.{count_of};
 ghost use Rattle.txn_trace.specs.Now.{now};

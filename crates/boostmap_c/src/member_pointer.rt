@@ -1,4 +1,6 @@
-//! The owning half of the handle of a striped map's caller, as `core_pointer` is that of a map's.
+//! The pointer in the handle of a striped map's caller. Its type is erased, since no type that
+//! holds a `Vec` may be named behind a pointer that C sees. Only this module touches its address,
+//! so the ghost field `member` says what the pointer owns: a member on the heap, or nothing.
 ghost use Rattle.std.specs.Prelude.{◌≡◌, Option, Some, None, IsSome};
 ghost use Rattle.std.specs.Coded.{coded_option};
 ghost use Rattle.boostmap_c.specs.contracts.member.Member.{the_row};

@@ -1,4 +1,6 @@
-//! The statuses, and the answers of a map as C is told them. Each export of a map ends here.
+//! The statuses of all exports, and functions that tell C an answer of a core: a status, and for
+//! some answers a word. The numbers are in one module because the calls of maps, striped maps and
+//! judges share them. An answer without a word leaves C's word unchanged.
 ghost use Rattle.std.specs.Prelude.{◌≡◌};
 ghost use Rattle.boostmap_c.specs.Replies.{refused, status_of, status_of_result, word_after};
 

@@ -1,4 +1,6 @@
-//! Work that is run in a transaction, and begun again if another caller holds a stripe.
+//! The call `Caller::transact`: it runs a work in a transaction, and begins again if another caller
+//! holds a stripe. It is not in `caller`, since it builds on `Transaction`: each try runs the work
+//! in one, so a work that fails leaves none open. Between two tries the caller holds no stripe.
 ghost use Rattle.std.specs.Prelude.{◌≡◌, ℕ, ◌≤◌, true, false, Ok, IfOk, IfErr, OnOk, OnErr};
 ghost use Rattle.txn_words.specs.declared.refusal.Refusal.TheVariants.{AlreadyOpen};
 ghost use Rattle.striped_map.specs.Attempts.{on_callers, Fails, FailsBusy};

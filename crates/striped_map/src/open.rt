@@ -1,4 +1,6 @@
-//! Opening a striped map.
+//! The functions that open a striped map. They use `map`, `host` and `caller`, so they belong to
+//! none of these. Each caller gets a seat that is split off the first seat, which the host keeps.
+//! Only this module makes callers, so a map gets no more of them once it is open.
 ghost use Rattle.std.specs.Prelude.{◌≡◌, IfOk, IfErr};
 ghost use Rattle.striped_map.specs.Hosts.{IsNotOpened, IsOpened, may_open};
 
