@@ -1,5 +1,5 @@
-//! The commands of `judge` over a reader and a writer. Each makes its whole text before it writes:
-//! so a fault before that leaves the output unchanged.
+//! The commands of `judge` over a reader and a writer. Each makes the text of a verdict as a whole
+//! before it writes: so a fault before that leaves the output unchanged.
 ghost use Rattle.std.specs.Prelude.{IfOk, IfErr};
 ghost use Rattle.judge_engine.specs.Bases.{HasStripes};
 ghost use Rattle.judge_engine.specs.Files.{Checks, FailsToCheck, FailsToExplain};
@@ -20,8 +20,8 @@ use std::io::{Read, Write};
 ///
 /// A line is the array that an entry is in a history file of the newest version. Blank lines are
 /// passed over, and a last line without its line feed is read as a line. There may be any number of
-/// lines. Nothing is read after the bytes with the first bad entry, and no call of the reader or
-/// the writer is made again after it failed.
+/// lines. Nothing is read after the bytes with the first bad entry, and no read is tried again after
+/// it failed. A write is tried again only if it was interrupted.
 ///
 /// # Errors
 ///
@@ -58,8 +58,7 @@ pub fn watch<R: Read, W: Write>(
 /// the order of commits, or by the locks of the file's stripes. The answer is whether the history
 /// is legal.
 ///
-/// At most 16,777,217 bytes are read, and no call of the reader or the writer is made again after
-/// it failed.
+/// At most 16,777,217 bytes are read. A read or a write is tried again only if it was interrupted.
 ///
 /// # Errors
 ///

@@ -239,7 +239,7 @@ fn entries_in<R: Read + Drop>(alloc: Global, input: R) -> Result<Vec<SmallEntry>
 /// script that is given up has an abort.
 ///
 /// The history is not judged. The script file is read first. At most 16,777,217 bytes of each file
-/// are read, and no call of a reader or the writer is made again after it failed.
+/// are read. A read or a write is tried again only if it was interrupted.
 ///
 /// # Errors
 ///
