@@ -1,4 +1,6 @@
-//! The maps that are timed, as one trait: they all do the same operations.
+//! The maps that are timed, as one trait, so that `map_phases` does the same operations on each:
+//! the table, and the sorted map and the hash map of std. A put in the table also lets the table
+//! grow and stores its new buckets, so the time of the put includes both.
 ghost use Rattle.std.specs.Prelude.{◌≡◌};
 
 use map_ops::{Double, Table};

@@ -1,4 +1,6 @@
-//! Operations of a table at the position of a sort key.
+//! Operations of a list of nodes at a sort key: put, look up, write and take. `seek` requires a
+//! linked dummy that is before the key. Each operation tests this before it seeks, so its callers
+//! have nothing to prove, and the time of each operation includes the test.
 ghost use Rattle.std.specs.Prelude.{IfSome, IsTrue};
 ghost use Rattle.node_list.specs.Nodes.{IsRegularAt};
 ghost use Rattle.list_steps.specs.Found.{IsPlaced};

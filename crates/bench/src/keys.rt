@@ -1,4 +1,6 @@
-//! The keys in a fixed mixed order, so that neighbours in time are not neighbours in the list.
+//! The keys in a fixed mixed order, so that neighbours in time are not neighbours in the list. A
+//! key is computed from its position, and none is stored. `docs/speed/split.rs` computes the same
+//! keys, so the sums that this program and plain Rust print must agree.
 use split_key::Key;
 
 /// The numbers of keys are below 2^63.

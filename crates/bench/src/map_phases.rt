@@ -1,4 +1,6 @@
-//! Times the table beside the sorted map and the hash map of std, by the same operations.
+//! Times the table beside the sorted map and the hash map of std: each is filled with the keys, and
+//! then does a mix of operations. The table is timed twice, with different largest sizes, since it
+//! stops growing at its largest. `docs/speed/growth.sh` compares the times with plain Rust.
 use crate::any_map::{AnyMap, store_bucket};
 use crate::keys::number_at;
 use crate::stopwatch::Stopwatch;

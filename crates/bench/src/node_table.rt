@@ -1,4 +1,6 @@
-//! Keys in a list of nodes, which are sought from the dummies of a fixed number of buckets.
+//! Keys in a list of nodes, which are sought from the dummies of a fixed number of buckets. All
+//! dummies are linked when the table is made. So the later phases time only nodes and cursors: no
+//! bucket is stored in them, and no table doubles.
 use crate::at_split::{put, take, value_of, write};
 use list_steps::{SweepOutcome, sweep};
 use node_list::{Kind, NodeList, NodeRef, SpareFault};

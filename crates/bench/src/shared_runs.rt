@@ -1,4 +1,6 @@
-//! Times runs of scripts on a shared map, each worker in its own thread.
+//! Times `run_scripts`, which runs scripts on a shared map, each worker in its own thread. Only the
+//! library is timed: scripts are made or read before, and the history is not printed.
+//! `docs/speed/run.sh` compares the times with plain Rust.
 use crate::keys::number_at;
 use crate::stopwatch::Stopwatch;
 use anyhow::{Context, Result, anyhow, ensure};

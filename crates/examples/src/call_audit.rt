@@ -1,4 +1,5 @@
-//! Calls `audit`: a history that is legal, and one that is not.
+//! Calls `audit` on two histories, which are written out as entries: one that is legal, and one
+//! that is not. They differ only in the last reply. No map is needed to judge them.
 use audit::is_legal;
 use std::io;
 use std::io::Print;

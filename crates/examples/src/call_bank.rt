@@ -1,4 +1,6 @@
-//! Calls `bank`: one transfer that is done, and one that is not.
+//! Calls `bank`: caller 0 opens two accounts, and caller 1 moves a sum between them and then tries
+//! one that is too large. The accounts are printed at the end, and show that only the first sum was
+//! moved. `open` is an example of a work that states `Keeps`.
 ghost use Rattle.owned_map.specs.Keeps.{Keeps};
 
 use anyhow::Result;

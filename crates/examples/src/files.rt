@@ -1,4 +1,6 @@
-//! Runs the files of the folder `examples`, each by the engine of its command.
+//! Runs the files of the folder `examples`, each by the engine of its command: `replay`, `mix` or
+//! `check`. The command `run` is not among them. What it prints may depend on its threads, and the
+//! gate compares this program's output with a fixed text.
 use anyhow::anyhow;
 use boostmap_engine::{Fault, check, mix, replay};
 use std::alloc::Global;

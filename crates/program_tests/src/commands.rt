@@ -1,4 +1,6 @@
-//! The command line: which engine runs on which file, the two outputs, and the status.
+//! The program on a system in memory, with threads and without: both outputs and the status of each
+//! call. For seeds, the output is compared with the engine's; all other texts were written by hand.
+//! The contract lets `is_told` be false after a whole line; here only a cut line makes it false.
 
 use crate::devices::{Desk, Ended, Narrow, compare_ended};
 use boostmap_engine::mix;

@@ -1,4 +1,6 @@
-//! The engines: their output for whole files.
+//! Tests of the engines of the four commands. Here are the parts that they share: `run_on`, which
+//! ends a command as the program does, and `Files`, a row of similar files with one output. The one
+//! test here goes over the rows of the modules `replays`, `checks`, `mixes` and `runs`.
 
 mod checks;
 mod failing;

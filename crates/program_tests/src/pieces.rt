@@ -1,4 +1,6 @@
-//! Files of a kind that only this test has, drawings, as a reader of pieces reads them.
+//! Tests of `piece_files` on a kind of file that only this module has: drawings, which have at most
+//! three points. Four points are over that limit, so no text here is long. The expected contents,
+//! faults and elements were worked out by hand.
 
 ghost use Rattle.std.specs.Prelude.{◌==◌, false, not};
 ghost use Rattle.piece_files.specs.Elements.{two_of};

@@ -1,4 +1,6 @@
-//! Calls of callers as values, tables of them, and runs of a new map.
+//! Calls of a caller as values, and tables of them: what is asked (`Ask`), what must be answered
+//! (`Told`), and the functions that play a table. All other modules use these; no test is here. The
+//! functions have no contracts, so a test that plays a table is proved within seconds.
 use std::alloc::Global;
 use std::process::Abort;
 use striped_map::{Caller, Host, Stop, open_map};

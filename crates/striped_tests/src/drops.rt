@@ -1,4 +1,6 @@
-//! Callers that are dropped at every point of a transaction.
+//! Drops of a caller: before the first call of a transaction, and after each of its calls. No
+//! contract says that another caller is then granted the stripes. Here caller 2 takes all of them,
+//! and finds only the pairs from before the transaction.
 use crate::calls::{Ask, Home, NEW, Row, Told, has_left, open, play};
 use std::process::Abort;
 use txn_words::Op;

@@ -1,4 +1,6 @@
-//! Callers that catch up with one another.
+//! Callers that catch up with one another, on one thread and after they ran in threads. `catch_up`
+//! requires that both are of one map, so the functions here have clauses that say so. The balances
+//! were worked out by hand; the order of the threads does not change them.
 ghost use Rattle.std.specs.Prelude.{◌≡◌};
 
 use crate::calls::{Home, leaves, play};

@@ -1,4 +1,6 @@
-//! The state after calls that are refused memory. `docs/tests/refused.sh` refuses it to them.
+//! Calls that are refused memory: each is made once more, and must then answer as if nothing was
+//! refused. A call that is refused twice ends the test with that error. `docs/tests/refused.sh`
+//! refuses the memory; without it, the tests are plain worked runs.
 use crate::calls::{Ask, Home, NEW, Row, Told, answer, must, reads};
 use std::alloc::Global;
 use std::process::Abort;

@@ -1,4 +1,6 @@
-//! Worked runs of callers of a striped map, whose values were worked out by hand.
+//! Worked runs of one or two callers on one thread: each call with its answer, and the pairs that
+//! are left. All values were worked out by hand. The contracts let a call be refused memory, or be
+//! busy though the stripe is free. Here it is refused or busy only if its row says so.
 use crate::calls::{Ask, NEW, Told, Worked, play_worked};
 use txn_words::{Op, Refusal};
 

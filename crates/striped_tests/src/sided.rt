@@ -1,4 +1,6 @@
-//! Callers with a side value: each call, and its effect on the side value.
+//! Callers with a side value of four words: their calls as values, tables that also name the side
+//! value after each call, and a test of each call. `sided_limits` plays its tables by this module.
+//! The tables were made by hand. No contract says that a call succeeds while there is memory.
 ghost use Rattle.std.specs.Prelude.{◌≡◌, OnOk};
 
 use crate::calls::{self, Ask, Home, NEW, Told, has_left, must, open};

@@ -1,4 +1,6 @@
-//! Callers in threads, each in its own.
+//! Threads for callers: `in_threads` does a `Work` with each caller, in a thread for each. No test
+//! is here; `histories` and `transfers` name their work as a value. The closure of a thread scope
+//! has no `assert!` in it, since one is slow to prove there.
 use crate::calls::{Row, ask_row};
 use crate::transfers::{move_many, take_part};
 use std::process::Abort;

@@ -1,4 +1,6 @@
-//! Transfers between the accounts of a striped map, by one caller and by several in their threads.
+//! Tests of `transfer` of the crate `accounts`, by one caller and by several in their threads. No
+//! contract says that a transfer is made once its stripes are free. The balances were worked out by
+//! hand. After four threads have moved sums that look random, only the total is known.
 use crate::calls::{Ask, Home, NEW, Row, Told, answer, leaves, must, open, play};
 use crate::threads::{Work, in_threads};
 use accounts::transfer;

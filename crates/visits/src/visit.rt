@@ -1,4 +1,6 @@
-//! Visits of one map: what each visitor puts and gets, in its own thread.
+//! Visits of one map, each in its own thread: a visitor puts a value at a key and gets the key, in
+//! one transaction. `Visit` is the work of a thread, and promises what its transaction has seen.
+//! What `visit_all` ensures of the history of the map follows from these promises.
 ghost use Rattle.std.specs.Prelude.{◌≡◌, ◌⊎◌, IfOk, IfErr, length};
 ghost use Rattle.shared_transactions.specs.Keeps.{Keeps};
 ghost use Rattle.txn_words.specs.declared.refusal.Refusal.{Refusal};

@@ -1,4 +1,6 @@
-//! The output of `check` for history files.
+//! History files with the output of `check` for each; the test over them is in `engines`. Most of
+//! the histories are worked examples of `txn_trace`, which proves their verdicts. The rows test the
+//! rest: how a file is read, what its version admits, the line and the status.
 
 use super::mixes::{HISTORY_OF_VERSION_2, ONE_HISTORY};
 use super::{Command, Files};

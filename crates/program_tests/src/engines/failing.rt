@@ -1,4 +1,6 @@
-//! Readers and writers that fail, and memory that is refused.
+//! Readers and writers that fail at each call in turn, memory that is refused, and the lines of
+//! faults. No contract counts calls: here no call is made again after it failed. If memory is
+//! refused, by `docs/tests/refused.sh`, the output is empty or one of a few worked out by hand.
 
 use super::checks::{CHECKED, LEGAL};
 use super::mixes::{EMPTY_SCRIPT, SHORT_HISTORY};

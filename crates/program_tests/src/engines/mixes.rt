@@ -1,4 +1,6 @@
-//! The output of `mix` for script files.
+//! Script files with the output of `mix` for each. One worker has one history whatever the seed,
+//! which was worked out by hand. With three workers, each of 200 seeds must give one legal history
+//! in two runs. It must not be empty, though the contract allows that for lack of memory.
 
 use super::{Command, Files, compare_file, run_on};
 use crate::devices::Narrow;

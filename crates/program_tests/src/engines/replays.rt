@@ -1,4 +1,6 @@
-//! The output of `replay` for step files.
+//! Step files with the report of `replay` for each. A run is lines of steps with their answers
+//! behind them, worked out by hand; file and report are both made from these lines. One test puts
+//! 129 keys: its lines are made by a rule, and its report is compared up to the third pair.
 
 use super::{Command, Files, run_on};
 use crate::devices::{Ended, Narrow, compare_ended};

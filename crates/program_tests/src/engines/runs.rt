@@ -1,4 +1,6 @@
-//! The output of `run` for script files.
+//! Script files with the output of `run` for each. With one worker the history was worked out by
+//! hand. With more it depends on the threads: then `check` must find it legal, with no transaction
+//! open. It must not be empty either, though the contract allows that.
 
 use super::mixes::{BAD_KEY, ONE_WORKER, WORKERS_OF, judge};
 use super::{Command, Files, run_on};

@@ -1,4 +1,6 @@
-//! Script files: their content, and the first fault of each that is refused.
+//! Script files: the content of good ones and the first fault of bad ones, in tables made by hand.
+//! The contract of `read_scripts` says that it answers `scripts_of` of the bytes, unless memory is
+//! refused. The tables test that this definition is what `docs/FORMATS.md` describes.
 
 use super::{Files, Kind};
 use std::alloc::Global;
