@@ -1,4 +1,5 @@
-//! The reason why there is no call. It is an error with a text.
+//! The reason why there is no call. It is an error with a text, and names no engine: the programs
+//! turn it into a fault.
 ghost use Rattle.std.specs.Prelude.{◌≡◌};
 ghost use Rattle.command_line.specs.declared.no_call.NoCall.TheVariants.{NoMemory};
 

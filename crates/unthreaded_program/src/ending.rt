@@ -1,4 +1,5 @@
-//! The end of a call: the line of a fault on standard error, and the exit status.
+//! The end of a call: the line of a fault on standard error, and the exit status. Both programs end
+//! here, whatever ran before. The status does not depend on whether standard error takes the line.
 ghost use Rattle.std.specs.Prelude.{◌≡◌};
 ghost use Rattle.unthreaded_program.specs.Runs.{Tells, status_after};
 
