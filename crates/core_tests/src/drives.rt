@@ -1,4 +1,6 @@
-//! Drives of calls, turn by turn.
+//! Drives of calls, turn by turn, without a core: a row has the steps of a call, the answers that
+//! its drive is told, and its end. The contracts say that a drive follows `specs/Drives.antt` of
+//! `txn_drive`. The rows were made by hand and test what that definition means.
 use std::process::Abort;
 use txn_drive::{Call, Drive, End, Turn};
 use txn_words::{Answer, Limits, Op, Refusal, Step};

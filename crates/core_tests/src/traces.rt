@@ -1,4 +1,6 @@
-//! The vocabulary of transactions: numbers, texts, limits and seats.
+//! Tests of `txn_words`, the vocabulary of transactions: numbers, texts, limits and seats. The
+//! tables were written by hand and test what the definitions in its contracts mean. No contract
+//! says that a seat is given room for a savepoint.
 use std::alloc::{AllocError, Global};
 use std::process::Abort;
 use std::test::Fail;

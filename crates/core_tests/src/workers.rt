@@ -1,4 +1,6 @@
-//! Workers that run scripts, step by step.
+//! Workers of `script_worker` that run scripts, step by step, without a core. The contracts say
+//! that a worker follows `specs/Workers.antt`; the cases were made by hand and test what that
+//! means. Each is played twice: by `turn` and `told`, and by `take_turn`.
 use script_worker::{Finish, Stage, Worker};
 use std::alloc::{AllocError, Global};
 use std::process::Abort;

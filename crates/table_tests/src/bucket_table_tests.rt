@@ -1,4 +1,6 @@
-//! Tests of `bucket_table`: worked runs, and refused allocations.
+//! Tests of `bucket_table`: worked runs, and refused allocations. The contracts say what each call
+//! answers, but not that memory is given to it while there is some. The answers and the nodes of
+//! the list were worked out by hand. All calls are made by `home`.
 mod home;
 
 use bucket_table::{Double, InitLink, InitRefusal, InitSeek};

@@ -1,4 +1,5 @@
-//! Numbers that look random, the same in each run.
+//! Numbers that look random, the same in each run, so a failure can be repeated. The tests
+//! `probe_map_tests` and `stripe_part_tests` share them. No test is here.
 
 /// Drawn numbers, by a linear congruence (Knuth, "The Art of Computer Programming", volume 2,
 /// section 3.3.4, table 1, line 26).

@@ -1,4 +1,6 @@
-//! Tests of `list_steps`: worked runs, and drawn ones compared with a plain list.
+//! Tests of `list_steps`: worked runs, and five hundred drawn steps compared with a plain list of
+//! eight keys. No contract says that a spare is given while there is memory. A step requires that
+//! its cursor is placed, so the functions that are given a cursor have clauses.
 ghost use Rattle.std.specs.Prelude.{◌≡◌, ℕ, IfOk, IsTrue};
 ghost use Rattle.split_key.specs.Sort.{IsBefore, dummy_at, regular_at};
 ghost use Rattle.node_list.specs.Nodes.{IsOut, IsRegularAt, out_at};

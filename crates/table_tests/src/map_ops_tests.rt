@@ -1,4 +1,6 @@
-//! Tests of `map_ops`: the calls of a table that several of them share.
+//! Tests of `map_ops`; here are the calls of a table that several of the modules share. `runs` has
+//! worked runs, `split_keys` has keys that share a split key, and `refused` has refused memory. No
+//! contract says that a call is given memory while there is some.
 ghost use Rattle.std.specs.Prelude.{IfOk, IfSome};
 ghost use Rattle.map_ops.specs.Changes.{OwnsIf, ShowsAfter};
 

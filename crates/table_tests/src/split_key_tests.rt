@@ -1,4 +1,6 @@
-//! Tests of `split_key`: numbers that were worked out by hand.
+//! Tests of `split_key`: numbers that were worked out by hand. The contracts say how split keys,
+//! buckets and parents are ordered; the rows test the numbers themselves, also at the least and
+//! greatest keys. No call here takes memory, except for the text of `BadKey`.
 use split_key::{BadKey, Key, SortKey, bucket_at, bucket_of, dummy, parent, regular, reverse};
 use std::process::Abort;
 use std::test::Fail;

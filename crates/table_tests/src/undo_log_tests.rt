@@ -1,4 +1,6 @@
-//! Tests of `undo_log`: jobs of a count, a side value of four words, and refused allocations.
+//! Tests of `undo_log`: jobs of a count, a side value of four words, and refused allocations. No
+//! contract says that room is given while there is memory. The ninth job of a log is the first that
+//! may be refused, so no log here has more than nine. The values were worked out by hand.
 ghost use Rattle.std.specs.Prelude.{◌≡◌, length};
 
 use std::alloc::{AllocError, Global};

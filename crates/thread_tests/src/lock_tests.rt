@@ -1,4 +1,6 @@
-//! Holders of stripes, and the rights to them.
+//! Tests of `key_locks`: holders of stripes, and the rights to them. The contracts say how a lock
+//! is answered, but not that stripes and rights are given memory while there is some. The callers
+//! take turns on one thread; the answers were worked out by hand.
 ghost use Rattle.std.specs.Prelude.{◌≡◌, length};
 
 use key_locks::{CALLERS, KeyLocks, LockAnswer, StripeRight};

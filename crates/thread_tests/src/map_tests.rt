@@ -1,4 +1,6 @@
-//! Worked runs of callers of one map: by tables, by hand, in threads, and with memory refused.
+//! Tests of `locked_map`: worked runs of callers of one map, by tables, by hand, in threads, and
+//! with memory refused. This file only names the modules. The parts that they share with other
+//! tests are in `devices`.
 mod by_hand;
 mod cores;
 mod refused;

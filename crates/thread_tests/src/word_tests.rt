@@ -1,4 +1,6 @@
-//! Atomic words of stripes, with the rights that belong to them.
+//! Tests of `key_words`: atomic words of stripes, with the rights that belong to them. On one
+//! thread the answers were worked out by hand. With eight threads they depend on the threads; only
+//! the end is known then: all words are free.
 ghost use Rattle.std.specs.Prelude.{◌≡◌, [], length};
 ghost use Rattle.key_words.specs.Seats.{AreSeats, IsOf, known, stripes_of};
 

@@ -1,4 +1,6 @@
 //! Tests of maps of threads that begin with the pairs of a core, by `run_works_from` and `refill`.
+//! The contracts let both always answer that memory is refused; here they must not. The works look
+//! at keys by `looks`, which also counts the works that were started.
 ghost use Rattle.owned_map.specs.Keeps.{Keeps};
 
 use crate::looks::{go_on, have_same_pairs, looks};

@@ -1,4 +1,6 @@
-//! Operations that are asked for when stripes are words.
+//! Operations that are asked for when stripes are words, on a core made by `Core::with_words`. A
+//! step cannot ask there, so this module asks with the right to a stripe or with its word. The
+//! answers and the history were worked out by hand.
 use crate::devices::{core_of, is_history, limits_of, take_step};
 use boost_core::Core;
 use key_locks::StripeRight;

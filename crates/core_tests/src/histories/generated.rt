@@ -1,4 +1,6 @@
-//! Histories drawn from a seed, and histories with one fault.
+//! Histories drawn from a seed, and histories with one fault. `histories` judges them; no test is
+//! here. Which entries a caller may add is asked of `plain` and not of `history_check`, so the
+//! judge is never compared with itself.
 use super::plain::{self, Place};
 use std::alloc::{AllocError, Global};
 use txn_words::{Entry, Holder, Op};

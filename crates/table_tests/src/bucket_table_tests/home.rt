@@ -1,4 +1,5 @@
-//! Buckets with their list, as one value, so that their invariants hold without a test.
+//! Buckets with their list, as one value. Its invariant is what the calls of `Buckets` require of
+//! the two, so a test that makes calls by `Home` has nothing to prove about them. No test is here.
 ghost use Rattle.std.specs.Prelude.{◌≡◌};
 ghost use Rattle.bucket_table.specs.Home.{IsHome};
 ghost use Rattle.bucket_table.specs.Dummies.{IsKeyed};

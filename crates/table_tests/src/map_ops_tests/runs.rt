@@ -1,4 +1,6 @@
-//! Runs of steps on a table, in tables of rows: each step with its answer.
+//! Runs of steps on a table, in tables of rows: each step with its answer. A step is one call, or a
+//! few whose jobs or cursors belong together. The answers, the order of the pairs and the change
+//! numbers were worked out by hand. No contract says that a step is given memory.
 ghost use Rattle.std.specs.Prelude.{◌≡◌, true};
 ghost use Rattle.txn_words.specs.Map.{Map, get};
 ghost use Rattle.map_ops.specs.Jobs.{IsDue, key_of_job, spare_of_job};

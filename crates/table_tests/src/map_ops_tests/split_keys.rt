@@ -1,4 +1,6 @@
-//! Keys that share a split key.
+//! Keys that share a split key, sixteen pairs of them in one table. The replies follow from a rule,
+//! so a loop makes the calls, unlike in `runs`. Each lower key is taken, and other changes of the
+//! pair are taken back. Only the higher keys are left at the end.
 use super::{do_at_once, figures, new_table, there_and_back};
 use map_ops::Table;
 use std::process::Abort;

@@ -1,4 +1,6 @@
-//! Calls that are driven by hand, one hold of the lock at a time.
+//! Calls that are driven by hand, one hold of the lock at a time. `into_booked` takes the core out
+//! of its lock; each hold is then a call of `hold`, and a test can put another core in its place.
+//! The ends of the calls and the entries were worked out by hand.
 ghost use Rattle.std.specs.Prelude.{◌≡◌};
 ghost use Rattle.core_tokens.specs.Tokens.{HasTried};
 

@@ -1,4 +1,6 @@
-//! The state after calls that are refused memory, by `docs/tests/refused.sh`.
+//! The state after calls that are refused memory, by `docs/tests/refused.sh`. Without it, the tests
+//! are plain worked runs, whose ends were worked out by hand. No contract says that a refused call
+//! leaves its caller unchanged, or that a call is given memory while there is some.
 use crate::devices::{
     Play, Shared, callers_of, closed_of, has_left, is_refused, play_where_made, run, seen_by,
 };

@@ -1,4 +1,6 @@
-//! An observer of releases is told of each hold of the lock, once.
+//! An observer of releases is told of each hold of the lock, once. The observer is the caller's own
+//! type, so no contract can count the calls on it. The counts were worked out by hand from the
+//! steps of each call.
 use crate::devices::{Play, Shared, callers_in, play_with, run_heard};
 use boost_core::Call;
 use locked_map::{Caller, NoSide, OnRelease, Pass};

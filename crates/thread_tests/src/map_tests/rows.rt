@@ -1,4 +1,6 @@
 //! Calls by their names, in the order of a table, each compared with the answer that it must have.
+//! No contract says that a call is given memory while there is some, or that `help` grows the
+//! table. The answers were worked out by hand. `cores`, `threads` and `step_between` play rows too.
 use super::cores::step;
 use crate::devices::{
     Play, Shared, Told, callers_in, close, close_or_miss, closed_of, has_seen, is_history,

@@ -1,4 +1,6 @@
-//! Callers that each run in a thread, one after the other or all at the same time.
+//! Callers that each run in a thread, one after the other or all at the same time. No contract says
+//! that their calls do not give up. In turn they have one history, which was worked out by hand. At
+//! the same time the history depends on the threads, so it is only judged.
 ghost use Rattle.std.specs.Prelude.{◌≡◌};
 
 use super::rows::{Row, play_row};
