@@ -33,6 +33,9 @@ table_tests stripe_part_tests::refused_memory
 striped_tests refused::refused_memory
 striped_tests refused::refused_memory_with_room
 thread_tests lock_tests::a_stripe_is_held_until_its_holder_releases
+core_tests traces::savepoints_without_memory
+serial_tests histories::have_both_verdicts
+serial_tests histories::fed_entry_by_entry
 """
 # Tests that pass whichever single allocation is refused, or eight in a row, or all from one on.
 WHOLE = """
