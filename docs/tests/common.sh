@@ -3,7 +3,7 @@
 # folder, which is removed at the end.
 # shellcheck shell=bash disable=SC2154
 if [ ! -x "$program" ]; then
-  echo "$name: there is no $program: ./${program##*/} or rt ci builds it" >&2
+  echo "$name: there is no $program: rt ci builds it" >&2
   exit 1
 fi
 # The last command of a pipeline runs in this shell, so that its results are counted.
