@@ -1,4 +1,5 @@
-//! The sides of all callers, made at once, so that a core never takes memory for a caller later.
+//! The sides of all callers, idle. A core makes them at once, so no step makes one later. They are
+//! in one vector, in the order of the callers' numbers.
 ghost use Rattle.std.specs.Prelude.{◌≡◌, IfOk, length};
 ghost use Rattle.std.specs.List.{All};
 ghost use Rattle.boost_core.specs.Sessions.{IsIdle};

@@ -1,4 +1,5 @@
-//! The side value of callers that keep none: its words never change, and its jobs do nothing.
+//! The side value of callers that keep none: its words never change, and its jobs do nothing. So
+//! the calls of a caller are written once, for callers with and without a side value.
 use undo_log::Side;
 
 /// No side value, for callers that keep nothing beside the map: its words never change.

@@ -1,4 +1,5 @@
-//! A history as lines, one for each entry: the text of a store that records its own history.
+//! A history as lines, one for each entry: the text of a store that records its own history. The
+//! text is made as a whole, in time and memory in proportion to the entries.
 ghost use Rattle.std.specs.Prelude.{◌≡◌, [], ◌∷◌, ◌++◌, decimal, OnOk, IfOk, string_bytes};
 ghost use Rattle.std.specs.List.{join_with_byte};
 ghost use Rattle.txn_files.specs.HistoryText.{array_text, comma, optional_text, quoted};

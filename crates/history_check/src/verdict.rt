@@ -1,4 +1,5 @@
 //! The verdict on a history and the rule that an entry breaks, with the texts that `check` prints.
+//! Both judges, by locks and by the order of commits, answer these.
 ghost use Rattle.std.specs.Prelude.{◌≡◌};
 ghost use Rattle.history_check.specs.Verdicts.{number_of};
 

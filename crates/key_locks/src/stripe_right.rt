@@ -1,4 +1,5 @@
 //! The right to a stripe as a value that cannot be copied, so that no stripe can have two holders.
+//! All rights to the stripes of a map are made at once; afterwards a right is only handed on.
 ghost use Rattle.std.specs.Prelude.{◌≡◌, IfOk};
 ghost use Rattle.key_locks.specs.Rights.{AreAll};
 

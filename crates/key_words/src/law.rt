@@ -1,4 +1,5 @@
-//! A law of the words: a function that does nothing, whose contract is the law.
+//! A law of the words: a function that does nothing, whose contract is the law. So a crate above
+//! can cite it without naming a lemma of this crate.
 ghost use Rattle.key_words.specs.Laws.{HeldOnce};
 
 /// No stripe is held in two views.

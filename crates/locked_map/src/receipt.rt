@@ -1,4 +1,5 @@
-//! The receipt of a commit: two numbers with names, so that they are not mixed up.
+//! The receipt of a commit: two numbers with names, so that they are not mixed up. One counts the
+//! transactions that began, the other the commits.
 /// The answer to a commit.
 #[derive(Clone, Copy, Debug, PartialEq, Eq)]
 pub struct Receipt {

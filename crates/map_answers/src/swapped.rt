@@ -1,4 +1,5 @@
-//! The answer of a swap: whether the new value was put in place of the expected one.
+//! The answer of a swap: whether the new value was put in place of the expected one. It has a name,
+//! so that a caller reads `Swapped(false)` and not `false`.
 
 /// Whether a key had the expected value, or was absent as expected, so that the new value was put.
 #[derive(Clone, Copy, Debug, PartialEq, Eq)]

@@ -1,4 +1,5 @@
-//! A node's place or none, in half the memory of an option.
+//! A node's place or none, in half the memory of an option: a list of buckets keeps thousands of
+//! them. A contract sees it as the option, so no definition tells the two apart.
 ghost use Rattle.std.specs.Prelude.{◌≡◌, Some, None};
 
 use crate::node::NodeRef;

@@ -1,4 +1,5 @@
-//! The names of the pieces that a kind of file has, as a fault prints them.
+//! The names of the pieces that a kind of file has, as a fault prints them. Each kind of piece says
+//! which of them its pieces are.
 /// The kind of pieces that a file has. A fault names it with the index of a piece.
 #[derive(Clone, Copy, Debug, PartialEq, Eq)]
 pub enum Part {

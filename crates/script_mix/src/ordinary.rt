@@ -1,4 +1,5 @@
 //! A core whose stripes are not words, as a type: a worker's turn may then ask without a claim.
+//! That they are not is the type's invariant, so the loops over turns need not carry it.
 ghost use Rattle.std.specs.Prelude.{◌≡◌, false, IfOk};
 ghost use Rattle.boost_core.specs.Machine.{start};
 

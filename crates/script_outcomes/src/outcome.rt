@@ -1,4 +1,5 @@
-//! The outcome of a script, and its text. A run over a history writes one for each script.
+//! The outcome of a script, and its text. A run over a history writes one for each script, so a
+//! text is one line without its line feed.
 
 use std::fmt;
 

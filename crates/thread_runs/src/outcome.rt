@@ -1,4 +1,5 @@
-//! The outcomes of scripts. Both the account of a worker and the contract of a run use them.
+//! The outcomes of scripts. Both the account of a worker and the contract of a run use them. Only
+//! an outcome of a commit takes memory, for the replies.
 use txn_trace::{Refusal, Reply};
 
 /// The outcome of a script.

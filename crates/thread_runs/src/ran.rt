@@ -1,4 +1,5 @@
-//! The result of a run of scripts: an outcome for each script, and the history.
+//! The result of a run of scripts: an outcome for each script, and the history. The outcomes are in
+//! the order of the scripts, whichever worker ran them.
 use crate::outcome::Outcome;
 use txn_trace::SmallEntry;
 

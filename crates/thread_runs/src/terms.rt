@@ -1,4 +1,5 @@
 //! The terms of a run, named by a type, by which the promise of a worker's thread refers to them.
+//! They exist only in the proof, and cost nothing at run time.
 use std::marker::Brand;
 
 /// The number of workers of a run, how often each tries a script again, and the scripts. Contracts

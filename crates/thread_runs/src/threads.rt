@@ -1,4 +1,5 @@
 //! The workers' threads: started, each with its caller, and joined in the order of their numbers.
+//! If one cannot be started, those that were started finish before the run answers.
 ghost use Rattle.std.specs.Prelude.{◌≡◌, IfOk, IfErr, length, map};
 ghost use Rattle.core_tokens.specs.Tokens.{AreTickets};
 ghost use Rattle.thread_runs.specs.Each.{Each};

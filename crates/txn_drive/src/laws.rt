@@ -1,4 +1,5 @@
-//! The laws of drives: functions that do nothing, whose contracts are theorems about `specs/`.
+//! The laws of drives: functions that do nothing, whose contracts are theorems about `specs/`. So a
+//! crate above can cite a theorem without naming a lemma of this crate.
 
 ghost use Rattle.std.specs.Prelude.{◌≡◌, ◌≢◌, ℕ, ◌^◌, ◌<◌, ◌≤◌};
 ghost use Rattle.split_key.specs.Split.{parent_of, IsAncestor};

@@ -1,4 +1,5 @@
-//! Room for a part of a text, which is taken once: nothing that is put into it takes memory.
+//! Room for a part of a text, which is taken once: nothing that is put into it takes memory. A
+//! `HistoryPieces` fills it again and again, so a long text needs no more.
 ghost use Rattle.std.specs.Prelude.{◌≡◌, ◌↔◌, ◌+◌, ◌<◌, ◌≤◌, [], ◌++◌, IfOk, IsTrue, length};
 
 use std::alloc::{AllocError, Global};

@@ -1,4 +1,5 @@
-//! The laws of histories: functions that do nothing, whose contracts are the laws.
+//! The laws of histories: functions that do nothing, whose contracts are the laws. So a crate above
+//! can cite a law without naming a lemma of this crate.
 
 ghost use Rattle.std.specs.Prelude.{◌≡◌, ℕ, List};
 ghost use Rattle.txn_trace.specs.Erase.{erase};

@@ -1,4 +1,5 @@
-//! The operations on one key. Each replies the value that the key had before.
+//! The operations on one key. Each replies the value that the key had before. Here too is which of
+//! them may change the key, and how many entries one may still need to be taken back.
 ghost use Rattle.std.specs.Prelude.{◌≡◌};
 ghost use Rattle.txn_words.specs.Map.{key_of};
 ghost use Rattle.txn_words.specs.Shape.{changes};
