@@ -17,9 +17,10 @@
 # has kept. Standard error shows the progress. If the build fails, the status is 125, which no other call
 # returns. RT names a command to run instead of rt.
 #
-# A crate is proved as soon as those below it are, by the prover that `rt` calls. The crate for which the
-# most others wait gets all processors. Beside it, other crates that are ready get one process each, at a
-# lower priority: they take what it leaves. `rt ci` would prove the same with the same words, but gives
+# A crate is proved as soon as those below it are, by the prover that `rt` calls: the crate for which the
+# most others wait by most of the processors, and beside it others that are ready by one process each.
+# All have the same priority. With a lower one the others would take only what the first leaves, and at
+# the end the last crates would wait for them. `rt ci` would prove the same with the same words, but gives
 # the last crates, each of which waits for the one before, one process.
 # shellcheck shell=bash disable=SC2154
 
@@ -132,12 +133,12 @@ keep_or_drop() {
     mkdir -- "$kept" && mv -- "$work"/*.rlib "$kept" && "${RT:-rt}" version >"$kept/toolchain"
 }
 
-# Proves a crate over the libraries that it names, by this many processes that are this much nicer than
-# the caller's, and builds it in $work. It takes over the process that calls it.
+# Proves a crate over the libraries that it names, by this many processes, and builds it in $work. It takes
+# over the process that calls it.
 prove() {
-    local name=$1 jobs=$2 niceness=$3 library kit
+    local name=$1 jobs=$2 library kit
     local -a words
-    shift 3
+    shift 2
     kit=$(dirname -- "$("${RT:-rt}" doc)") || return 1
     words=(--crate-name "$name" --links "$name=" --jobs "$jobs" --extern "std=$kit/rlibs/std.rlib"
         -L "dependency=$work" -L "dependency=$kit/rlibs" --logic-built "$kit/logic_built"
@@ -151,7 +152,7 @@ prove() {
     done
     cd -- "$root/crates/$name" || return 1
     if [ "$name" != "$program" ]; then
-        exec nice -n "$niceness" "$kit/bin/rattle" build src/lib.rt "${words[@]}" --statements -o "$work/$name.rlib"
+        exec "$kit/bin/rattle" build src/lib.rt "${words[@]}" --statements -o "$work/$name.rlib"
     fi
     "$kit/bin/rattle" build src/main.rt "${words[@]}" --toolchain "$kit/toolchain" --backend llvm \
         -o "$work/$name.o" &&
@@ -167,21 +168,29 @@ is_ready() {
     done
 }
 
-# Begins the crates that are ready, as many as may run. A crate that runs by one process leaves the other
-# processors to the next.
+# Begins the crates that are ready, as many as may run. The first of the order gets all processors but
+# one, or all of them if no other crate runs or is ready. Each other gets one process.
 begin_ready() {
-    local name all=free
+    local name jobs first=''
+    local -i ready=0
+    for name in $order; do
+        if [ -z "${begun[$name]+set}" ] && is_ready "$name"; then ready+=1; fi
+    done
     for name in $order; do
         [ -z "${proved[$name]+set}" ] || continue
         if [ -z "${begun[$name]+set}" ] && [ ${#running[@]} -lt "$most" ] && is_ready "$name"; then
-            begun[$name]='1 10'
-            [ -z "$all" ] || begun[$name]="$(nproc) 0"
-            # The processes with their niceness, and the libraries, are several words.
+            jobs=1
+            if [ -z "$first" ]; then
+                jobs=$(nproc)
+                [ $((ready + ${#running[@]})) = 1 ] || [ "$jobs" = 1 ] || jobs=$((jobs - 1))
+            fi
+            begun[$name]=${first:-first}
+            # The libraries are several words.
             # shellcheck disable=SC2086
-            prove "$name" ${begun[$name]} ${needs[$name]} >"$work/$name.log" 2>&1 </dev/null &
+            prove "$name" "$jobs" ${needs[$name]} >"$work/$name.log" 2>&1 </dev/null &
             running[$!]=$name
         fi
-        [ "${begun[$name]:-1 10}" = '1 10' ] || all=
+        [ "${begun[$name]-}" != first ] || first=beside
     done
 }
 

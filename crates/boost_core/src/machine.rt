@@ -23,7 +23,7 @@ use map_ops::Table;
 use std::alloc::{AllocError, Global};
 use std::collections::BTreeMap;
 use std::marker::Model;
-use txn_trace::{Answer, Limits, Refusal, SmallEntry, Step, entry_of};
+use txn_trace::{Answer, Limits, Refusal, SmallEntry, Step, entry_of, make_room};
 
 /// A transactional map for 1 to 64 callers, its history, and the state of each caller: boosted
 /// transactions (Herlihy and Koskinen, PPoPP 2008, rules 2 and 3) over a split-ordered hash table
@@ -94,15 +94,21 @@ impl Core {
         ensures ok { IfOk result (λ core. core ≡ start limits) }
         ensures err { IfErr result (λ refusal. refusal ≡ Refusal.NoMemory) }
     {
-        Core::make(alloc, limits, false)
+        Core::make(alloc, limits, false, 0)
     }
 
-    /// A new core, whose stripes are words or not.
-    pub(crate) fn make(alloc: Global, limits: Limits, words: bool) -> Result<Core, Refusal>
+    /// A new core, whose stripes are words or not, with the memory for this many nodes.
+    pub(crate) fn make(
+        alloc: Global,
+        limits: Limits,
+        words: bool,
+        nodes: usize,
+    ) -> Result<Core, Refusal>
         ensures ok { IfOk result (λ core. core ≡ record (start limits) { words = words }) }
         ensures err { IfErr result (λ refusal. refusal ≡ Refusal.NoMemory) }
     {
-        let Ok(table) = Table::new(alloc, limits.buckets(), limits.callers()) else {
+        let Ok(table) = Table::with_capacity(alloc, limits.buckets(), limits.callers(), nodes)
+        else {
             return Err(Refusal::NoMemory);
         };
         let Ok(sessions) = idle_sessions(alloc, limits.callers() as usize) else {
@@ -277,8 +283,9 @@ impl Core {
         &self.history
     }
 
-    /// Makes room in the history for this many more entries, besides those that callers owe, so
-    /// that it need not grow while they are added. Nothing else changes.
+    /// Makes room in the history for this many more entries, besides those that callers owe, and
+    /// writes all of its room once. So while they are added it need not grow, and touches no page
+    /// for the first time. The core is unchanged.
     ///
     /// # Errors
     ///
@@ -286,11 +293,11 @@ impl Core {
     ///
     /// # Cost
     ///
-    /// One allocation, and a copy of the history if there is one.
+    /// Time in proportion to the room; one allocation, and a copy of the history if there is one.
     pub fn reserve(&mut self, entries: usize) -> Result<(), AllocError>
         ensures { self.new ≡ self.old }
     {
-        self.history.reserve(self.owed.saturating_add(entries))
+        make_room(&mut self.history, self.owed.saturating_add(entries))
     }
 
     /// The map now: the one that the committed transactions left, with the standing changes of the

@@ -32,7 +32,25 @@ impl Core {
         ensures ok { IfOk result (λ core. core ≡ start_with_words limits) }
         ensures err { IfErr result (λ refusal. refusal ≡ Refusal.NoMemory) }
     {
-        Core::make(alloc, limits, true)
+        Core::with_capacity(alloc, limits, 0)
+    }
+
+    /// `with_words`, and takes the memory for this many nodes of the table at once, and writes it.
+    /// So while they come the table's list need not grow, and touches no page for the first time.
+    /// `reserve` does the same for the history.
+    ///
+    /// # Errors
+    ///
+    /// `Refusal::NoMemory` if memory is refused.
+    ///
+    /// # Cost
+    ///
+    /// That of `with_words`, and time and memory in proportion to the nodes, 40 bytes for each.
+    pub fn with_capacity(alloc: Global, limits: Limits, nodes: usize) -> Result<Core, Refusal>
+        ensures ok { IfOk result (λ core. core ≡ start_with_words limits) }
+        ensures err { IfErr result (λ refusal. refusal ≡ Refusal.NoMemory) }
+    {
+        Core::make(alloc, limits, true, nodes)
     }
 
     /// Whether stripes are words: no step changes it.

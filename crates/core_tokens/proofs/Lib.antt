@@ -8,7 +8,7 @@ pub mod Suiting
 pub mod Stepping
 pub mod Quiet
 pub mod Going
-pub mod Room
+pub mod SeenRoom
 pub mod Holding
 pub mod Refusing
 pub mod Readying

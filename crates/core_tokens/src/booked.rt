@@ -7,6 +7,7 @@ ghost use Rattle.core_tokens.specs.Tokens.{AreCounted, AreTickets};
 
 use crate::caller::Caller;
 use crate::pass::{Pass, passes_of, words_of};
+use crate::room::Room;
 use boost_core::Core;
 use std::alloc::{AllocError, Global};
 use std::sync::ledger::{Blank, Book, Ledger, Share};
@@ -55,11 +56,11 @@ impl<L: Ledger> Booked<L> {
         ensures passes { IfOk result (λ r. AreTickets limits r.1.items) }
         ensures err { IfErr result (λ refusal. refusal ≡ Refusal.NoMemory) }
     {
-        Booked::with_capacity(alloc, blank, limits, 0)
+        Booked::with_room(alloc, blank, limits, Room::default())
     }
 
-    /// `new`, and takes the room for this many entries of the history at once; if that is refused,
-    /// the history grows as entries are added.
+    /// `new`, and takes this room at once; if the memory for it is refused, history and table grow
+    /// as they are used.
     ///
     /// # Errors
     ///
@@ -67,12 +68,13 @@ impl<L: Ledger> Booked<L> {
     ///
     /// # Cost
     ///
-    /// That of `new`, and the memory for the entries.
-    pub fn with_capacity(
+    /// That of `new`, and time and memory in proportion to the room: 32 bytes for an entry, 40 for a
+    /// node.
+    pub fn with_room(
         alloc: Global,
         blank: Blank,
         limits: Limits,
-        entries: usize,
+        room: Room,
     ) -> Result<(Booked<L>, Vec<Pass<L>>), Refusal>
         requires name { blank.name ≡ L.name }
         requires parts { blank.parts ≡ L.parts }
@@ -83,8 +85,11 @@ impl<L: Ledger> Booked<L> {
     {
         let (book, mut all) = blank.open::<L>();
         let none = all.empty();
-        let mut core = Core::with_words(alloc, limits)?;
-        let _room = core.reserve(entries);
+        let mut core = match Core::with_capacity(alloc, limits, room.nodes) {
+            Ok(core) => core,
+            Err(_) => Core::with_words(alloc, limits)?,
+        };
+        let _entries = core.reserve(room.entries);
         let booked = Booked { core, book, none };
         let (words, seats) = words_of(alloc, limits)?;
         match passes_of(alloc, limits, words, seats, &mut all) {

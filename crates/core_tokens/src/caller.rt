@@ -124,8 +124,9 @@ impl<L: Ledger, S: Side> Caller<L, S> {
         self.seen.entries()
     }
 
-    /// Makes room in `seen` for this many more entries, so that it need not grow while they are
-    /// added. The token is unchanged.
+    /// Makes room in `seen` for this many more entries, and writes all of its room once. So while
+    /// they are added it need not grow, and touches no page for the first time. The token is
+    /// unchanged.
     ///
     /// # Errors
     ///
@@ -133,7 +134,7 @@ impl<L: Ledger, S: Side> Caller<L, S> {
     ///
     /// # Cost
     ///
-    /// One allocation, and a copy of the entries if there are any.
+    /// Time in proportion to the room; one allocation, and a copy of the entries if there are any.
     pub fn reserve(&mut self, entries: usize) -> Result<(), AllocError>
         ensures { self.new ≡ self.old }
     {
@@ -211,6 +212,7 @@ impl<L: Ledger, S: Side> Caller<L, S> {
         if !take_turn(&mut self.seen, &self.claims, booked, drive, turn) {
             return Some(End::Refused(Refusal::NoMemory));
         }
+        // The history is legal.
         let _core = booked.core.trace();
         let end = drive.ended();
         self.is_broken = breaks(self.seen.is_whole(), drive.call, end);
@@ -358,6 +360,7 @@ impl<L: Ledger, S: Side> Caller<L, S> {
         ensures claims { self.new.claims ≡ claims_at end self.old.claims }
     {
         self.claims.follow(end);
+        // The side value has a level 0.
         let _levels = self.side.level();
         match end {
             End::Answered(Answer::Began(_) | Answer::Committed(_)) => self.side.settle(),

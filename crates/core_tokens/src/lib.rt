@@ -34,6 +34,7 @@ mod ends;
 pub mod laws;
 mod no_side;
 mod pass;
+mod room;
 mod seen;
 mod turns;
 
@@ -41,3 +42,4 @@ pub use booked::Booked;
 pub use caller::Caller;
 pub use no_side::{NoJob, NoSide};
 pub use pass::Pass;
+pub use room::Room;

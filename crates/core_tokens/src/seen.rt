@@ -13,7 +13,9 @@ ghost use Rattle.core_tokens.specs.Tokens.{is_over};
 use std::alloc::{AllocError, Global};
 use std::marker::Model;
 use std::sync::ledger::{Book, Ledger, Share};
-use txn_trace::{Answer, Entry, Limits, Phase, Refusal, Seat, SmallEntry, Step, entry_of};
+use txn_trace::{
+    Answer, Entry, Limits, Phase, Refusal, Seat, SmallEntry, Step, entry_of, make_room,
+};
 
 /// The entries that a caller's calls have added, in order, and the seat that they give it.
 ///
@@ -106,7 +108,7 @@ impl<L: Ledger> Seen<L> {
         self.seat.refusal(limits, step)
     }
 
-    /// Makes room for this many more entries.
+    /// Makes room for this many more entries, and writes all of its room once.
     ///
     /// # Errors
     ///
@@ -114,7 +116,7 @@ impl<L: Ledger> Seen<L> {
     pub(crate) fn reserve_entries(&mut self, entries: usize) -> Result<(), AllocError>
         ensures { self.new.entries ≡ self.old.entries }
     {
-        self.entries.reserve(entries)
+        make_room(&mut self.entries, entries)
     }
 
     /// Makes room for the entry that a step may add, and for all that is owed after it.
@@ -129,6 +131,7 @@ impl<L: Ledger> Seen<L> {
         ensures ok { OnOk result (HasRoomFor self.new step) }
         ensures full { OnErr result (HasRoomFor self.old step → ⊥) }
     {
+        // There is room for all that is owed.
         let _seen = self.entries();
         if !adds_entry(step) {
             return Ok(());
@@ -151,6 +154,7 @@ impl<L: Ledger> Seen<L> {
         ensures book { book.new.total ≡ book.old.total + length (entries_of step answer) }
         ensures same { entries_of step answer ≡ [] → self.new ≡ self.old }
     {
+        // There is room for all that is owed.
         let _seen = self.entries();
         let Some(entry) = entry_of(step, answer) else {
             return;

@@ -59,6 +59,7 @@ fn take_one<L: Ledger>(
     ensures { TurnTaken claims.now.tried booked.old.core seen.old.entries drive.old
         (Turn.One step) result booked.new.core seen.new.entries drive.new }
 {
+    // `seen` has room for all that is owed.
     let _seen = seen.entries();
     if seen.reserve(step).is_err() {
         return false;
@@ -102,6 +103,7 @@ fn take_two<L: Ledger>(
     ensures { TurnTaken claims.now.tried booked.old.core seen.old.entries drive.old
         (Turn.Two first second) result booked.new.core seen.new.entries drive.new }
 {
+    // `seen` has room for all that is owed.
     let _seen = seen.entries();
     if seen.reserve(second).is_err() {
         return false;
@@ -142,11 +144,13 @@ fn take<L: Ledger>(
         book,
         none: _,
     } = booked;
+    // The history is legal before and after, with callers that a small entry can hold.
     let _before = core.trace();
     let answer = claims.step(core, step);
     let _after = core.trace();
     let _fits = core.limits().callers();
     seen.note(book, step, answer);
+    // There are fewer than 2^63 entries.
     let _seen = seen.entries();
     drive.told(answer);
     answer

@@ -376,6 +376,7 @@ impl<L: Ledger> SharedMap<L> {
         ensures claims { OnOk result (me.new.claims ≡ me.old.claims) }
         ensures leaves { Leaves S.words_of me.old (Call.Help key) result me.new }
     {
+        // The entries of a token that is not broken have rows.
         let _seen = me.seen();
         match self.call(rt, me, Call::Help(key))? {
             End::Helped => Ok(()),

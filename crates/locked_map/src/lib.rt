@@ -43,7 +43,7 @@ mod shared_map;
 mod unclosed;
 
 pub use closed::Closed;
-pub use core_tokens::{Booked, Caller, NoJob, NoSide, Pass, laws};
+pub use core_tokens::{Booked, Caller, NoJob, NoSide, Pass, Room, laws};
 pub use map_answers::Stop;
 pub use receipt::Receipt;
 pub use shared_map::{OnRelease, SharedMap};

@@ -11,7 +11,7 @@ ghost use Rattle.txn_words.specs.declared.holder.Holder.TheVariants.{Begun};
 ghost use Rattle.txn_trace.specs.Legal.{IsLegal};
 
 use boost_core::{Call, Drive, End};
-use core_tokens::{Booked, Caller, Pass};
+use core_tokens::{Booked, Caller, Pass, Room};
 use map_answers::Stop;
 use std::alloc::Global;
 use std::sync::ledger::{Blank, Ledger};
@@ -68,11 +68,11 @@ impl<L: Ledger> SharedMap<L> {
         ensures passes { IfOk result (λ r. AreTickets limits r.1.items) }
         ensures err { IfErr result (λ refusal. refusal ≡ Refusal.NoMemory) }
     {
-        SharedMap::with_capacity(alloc, blank, limits, 0)
+        SharedMap::with_room(alloc, blank, limits, Room::default())
     }
 
-    /// `new`, and takes the room for this many entries of the history at once; if that is refused,
-    /// the history grows as entries are added.
+    /// `new`, and takes this room at once; if the memory for it is refused, history and table grow
+    /// as they are used.
     ///
     /// # Errors
     ///
@@ -80,12 +80,13 @@ impl<L: Ledger> SharedMap<L> {
     ///
     /// # Cost
     ///
-    /// That of `new`, and the memory for the entries.
-    pub fn with_capacity(
+    /// That of `new`, and time and memory in proportion to the room: 32 bytes for an entry, 40 for a
+    /// node.
+    pub fn with_room(
         alloc: Global,
         blank: Blank,
         limits: Limits,
-        entries: usize,
+        room: Room,
     ) -> Result<(SharedMap<L>, Vec<Pass<L>>), Refusal>
         requires name { blank.name ≡ L.name }
         requires parts { blank.parts ≡ L.parts }
@@ -94,7 +95,7 @@ impl<L: Ledger> SharedMap<L> {
         ensures passes { IfOk result (λ r. AreTickets limits r.1.items) }
         ensures err { IfErr result (λ refusal. refusal ≡ Refusal.NoMemory) }
     {
-        let (booked, passes) = Booked::with_capacity(alloc, blank, limits, entries)?;
+        let (booked, passes) = Booked::with_room(alloc, blank, limits, room)?;
         let booked = Mutex::new(booked);
         Ok((SharedMap { booked, limits }, passes))
     }
@@ -115,6 +116,7 @@ impl<L: Ledger> SharedMap<L> {
     {
         let SharedMap { booked, limits: _ } = self;
         let booked = booked.into_inner();
+        // The history is legal.
         let _legal = booked.core.trace();
         booked
     }

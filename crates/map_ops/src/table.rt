@@ -70,7 +70,30 @@ impl Table {
         requires least { 2 ≤ max }
         ensures { IfOk result (λ table. IsNew table max callers) }
     {
-        let list = NodeList::new(alloc, 0)?;
+        Table::with_capacity(alloc, max, callers, 0)
+    }
+
+    /// `new`, and takes the memory for this many nodes at once, and writes it. There is a node for
+    /// each key, for each key that is taken and not yet swept, and for each stored bucket.
+    ///
+    /// # Errors
+    ///
+    /// `AllocError` if memory is refused.
+    ///
+    /// # Cost
+    ///
+    /// That of `new`, and time and memory in proportion to the nodes, 40 bytes for each.
+    pub fn with_capacity(
+        alloc: Global,
+        max: u32,
+        callers: u32,
+        nodes: usize,
+    ) -> Result<Table, AllocError>
+        requires power { (exponent : ℕ) × (max ≡ 2 ^ exponent) }
+        requires least { 2 ≤ max }
+        ensures { IfOk result (λ table. IsNew table max callers) }
+    {
+        let list = NodeList::with_capacity(alloc, 0, nodes)?;
         let buckets = Buckets::new(alloc, max, callers, &list)?;
         Ok(Table { list, buckets })
     }

@@ -11,13 +11,13 @@ use crate::ran::Ran;
 use crate::terms::Terms;
 use crate::threads::in_threads;
 use crate::worker::{Orders, WorkerReport};
-use locked_map::{Caller, NoSide, SharedMap};
+use locked_map::{Caller, NoSide, Room, SharedMap};
 use std::alloc::{AllocError, Global};
 use std::marker::{Brand, PhantomData};
 use std::sync::Wait;
 use std::sync::ledger::{Blank, Ledger};
 use std::thread::Threads;
-use txn_trace::{Limits, Refusal, Script};
+use txn_trace::{Action, Limits, Op, PackedAction, Refusal, Script};
 
 /// Runs each script in the thread of its worker, on a new map. There are as many workers as the
 /// limits have callers: script `i` belongs to worker `i` modulo the workers, and worker `w` is
@@ -87,13 +87,13 @@ fn run_under<L: Ledger + Send + Sync, T: Terms + Send + Sync, G: Gate, R: Thread
     ensures ran { IfOk result (IsRunOf limits workers tries scripts.now) }
     ensures err { IfErr result IsRunRefusal }
 {
-    let entries = entries_of(scripts);
-    let (map, passes) = SharedMap::<L>::with_capacity(alloc, blank, limits, entries)?;
+    let room = room_for(scripts, limits);
+    let (map, passes) = SharedMap::<L>::with_room(alloc, blank, limits, room)?;
     let orders = Orders::<L, G, T> {
         map: &map,
         scripts,
         workers,
-        entries: entries / workers,
+        entries: room.entries / workers,
         tries,
         gate,
         terms: PhantomData,
@@ -116,15 +116,28 @@ fn run_under<L: Ledger + Send + Sync, T: Terms + Send + Sync, G: Gate, R: Thread
     }
 }
 
-/// The most entries that scripts add if no attempt is repeated: two for each action, a begin and an
-/// end.
-fn entries_of(scripts: &[Script]) -> usize {
-    let mut entries = 0usize;
+/// Room for all that scripts add if no attempt is repeated: two entries for each action, and a begin
+/// and an end for each script; a node for each put, and for each bucket, of which the table has no
+/// more than it has keys.
+fn room_for(scripts: &[Script], limits: Limits) -> Room {
+    let mut room = Room::default();
     for script in scripts {
-        let own = script.actions().len().saturating_mul(2).saturating_add(2);
-        entries = entries.saturating_add(own);
+        let actions = script.actions();
+        let entries = actions.len().saturating_mul(2).saturating_add(2);
+        room.entries = room.entries.saturating_add(entries);
+        room.nodes = room.nodes.saturating_add(puts_in(actions));
     }
-    entries
+    let buckets = room.nodes.min(limits.buckets() as usize);
+    room.nodes = room.nodes.saturating_add(buckets);
+    room
+}
+
+/// The number of actions that may put a key.
+fn puts_in(actions: &[PackedAction]) -> usize {
+    actions
+        .iter()
+        .filter(|packed| matches!(packed.action(), Action::Op(Op::Put(..) | Op::PutIf(..))))
+        .count()
 }
 
 /// The callers of the reports, and each caller's outcomes, the last one first.

@@ -1,5 +1,5 @@
 use Rattle.std.proofs.Common.{sym}
-use Rattle.core_tokens.proofs.Room.{room_for_none}
+use Rattle.core_tokens.proofs.SeenRoom.{room_for_none}
 use Rattle.core_tokens.proofs.seen.Seen.reserve.Goals as goal
 
 pub returns-then-not-adds_entry-clause-ok : goal.returns-then-not-adds_entry-clause-ok
