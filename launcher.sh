@@ -169,12 +169,12 @@ is_ready() {
 }
 
 # Begins the crates that are ready, as many as may run. The first of the order gets all processors but
-# one, or all of them if no other crate runs or is ready. Each other gets one process.
+# one, or all of them if no other crate can run beside it. Each other gets one process.
 begin_ready() {
-    local name jobs first=''
+    local name jobs beside first=''
     local -i ready=0
     for name in $order; do
-        if [ -z "${begun[$name]+set}" ] && is_ready "$name"; then ready+=1; fi
+        if [ -z "${begun[$name]+set}${proved[$name]+set}" ] && is_ready "$name"; then ready+=1; fi
     done
     for name in $order; do
         [ -z "${proved[$name]+set}" ] || continue
@@ -182,7 +182,8 @@ begin_ready() {
             jobs=1
             if [ -z "$first" ]; then
                 jobs=$(nproc)
-                [ $((ready + ${#running[@]})) = 1 ] || [ "$jobs" = 1 ] || jobs=$((jobs - 1))
+                beside=$((ready + ${#running[@]} - 1))
+                if [ $beside -gt 0 ] && [ "$most" -gt 1 ] && [ "$jobs" -gt 1 ]; then jobs=$((jobs - 1)); fi
             fi
             begun[$name]=${first:-first}
             # The libraries are several words.
