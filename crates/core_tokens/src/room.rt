@@ -1,4 +1,6 @@
-//! The memory that a core takes when it is made, so that it takes none while its lock is held.
+//! How much memory a core takes when it is made. One that grows while its lock is held keeps the other
+//! callers waiting, for each copy and for each page that it touches for the first time. So whoever
+//! knows what is to come takes the room before.
 
 /// How much memory a core takes at once when it is made. It writes that memory too, so that no page
 /// of it is touched for the first time by a step, under the lock. With the default it takes none.
