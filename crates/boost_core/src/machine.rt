@@ -23,7 +23,7 @@ use map_ops::Table;
 use std::alloc::{AllocError, Global};
 use std::collections::BTreeMap;
 use std::marker::Model;
-use txn_trace::{Answer, Limits, Refusal, SmallEntry, Step, entry_of, make_room};
+use txn_trace::{Answer, Limits, Refusal, SmallEntry, Step, entry_of};
 
 /// A transactional map for 1 to 64 callers, its history, and the state of each caller: boosted
 /// transactions (Herlihy and Koskinen, PPoPP 2008, rules 2 and 3) over a split-ordered hash table
@@ -283,9 +283,8 @@ impl Core {
         &self.history
     }
 
-    /// Makes room in the history for this many more entries, besides those that callers owe, and
-    /// writes all of its room once. So while they are added it need not grow, and touches no page
-    /// for the first time. The core is unchanged.
+    /// Makes room in the history for this many more entries, besides those that callers owe, so
+    /// that it need not grow while they are added. Nothing else changes.
     ///
     /// # Errors
     ///
@@ -293,11 +292,11 @@ impl Core {
     ///
     /// # Cost
     ///
-    /// Time in proportion to the room; one allocation, and a copy of the history if there is one.
+    /// One allocation, and a copy of the history if there is one.
     pub fn reserve(&mut self, entries: usize) -> Result<(), AllocError>
         ensures { self.new ≡ self.old }
     {
-        make_room(&mut self.history, self.owed.saturating_add(entries))
+        self.history.reserve(self.owed.saturating_add(entries))
     }
 
     /// The map now: the one that the committed transactions left, with the standing changes of the

@@ -35,9 +35,8 @@ impl Core {
         Core::with_capacity(alloc, limits, 0)
     }
 
-    /// `with_words`, and takes the memory for this many nodes of the table at once, and writes it.
-    /// So while they come the table's list need not grow, and touches no page for the first time.
-    /// `reserve` does the same for the history.
+    /// `with_words`, and takes the memory for this many nodes of the table at once, so that its list
+    /// need not grow while they come. `reserve` does the same for the history.
     ///
     /// # Errors
     ///
@@ -45,7 +44,7 @@ impl Core {
     ///
     /// # Cost
     ///
-    /// That of `with_words`, and time and memory in proportion to the nodes, 40 bytes for each.
+    /// That of `with_words`, and 40 bytes of memory for each node.
     pub fn with_capacity(alloc: Global, limits: Limits, nodes: usize) -> Result<Core, Refusal>
         ensures ok { IfOk result (λ core. core ≡ start_with_words limits) }
         ensures err { IfErr result (λ refusal. refusal ≡ Refusal.NoMemory) }

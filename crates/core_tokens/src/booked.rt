@@ -68,8 +68,7 @@ impl<L: Ledger> Booked<L> {
     ///
     /// # Cost
     ///
-    /// That of `new`, and time and memory in proportion to the room: 32 bytes for an entry, 40 for a
-    /// node.
+    /// That of `new`, and the memory for the room: 32 bytes for an entry, 40 for a node.
     pub fn with_room(
         alloc: Global,
         blank: Blank,

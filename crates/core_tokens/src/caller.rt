@@ -124,9 +124,8 @@ impl<L: Ledger, S: Side> Caller<L, S> {
         self.seen.entries()
     }
 
-    /// Makes room in `seen` for this many more entries, and writes all of its room once. So while
-    /// they are added it need not grow, and touches no page for the first time. The token is
-    /// unchanged.
+    /// Makes room in `seen` for this many more entries, so that it need not grow while they are
+    /// added. The token is unchanged.
     ///
     /// # Errors
     ///
@@ -134,7 +133,7 @@ impl<L: Ledger, S: Side> Caller<L, S> {
     ///
     /// # Cost
     ///
-    /// Time in proportion to the room; one allocation, and a copy of the entries if there are any.
+    /// One allocation, and a copy of the entries if there are any.
     pub fn reserve(&mut self, entries: usize) -> Result<(), AllocError>
         ensures { self.new ≡ self.old }
     {

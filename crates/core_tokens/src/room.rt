@@ -1,9 +1,9 @@
 //! How much memory a core takes when it is made. One that grows while its lock is held keeps the other
-//! callers waiting, for each copy and for each page that it touches for the first time. So whoever
-//! knows what is to come takes the room before.
+//! callers waiting, since each growth copies what is there. So whoever knows what is to come takes
+//! the room before.
 
-/// How much memory a core takes at once when it is made. It writes that memory too, so that no page
-/// of it is touched for the first time by a step, under the lock. With the default it takes none.
+/// How much memory a core takes at once when it is made, so that it need not grow under the lock.
+/// With the default it takes none.
 #[derive(Clone, Copy, Debug, Default)]
 pub struct Room {
     /// The entries of the history.

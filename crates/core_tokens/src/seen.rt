@@ -13,9 +13,7 @@ ghost use Rattle.core_tokens.specs.Tokens.{is_over};
 use std::alloc::{AllocError, Global};
 use std::marker::Model;
 use std::sync::ledger::{Book, Ledger, Share};
-use txn_trace::{
-    Answer, Entry, Limits, Phase, Refusal, Seat, SmallEntry, Step, entry_of, make_room,
-};
+use txn_trace::{Answer, Entry, Limits, Phase, Refusal, Seat, SmallEntry, Step, entry_of};
 
 /// The entries that a caller's calls have added, in order, and the seat that they give it.
 ///
@@ -108,7 +106,7 @@ impl<L: Ledger> Seen<L> {
         self.seat.refusal(limits, step)
     }
 
-    /// Makes room for this many more entries, and writes all of its room once.
+    /// Makes room for this many more entries.
     ///
     /// # Errors
     ///
@@ -116,7 +114,7 @@ impl<L: Ledger> Seen<L> {
     pub(crate) fn reserve_entries(&mut self, entries: usize) -> Result<(), AllocError>
         ensures { self.new.entries ≡ self.old.entries }
     {
-        make_room(&mut self.entries, entries)
+        self.entries.reserve(entries)
     }
 
     /// Makes room for the entry that a step may add, and for all that is owed after it.

@@ -73,8 +73,9 @@ impl Table {
         Table::with_capacity(alloc, max, callers, 0)
     }
 
-    /// `new`, and takes the memory for this many nodes at once, and writes it. There is a node for
-    /// each key, for each key that is taken and not yet swept, and for each stored bucket.
+    /// `new`, and takes the memory for this many nodes at once, so that the list need not grow while
+    /// they come. There is a node for each key, for each key that is taken and not yet swept, and
+    /// for each stored bucket.
     ///
     /// # Errors
     ///
@@ -82,7 +83,7 @@ impl Table {
     ///
     /// # Cost
     ///
-    /// That of `new`, and time and memory in proportion to the nodes, 40 bytes for each.
+    /// That of `new`, and 40 bytes of memory for each node.
     pub fn with_capacity(
         alloc: Global,
         max: u32,

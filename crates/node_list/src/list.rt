@@ -11,9 +11,7 @@ ghost use Rattle.node_list.specs.Tally.{AreMarksFrom, first_marked};
 
 use crate::node::{Kind, Node, NodeRef};
 use crate::packed_ref::PackedRef;
-use crate::slots::{
-    Slot, linked_at, mark, node_at, replace_next, set_slot, set_value, slab_with_room,
-};
+use crate::slots::{Slot, linked_at, mark, node_at, replace_next, set_slot, set_value};
 use crate::spare::{Spare, SpareFault};
 use crate::tally::Tally;
 use slab::Slab;
@@ -74,8 +72,8 @@ impl NodeList {
         NodeList::with_capacity(alloc, first_stamp, 0)
     }
 
-    /// `new`, and takes the memory for this many nodes at once, and writes it. So while they come
-    /// the list need not grow, and touches no page for the first time.
+    /// `new`, and takes the memory for this many nodes at once, so that the list need not grow while
+    /// they come.
     ///
     /// # Errors
     ///
@@ -83,7 +81,7 @@ impl NodeList {
     ///
     /// # Cost
     ///
-    /// That of `new`, and time and memory in proportion to the nodes, 40 bytes for each.
+    /// That of `new`, and 40 bytes of memory for each node.
     pub fn with_capacity(alloc: Global, first_stamp: u64, nodes: usize) -> Result<Self, AllocError>
         requires { first_stamp < 2 ^ 64 - 1 }
         ensures nodes { IfOk result (λ list. list.nodes ≡ first_dummy list.head first_stamp ∷ []) }
@@ -93,7 +91,7 @@ impl NodeList {
         ensures sound { IfOk result IsSound }
     {
         let marks = Tally::new(alloc)?;
-        let mut slab = slab_with_room(alloc, nodes)?;
+        let mut slab = Slab::with_capacity(alloc, nodes)?;
         let node = Node::dummy(SortKey::dummy(0), first_stamp);
         match slab.insert(Slot::of_linked(node)) {
             // The first place of a slab is 0.

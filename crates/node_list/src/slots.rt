@@ -1,6 +1,6 @@
 //! The slots of the slab: a linked node, or a place that is kept for a spare. A slot is as large as
 //! a node, 32 bytes, since the node itself says whether it is linked.
-ghost use Rattle.std.specs.Prelude.{◌≡◌, [], Some, IfOk, true, option_copied};
+ghost use Rattle.std.specs.Prelude.{◌≡◌, Some, true, option_copied};
 ghost use Rattle.slab.specs.Slab.{get, with_value, ContainsKey};
 ghost use Rattle.node_list.specs.declared.node.Node.{Node};
 ghost use Rattle.node_list.specs.Slots.{Linked, Out, node_in};
@@ -8,8 +8,6 @@ ghost use Rattle.node_list.specs.Slots.{Linked, Out, node_in};
 use crate::node::Node;
 use crate::packed_ref::PackedRef;
 use slab::Slab;
-use split_key::SortKey;
-use std::alloc::{AllocError, Global};
 use std::marker::Model;
 use std::mem::size_of;
 
@@ -91,25 +89,6 @@ impl Slot {
     {
         self.node.value = value;
     }
-}
-
-/// An empty slab with room for this many slots, which is written once, so that the pages are there
-/// before the slots are.
-///
-/// # Errors
-///
-/// `AllocError` if memory is refused.
-pub fn slab_with_room(alloc: Global, slots: usize) -> Result<Slab<Slot>, AllocError>
-    ensures empty { IfOk result (λ slab. slab.slots ≡ []) }
-    ensures first_key { IfOk result (λ slab. slab.vacant_key ≡ 0) }
-{
-    let blank = Node::dummy(SortKey::dummy(0), 0);
-    let mut slab = Slab::with_capacity(alloc, slots)?;
-    for _ in 0..slots {
-        let _ = slab.insert(Slot::out(&blank));
-    }
-    slab.clear();
-    Ok(slab)
 }
 
 /// The linked node at a place.
