@@ -1,19 +1,18 @@
 -- The meaning of a transfer's commit: in a legal history that ends with it, the transaction has run
 -- alone on the map that the commits before it leave.
-use Rattle.std.proofs.Common.{◌≡◌, ◌≢◌, ℕ, zero, suc, ◌+◌, Bool, true, false, cond, List, [], ◌∷◌, ◌++◌, None, Some, Option, is_some, IsSome, slice_get, refl, sym, ap, subst, ◌∙◌, append_assoc, append-nil}
+use Rattle.std.proofs.Common.{◌≡◌, ◌≢◌, ℕ, zero, suc, ◌+◌, Bool, true, false, cond, List, [], ◌∷◌, ◌++◌, Some, Option, is_some, IsSome, slice_get, refl, sym, ap, subst, ◌∙◌, append_assoc, append-nil}
 use Rattle.std.specs.List.{filter}
-use Rattle.std.specs.Option.{option_and_then}
 use Rattle.std.proofs.lemmas.Bool.{eqb-true, eq-eqb}
 use Rattle.txn_words.specs.declared.entry.Entry.{Entry}
 use Rattle.txn_words.specs.declared.entry.Entry.TheVariants.{Began, Committed}
 use Rattle.txn_words.specs.declared.holder.Holder.TheVariants.{Begun}
 use Rattle.txn_trace.specs.History.{of}
 use Rattle.txn_words.specs.Kinds.{is_began, is_commit}
-use Rattle.txn_trace.specs.Alone.{Run, act, alone, map_after}
+use Rattle.txn_trace.specs.Alone.{alone, map_after}
 use Rattle.txn_trace.specs.Legal.{IsLegal}
 use Rattle.txn_trace.specs.Serial.{serial}
 use Rattle.txn_words.specs.Shape.{own, how_many, is_shaped, IsShaped}
-use Rattle.txn_trace.proofs.Committing.{own_goes}
+use Rattle.txn_trace.proofs.Committing.{own_goes, commits_so}
 use Rattle.txn_trace.proofs.Pushes.{txn_in, txn_at, txn_in-push, of-push_in, alone-push, own-push_in, how_many-push}
 use Rattle.txn_trace.proofs.Callers.{Callers, ended, shaped_number, not_after_end}
 use Rattle.txn_trace.proofs.Shaped.{callers_of, first_of_rest, shape_front}
@@ -35,10 +34,6 @@ pub record Ends (c txn place : ℕ) (inner before : List Entry) : Type 0 where
   pub counted : place ≡ how_many is_commit before + 1
   pub replied : IsSome (alone (serial before) (Began c txn ∷ inner ++ Committed c place ∷ []))
   pub leaves : serial (before ++ Committed c place ∷ []) ≡ map_after (serial before) (Began c txn ∷ inner ++ Committed c place ∷ [])
-
-commits_so : (c p : ℕ) (o : Option Run) → is_some o ≡ true → is_some (option_and_then (λ r. act r (Committed c p)) o) ≡ true
-commits_so c p None some = some
-commits_so c p (Some r) some = refl
 
 not_true : (b : Bool) → (b ≡ true → ⊥) → b ≡ false
 not_true true never = absurd (never refl)

@@ -1,5 +1,6 @@
-//! Times the core, one step after the other: puts on few keys, or the steps of a step file. The sum
-//! of the answers can be compared with that of another program.
+//! Times the core, one step after the other: puts on few keys, or the steps of a step file. There
+//! are no threads here, no lock and no tokens, unlike in `shared_runs`. The sum of the answers can
+//! be compared with that of another program; it is made after the clock has stopped.
 use crate::keys::number_at;
 use crate::stopwatch::{Lap, Stopwatch};
 use anyhow::{Context, Result, anyhow};

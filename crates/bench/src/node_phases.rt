@@ -1,5 +1,6 @@
 //! Times the nodes and cursors of the list, without the layers above: puts, look-ups, swaps, marks
-//! and sweeps.
+//! and sweeps. The operations are those of `node_table`; here are their order, their numbers and
+//! the clock. Each phase works on the list that the last one left, so the sums need this order.
 use crate::keys::key_at;
 use crate::node_table::{NodeTable, SIZE};
 use crate::stopwatch::Stopwatch;

@@ -79,7 +79,7 @@ just_placed state c placed = at (owner_changes state (Caller c))
 never_again : (state : State) (c : ℕ) → state.placed ≡ Some (Caller c) → (has_target (seat_in state.history c) && may_be_stale state (Caller c)) ≡ true → ⊥
 never_again state c placed is = false≢true (sym (just_placed state c placed) ∙ (and_parts (has_target (seat_in state.history c)) (may_be_stale state (Caller c)) is).1)
 
-and_none : (b : Bool) → (b && false) ≡ false
+pub and_none : (b : Bool) → (b && false) ≡ false
 and_none true = refl
 and_none false = refl
 

@@ -37,5 +37,5 @@ pub mod Linking
 pub mod Serving
 pub mod Calls
 pub mod Ways
+pub mod InStep
 pub mod Driving
-pub mod Helped

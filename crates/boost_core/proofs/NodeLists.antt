@@ -11,6 +11,7 @@ use Rattle.list_steps.specs.Steps.{without_first_marked}
 use Rattle.boost_core.specs.State.{Node, SortKey, marked_node}
 use Rattle.boost_core.specs.Nodes.{IsClean, IsInOrder, StopsAt, is_unmarked}
 use Rattle.boost_core.specs.Core.{node_at}
+use Rattle.list_steps.proofs.SeekLemmas.{cleaned_marked}
 
 abbrev pub seen : List NodeAt → List Node
 seen nodes = map node_at nodes
@@ -108,10 +109,6 @@ written_seen (m ∷ rest) place value = elim (cases_Bool (m.place == place)) [
   | inl here ↦ rw here refl
   | inr apart ↦ rw apart (ap (λ ns. node_at m ∷ ns) (written_seen rest place value))
 ]
-
-cleaned_marked : (n : NodeAt) (rest : List NodeAt) (sort : SortKey) → n.marked ≡ true → cleaned sort (n ∷ rest) ≡ cleaned sort rest
-unfolding cleaned
-cleaned_marked n rest sort is = rw is refl
 
 cleaned_passed : (n : NodeAt) (rest : List NodeAt) (sort : SortKey) → n.marked ≡ false → is_before n.at sort ≡ true → cleaned sort (n ∷ rest) ≡ n ∷ cleaned sort rest
 unfolding cleaned

@@ -74,7 +74,7 @@ not_false : (b : Bool) → not b ≡ false → b ≡ true
 not_false true is = refl
 not_false false is = absurd (false≢true (sym is))
 
-closed_is : (q : Phase) → is_closed q ≡ true → q ≡ Closed
+pub closed_is : (q : Phase) → is_closed q ≡ true → q ≡ Closed
 closed_is Closed is = refl
 closed_is Opened is = absurd (false≢true is)
 closed_is (Waiting op) is = absurd (false≢true is)

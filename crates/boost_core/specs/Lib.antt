@@ -18,3 +18,4 @@ pub mod Spares
 pub mod Sessions
 pub mod Core
 pub mod Whole
+pub mod Helps

@@ -1,5 +1,6 @@
-//! The end of every step: its entry is added to the caller's seat and to the history, in room that
-//! was reserved before. No other code lets a history grow.
+//! The end of a caller's step: its entry, if it has one, is added to the caller's seat and to the
+//! history, in room that was reserved before. No other code adds an entry, so seats, history and
+//! the number of entries owed always agree. Takes amortized constant time and no memory.
 ghost use Rattle.std.specs.Prelude.{◌≡◌, ◌-◌, ◌+◌, ◌++◌, option_to_list, vec_len, vec_capacity, length};
 ghost use Rattle.txn_words.specs.Owed.{owed_in};
 ghost use Rattle.boost_core.specs.Adding.{CanAdd, Enters};

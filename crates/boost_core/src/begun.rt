@@ -1,5 +1,6 @@
 //! The callers that have begun a transaction, one flag for each: a word may name only one of these
-//! as a stripe's holder.
+//! as a stripe's holder. They are kept beside the history, so that no test walks it. By the core's
+//! invariant a flag is set exactly if the history has a Began of its caller; none is ever cleared.
 ghost use Rattle.std.specs.Prelude.{◌≡◌, false, replicate, IfOk};
 ghost use Rattle.boost_core.specs.Begun.{begun_with};
 

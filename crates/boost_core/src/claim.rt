@@ -1,5 +1,6 @@
 //! The claims of an operation to its stripe: the core's lock, a right in hand, or a word that names
-//! a holder. One enum has all kinds, so that an ask is one step whoever keeps the stripes.
+//! a holder. One enum has all kinds, so that an ask is one step whoever keeps the stripes. A claim
+//! is never stored; one by a word takes no spare and no room, since its Busy is owed already.
 ghost use Rattle.std.specs.Prelude.{◌≡◌};
 
 use txn_trace::Step;

@@ -23,7 +23,7 @@ use map_ops::Table;
 use std::alloc::{AllocError, Global};
 use std::collections::BTreeMap;
 use std::marker::Model;
-use txn_trace::{Answer, Limits, Refusal, SmallEntry, Step, entry_of};
+use txn_trace::{Answer, Limits, Refusal, SmallEntry, Step, entry_of, make_room};
 
 /// A transactional map for 1 to 64 callers, its history, and the state of each caller: boosted
 /// transactions (Herlihy and Koskinen, PPoPP 2008, rules 2 and 3) over a split-ordered hash table
@@ -94,32 +94,26 @@ impl Core {
         ensures ok { IfOk result (λ core. core ≡ start limits) }
         ensures err { IfErr result (λ refusal. refusal ≡ Refusal.NoMemory) }
     {
-        Core::make(alloc, limits, false, 0)
+        Core::make(alloc, limits, false, 0, false)
     }
 
-    /// A new core, whose stripes are words or not, with the memory for this many nodes.
+    /// A new core, whose stripes are words or not, with the memory for this many nodes, written or
+    /// not.
     pub(crate) fn make(
         alloc: Global,
         limits: Limits,
         words: bool,
         nodes: usize,
+        is_written: bool,
     ) -> Result<Core, Refusal>
         ensures ok { IfOk result (λ core. core ≡ record (start limits) { words = words }) }
         ensures err { IfErr result (λ refusal. refusal ≡ Refusal.NoMemory) }
     {
-        let Ok(table) = Table::with_capacity(alloc, limits.buckets(), limits.callers(), nodes)
-        else {
-            return Err(Refusal::NoMemory);
-        };
-        let Ok(sessions) = idle_sessions(alloc, limits.callers() as usize) else {
-            return Err(Refusal::NoMemory);
-        };
-        let Ok(locks) = KeyLocks::new(alloc, limits.stripes() as usize) else {
-            return Err(Refusal::NoMemory);
-        };
-        let Ok(begun) = none_begun(alloc, limits.callers() as usize) else {
-            return Err(Refusal::NoMemory);
-        };
+        let (max, callers) = (limits.buckets(), limits.callers());
+        let table = Table::with_capacity(alloc, max, callers, nodes, is_written)?;
+        let sessions = idle_sessions(alloc, callers as usize)?;
+        let locks = KeyLocks::new(alloc, limits.stripes() as usize)?;
+        let begun = none_begun(alloc, callers as usize)?;
         Ok(Core {
             limits,
             history: Vec::new(alloc),
@@ -284,7 +278,8 @@ impl Core {
     }
 
     /// Makes room in the history for this many more entries, besides those that callers owe, so
-    /// that it need not grow while they are added. Nothing else changes.
+    /// that it need not grow while they are added. If the room is to be written, no later entry is
+    /// the first to touch a page of memory. The core is unchanged.
     ///
     /// # Errors
     ///
@@ -292,11 +287,13 @@ impl Core {
     ///
     /// # Cost
     ///
-    /// One allocation, and a copy of the history if there is one.
-    pub fn reserve(&mut self, entries: usize) -> Result<(), AllocError>
+    /// One allocation, and a copy of the history if there is one; if the room is written, time in
+    /// proportion to it.
+    pub fn reserve(&mut self, entries: usize, is_written: bool) -> Result<(), AllocError>
         ensures { self.new ≡ self.old }
     {
-        self.history.reserve(self.owed.saturating_add(entries))
+        let more = self.owed.saturating_add(entries);
+        make_room(&mut self.history, more, is_written)
     }
 
     /// The map now: the one that the committed transactions left, with the standing changes of the

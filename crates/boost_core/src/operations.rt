@@ -1,5 +1,6 @@
 //! The steps by which a caller works on the map: ask, seek and act. All memory that an operation
-//! and its inverse need is reserved by the ask; a seek and an act take none.
+//! and its inverse need is reserved by the ask; a seek and an act take none. Only these steps of a
+//! session lock stripes, act at cursors and change keys; only the seek walks the list.
 ghost use Rattle.std.specs.Prelude.{◌≡◌, ◌+◌, ◌<◌, ◌≤◌, ◌++◌, ◌⊎◌, true, false, None, Ok, length, not, ◌&&◌, ◌||◌, is_some, option_to_list, IfOk, IfErr, OnOk, OnErr};
 ghost use Rattle.map_ops.specs.Changes.{OwnsIf, GivesBack};
 ghost use Rattle.map_ops.specs.TableAt.{table_changes};
@@ -79,9 +80,7 @@ impl Session {
         ensures unchanged { OnErr result (table.new ≡ table.old) }
         ensures placed { KeepsPlaced table.old table.new }
     {
-        if self.log.reserve_one().is_err() {
-            return Err(Refusal::NoMemory);
-        }
+        self.log.reserve_one()?;
         table.prepare(op)
     }
 

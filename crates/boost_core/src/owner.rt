@@ -1,5 +1,6 @@
 //! The owner of the cursor that was placed last. No code reads it: contracts name the cursor by it,
-//! and a ghost field cannot hold a value.
+//! and a ghost field cannot hold a value. Each step that is not refused sets it, to none if it
+//! places no cursor; by the core's invariant the owner's cursor fits.
 ghost use Rattle.std.specs.Prelude.{◌≡◌};
 ghost use Rattle.boost_core.specs.Answers.{placed_by};
 ghost use Rattle.boost_core.specs.Placed.{placed_then};

@@ -1,5 +1,6 @@
 //! The sides of all callers, idle. A core makes them at once, so no step makes one later. They are
-//! in one vector, in the order of the callers' numbers.
+//! in one vector, in the order of the callers' numbers; a `Session` itself knows no other. The
+//! vector takes one allocation, and an idle side takes no more memory.
 ghost use Rattle.std.specs.Prelude.{◌≡◌, IfOk, length};
 ghost use Rattle.std.specs.List.{All};
 ghost use Rattle.boost_core.specs.Sessions.{IsIdle};

@@ -32,11 +32,13 @@ impl Core {
         ensures ok { IfOk result (λ core. core ≡ start_with_words limits) }
         ensures err { IfErr result (λ refusal. refusal ≡ Refusal.NoMemory) }
     {
-        Core::with_capacity(alloc, limits, 0)
+        Core::with_capacity(alloc, limits, 0, false)
     }
 
     /// `with_words`, and takes the memory for this many nodes of the table at once, so that its list
-    /// need not grow while they come. `reserve` does the same for the history.
+    /// need not grow while they come. If that memory is to be written, the memory for the entries of
+    /// as many buckets is taken too, and no later node or bucket is the first to touch a page of
+    /// memory. `reserve` makes room for the history.
     ///
     /// # Errors
     ///
@@ -44,12 +46,18 @@ impl Core {
     ///
     /// # Cost
     ///
-    /// That of `with_words`, and 40 bytes of memory for each node.
-    pub fn with_capacity(alloc: Global, limits: Limits, nodes: usize) -> Result<Core, Refusal>
+    /// That of `with_words`, and 40 bytes of memory for each node; if it is written, time in
+    /// proportion to it, and 4 bytes more for each node, up to the largest number of buckets.
+    pub fn with_capacity(
+        alloc: Global,
+        limits: Limits,
+        nodes: usize,
+        is_written: bool,
+    ) -> Result<Core, Refusal>
         ensures ok { IfOk result (λ core. core ≡ start_with_words limits) }
         ensures err { IfErr result (λ refusal. refusal ≡ Refusal.NoMemory) }
     {
-        Core::make(alloc, limits, true, nodes)
+        Core::make(alloc, limits, true, nodes, is_written)
     }
 
     /// Whether stripes are words: no step changes it.

@@ -1,5 +1,6 @@
 //! The judge of histories for C: a checker, of `history_check` or of `serial_check`, behind its own
-//! handle, fed entry by entry.
+//! handle, fed entry by entry. It needs no map of this library: entries are C's numbers. Invariant:
+//! the tag says whether the handle has a checker. A feed that is refused memory may be made again.
 ghost use Rattle.std.specs.Prelude.{◌≡◌, ◌<◌, Some, None, IfSome, IsNone, true, is_some};
 ghost use Rattle.boostmap_c.specs.Judges.{Begins, FedFront, Feeds, FeedsAll, FeedsEntry, Frees, Tells, verdict_of, way_for};
 ghost use Rattle.boostmap_c.specs.Entries.{judged_entry};

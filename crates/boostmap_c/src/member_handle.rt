@@ -1,5 +1,6 @@
 //! The handle of a striped map's caller, and the ways of a member into it and out of it, as in
-//! `handle` for a map. A call of the caller borrows the member, and leaves the handle unchanged.
+//! `handle` for a map. A call of the caller borrows the member, and leaves the handle unchanged, so
+//! it is another type. Invariant: the tag is "bmca" exactly if the pointer owns a member.
 ghost use Rattle.std.specs.Prelude.{◌≡◌, Some, None, IfSome, IsNone, IsSome, true, false, is_some};
 
 use crate::handle::sends;

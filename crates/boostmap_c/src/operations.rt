@@ -1,5 +1,6 @@
-//! The operations of a transaction on one key. Each takes the key's stripe, which its transaction
-//! holds to its end.
+//! The operations of a transaction on one key. They are apart from `transactions`, since only they
+//! take a stripe, which the transaction holds to its end, and may be busy. Each puts the core back
+//! into the handle before it answers, so the handle has its map whatever the status is.
 ghost use Rattle.std.specs.Prelude.{Some, None};
 ghost use Rattle.boost_core.specs.Plain.{Operates};
 ghost use Rattle.boostmap_c.specs.Calls.{Answers};

@@ -1,5 +1,6 @@
-//! The content of a map, written into an array of C's. The call takes memory for the pairs, which
-//! it frees before it ends.
+//! The content of a map, written into an array of C's: all pairs if there is room for them, and
+//! none if there is not. `striped_read` writes by the same function, and C has one type of pairs.
+//! The call takes memory for the pairs, which it frees before it ends.
 ghost use Rattle.std.specs.Prelude.{◌≡◌, ◌≤◌, length};
 ghost use Rattle.boostmap_c.specs.Contents.{LaysOf, Lie, Reads};
 

@@ -1,6 +1,6 @@
-//! The pointer in a judge's handle. Its type is erased, since no type that holds a `Vec` may be
-//! named behind a pointer that C sees. Only this module touches its address, so the ghost field
-//! `referee` says what the pointer owns: a referee on the heap, or nothing.
+//! The pointer in a judge's handle, with its type erased, as a referee holds a `Vec` and C may see
+//! no pointer to such a type. Only this module touches its address, so the ghost field `referee`
+//! says what the pointer owns: a referee on the heap, or nothing.
 ghost use Rattle.std.specs.Prelude.{◌≡◌, Option, Some, None, IsSome};
 ghost use Rattle.std.specs.Coded.{coded_option};
 ghost use Rattle.boostmap_c.specs.contracts.referee.Referee.{the_row};

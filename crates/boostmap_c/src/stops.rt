@@ -1,6 +1,6 @@
 //! Functions that tell C an answer of a striped map: a status, and for some answers a word. The
 //! calls of a striped map answer a `Result` with a `Stop`, not an `Answer` of a core, so `tell` in
-//! `status` cannot serve them. An answer without a word leaves C's word unchanged.
+//! `status` cannot serve them. If an answer has no word, C's word is unchanged.
 ghost use Rattle.std.specs.Prelude.{◌≡◌};
 ghost use Rattle.boostmap_c.specs.Stops.{status_of_end, status_of_number, status_of_reply, status_of_stop, word_of_number, word_of_reply, word_of_stop};
 

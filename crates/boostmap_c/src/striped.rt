@@ -1,5 +1,6 @@
 //! The life of a striped map for C: it is opened with its callers, each of which gets its own
-//! handle, and is freed with the last of them.
+//! handle, and is freed with the last of them. Only these calls fill and empty a caller's handle.
+//! All callers are made when the map is opened; a join takes memory only for its member.
 ghost use Rattle.std.specs.Prelude.{◌≡◌, ◌++◌, [], ◌∷◌, IfOk, IfErr, OnOk, OnErr, true, length, nat_le, if◌then◌else◌};
 ghost use Rattle.txn_words.specs.declared.refusal.Refusal.TheVariants.{NoMemory, NoSuchCaller, Limit};
 ghost use Rattle.boostmap_c.specs.Members.{IsFirst, IsSame, Joins, Leaves, Opens, are_limits};

@@ -1,5 +1,6 @@
-//! The beginning and the ends of a transaction, and its savepoints. A commit and an abort take no
-//! memory.
+//! The beginning and the ends of a transaction, and its savepoints. These calls name no key and ask
+//! for no stripe, so none of them is busy. A commit and an abort take no memory, so a transaction
+//! can be ended when memory is refused.
 ghost use Rattle.boost_core.specs.Machine.{Event};
 ghost use Rattle.boost_core.specs.Plain.{Aborts, Returns};
 ghost use Rattle.boostmap_c.specs.Calls.{Answers};

@@ -1,11 +1,9 @@
 -- The line of the verdict on a history file.
-use Rattle.std.specs.Prelude.{◌≡◌, ℕ, Bool, true, false, IsTrue, ◌↔◌, nat_le, if◌then◌else◌, List, ◌++◌, Ok, Err, codes, decimal}
-use Rattle.txn_words.specs.declared.holder.Holder.{Holder}
-use Rattle.txn_words.specs.declared.holder.Holder.TheVariants.{Now, Begun}
+use Rattle.std.specs.Prelude.{◌≡◌, ℕ, Bool, true, false, IsTrue, ◌↔◌, List, ◌++◌, Ok, Err, codes, decimal}
 use Rattle.txn_words.specs.declared.entry.Entry.{Entry}
 use Rattle.txn_trace.specs.Legal.{IsLegal, Verdict, Legal, Illegal, verdict}
 use Rattle.txn_files.specs.FileFault.{FileFault}
-use Rattle.txn_files.specs.HistoryFile.{history_of}
+use Rattle.txn_files.specs.HistoryFile.{history_of, holder_in}
 use Rattle.boostmap_engine.specs.Report.{line}
 
 -- The line of a verdict.
@@ -20,11 +18,6 @@ verdict_line (Illegal entry rule) =
 abbrev pub says_legal : Verdict → Bool
 says_legal (Legal commits running) = true
 says_legal (Illegal entry rule) = false
-
--- The caller that a Busy may name in a history file of this version: in versions 1 and 2 one that
--- holds the stripe, in later ones one that has begun a transaction.
-abbrev pub holder_in : ℕ → Holder
-holder_in version = if nat_le version 2 then Now else Begun
 
 -- The verdict on the history that the bytes are, which is legal exactly if the history is.
 pub record IsJudged (bytes : List ℕ) (outcome : Verdict) : Type 0 where

@@ -2,12 +2,9 @@
 use Rattle.std.specs.Prelude.{◌≡◌, ℕ, ◌<◌, List, length, take, Option, IfSome}
 use Rattle.std.specs.Io.KnownBytes.{Appends, Keeps}
 use Rattle.txn_files.specs.FileFault.{FileFault}
+use Rattle.txn_files.specs.Reading.{max_read}
 use Rattle.boostmap_engine.specs.declared.fault.Fault.{Fault}
 use Rattle.boostmap_engine.specs.declared.fault.Fault.TheVariants as faults
-
--- One byte more than a file may have.
-abbrev pub max_read : ℕ
-max_read = 16777217
 
 -- The bytes that a reader had left, but at most one more than a file may have.
 abbrev pub IsRead : Option (List ℕ) → List ℕ → Type 0

@@ -1,5 +1,6 @@
 //! The faults of the program, with the exit status and the line of each, and the usage. All
-//! commands and the command line share them.
+//! commands share them with the programs above: a command returns its fault, a program prints the
+//! line. Contracts give each status and text (`specs/Faults.antt`), and no text takes memory.
 ghost use Rattle.std.specs.Prelude.{◌≡◌};
 ghost use Rattle.boostmap_engine.specs.Faults.{status_of, message_of, of_file};
 ghost use Rattle.boostmap_engine.specs.declared.fault.Fault.TheVariants as faults;

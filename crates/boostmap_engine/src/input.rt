@@ -1,5 +1,6 @@
-//! Reading the input, up to one byte more than a file may have: so a file that is too long is found
-//! without reading all of it. A reader is not called again after it failed.
+//! Reading the input of each command, also of `run` in the crate above: up to one byte more than a
+//! file may have, so a file that is too long is found without reading all of it. A reader is not
+//! called again after it failed. Takes memory for the bytes, and 64 KB for a chunk.
 ghost use Rattle.std.specs.Prelude.{◌≡◌, length, IfOk, IfErr};
 ghost use Rattle.boostmap_engine.specs.Written.{IsRead};
 ghost use Rattle.piece_files.specs.Faults.{Gives};

@@ -1,31 +1,18 @@
 //! The line that `check` prints: the verdict on the entries of a history file, by the rule of locks
-//! that the file's version has.
+//! that the file's version has. The checker knows no versions; here the version chooses its rule.
+//! The bytes are dropped before the entries are judged.
 ghost use Rattle.std.specs.Prelude.{◌≡◌, IfOk, IfErr, string_bytes};
 ghost use Rattle.piece_files.specs.Faults.{Gives};
-ghost use Rattle.txn_files.specs.HistoryFile.{history_of};
+ghost use Rattle.txn_files.specs.HistoryFile.{history_of, holder_in};
 ghost use Rattle.history_check.specs.Verdicts.{meaning_of};
-ghost use Rattle.boostmap_engine.specs.Judgement.{verdict_line, says_legal, holder_in, IsJudged, IsNoHistoryFile};
+ghost use Rattle.boostmap_engine.specs.Judgement.{verdict_line, says_legal, IsJudged, IsNoHistoryFile};
 ghost use Rattle.boostmap_engine.specs.Written.{HasNone};
 
 use crate::fault::Fault;
 use history_check::{Verdict, check_packed};
 use std::alloc::{AllocError, Global};
-use txn_files::{FileFault, read_packed_history};
-use txn_trace::{Holder, SmallEntry};
-
-/// The last version of history files in which a Busy names a caller that holds the stripe.
-const LAST_OF_NOW: u64 = 2;
-
-/// The caller that a Busy may name in a history file of this version.
-fn holder_in(version: u64) -> Holder
-    ensures { result ≡ holder_in version }
-{
-    if version <= LAST_OF_NOW {
-        Holder::Now
-    } else {
-        Holder::Begun
-    }
-}
+use txn_files::{FileFault, holder_in, read_packed_history};
+use txn_trace::SmallEntry;
 
 /// The stripes, the entries and the version of the history file that the bytes are. The bytes are
 /// dropped.

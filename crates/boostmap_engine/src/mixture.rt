@@ -1,5 +1,6 @@
-//! The history that `mix` prints: that of a core on which the scripts were mixed. The scripts and
-//! the rest of the core are dropped before it is written, since they are large.
+//! The history that `mix` prints, before it is a text: that of a core on which the scripts were
+//! mixed. It is apart from `engine`, since it needs no reader and no writer. The scripts and the
+//! rest of the core are dropped before the history is written, since they are large.
 ghost use Rattle.std.specs.Prelude.{IfOk, IfErr};
 ghost use Rattle.txn_files.specs.HistoryText.{text_of_history};
 ghost use Rattle.boostmap_engine.specs.Mixture.{IsMixtureOf, IsNoScriptFile};

@@ -1,4 +1,5 @@
-//! Writing a text as a whole, or a proper beginning of it if the writer fails. A writer is not
+//! Writing a text as a whole, or a proper beginning of it if the writer fails. All commands write
+//! by these two functions, `run` too, so what a failed write leaves is proved once. A writer is not
 //! called again after it failed or took nothing.
 ghost use Rattle.std.specs.Prelude.{◌≡◌, OnOk, OnErr, IfErr};
 ghost use Rattle.std.specs.Io.KnownBytes.{Appends};

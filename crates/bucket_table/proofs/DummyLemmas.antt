@@ -17,7 +17,7 @@ use Rattle.split_key.proofs.SplitLemmas.{same_from_reversed, split_odd, reversed
 use Rattle.split_key.proofs.SortLemmas.{cases_before, cases_same}
 use Rattle.bucket_table.specs.Dummies.{IsKeyedNode, dummy_node, has_dummy, is_dummy_of}
 
-either : (b : Bool) → (b ≡ true) ⊎ (b ≡ false)
+pub either : (b : Bool) → (b ≡ true) ⊎ (b ≡ false)
 either true = inl refl
 either false = inr refl
 

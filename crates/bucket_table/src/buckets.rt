@@ -68,9 +68,33 @@ impl Buckets {
         ensures ok { IfOk result (λ buckets. buckets ≡ beginning max helpers list.now.head) }
         ensures home { IfOk result (λ buckets. IsHome buckets list.now) }
     {
+        Buckets::with_capacity(alloc, max, helpers, list, 0)
+    }
+
+    /// `new`, and takes the memory for the entries of the first `buckets` buckets at once.
+    ///
+    /// # Errors
+    ///
+    /// `AllocError` if memory is refused.
+    ///
+    /// # Cost
+    ///
+    /// That of `new`, and 4 bytes of memory for each of these buckets, up to `max` of them.
+    pub fn with_capacity(
+        alloc: Global,
+        max: u32,
+        helpers: u32,
+        list: &NodeList,
+        buckets: usize,
+    ) -> Result<Self, AllocError>
+        requires power { IsPowerOfTwo max }
+        requires least { 2 ≤ max }
+        ensures ok { IfOk result (λ buckets. buckets ≡ beginning max helpers list.now.head) }
+        ensures home { IfOk result (λ buckets. IsHome buckets list.now) }
+    {
         Ok(Buckets {
             size: 2,
-            entries: Segments::new(alloc, max, list.head())?,
+            entries: Segments::new(alloc, max, list.head(), buckets)?,
             helpers: vec_of(alloc, helpers, Helper::Idle)?,
         })
     }

@@ -1,9 +1,10 @@
 //! The entries of the buckets, in segments of 64. Memory for a segment is taken when the first of
-//! its buckets is stored.
+//! its buckets is stored, unless some was taken before. To `buckets.rt` the entries are one flat
+//! list. A look-up reads one entry, and a store writes one; a segment's first store writes all 64.
 ghost use Rattle.std.specs.Prelude.{◌≡◌, ℕ, ◌-◌, ◌*◌, ◌<◌, ◌≤◌, ◌^◌, ◌∷◌, List, Option, Some, None, length, replicate, slice_index_or, slice_set, IfOk, OnErr};
 ghost use Rattle.bucket_table.specs.Segments.{LacksSegment, Puts};
 
-use crate::fill::vec_of;
+use crate::fill::fill;
 use node_list::{NodeRef, PackedRef};
 use std::alloc::{AllocError, Global};
 use std::marker::Model;
@@ -29,12 +30,13 @@ impl Model for Segment {
 }
 
 impl Segment {
-    /// A segment with this dummy at one place and no other.
-    fn new(alloc: Global, place: usize, dummy: NodeRef) -> Result<Self, AllocError>
+    /// A segment with this dummy at one place and no other, in this memory.
+    fn new(memory: Vec<PackedRef>, place: usize, dummy: NodeRef) -> Result<Self, AllocError>
         requires { place < 64 }
         ensures { IfOk result (λ segment. Puts None (Some segment) place dummy) }
     {
-        let mut entries = vec_of(alloc, 64, PackedRef::none())?;
+        let mut entries = memory;
+        fill(&mut entries, 64, PackedRef::none())?;
         entries[place] = PackedRef::of(dummy);
         Ok(Segment { entries })
     }
@@ -59,7 +61,7 @@ impl Segment {
 }
 
 /// The dummies of the stored buckets, by bucket: a row of segments; each is there exactly if one of
-/// its buckets is stored.
+/// its buckets is stored. Memory for more of them may have been taken before they are.
 ///
 /// A contract sees them as the flat list of all entries.
 #[derive(Drop)]
@@ -67,6 +69,7 @@ pub(crate) struct Segments {
     alloc: Global,
     limit: u32,
     row: Vec<Option<Segment>>,
+    spares: Vec<Vec<PackedRef>>,
 }
 
 impl Model for Segments {
@@ -82,22 +85,34 @@ impl Model for Segments {
 
 impl Segments {
     /// The entries of this number of buckets; only bucket 0 is stored, with this dummy. Takes
-    /// memory for the row and for the first segment.
-    pub(crate) fn new(alloc: Global, limit: u32, first: NodeRef) -> Result<Self, AllocError>
+    /// memory for the row, for the first segment, and for the segments of the first `room` buckets.
+    pub(crate) fn new(
+        alloc: Global,
+        limit: u32,
+        first: NodeRef,
+        room: usize,
+    ) -> Result<Self, AllocError>
         requires { 0 < limit }
         ensures { IfOk result (λ entries. entries ≡ Some first ∷ replicate (limit - 1) None) }
     {
-        let mut entries = Segments::empty(alloc, limit)?;
+        let mut entries = Segments::empty(alloc, limit, room)?;
         entries.set(0, first)?;
         Ok(entries)
     }
 
-    /// The entries of this number of buckets, none of them stored. Takes memory only for the row.
-    fn empty(alloc: Global, limit: u32) -> Result<Self, AllocError>
+    /// The entries of this number of buckets, none of them stored. Takes memory for the row, and for
+    /// the segments of the first `room` buckets.
+    fn empty(alloc: Global, limit: u32, room: usize) -> Result<Self, AllocError>
         ensures { IfOk result (λ entries. entries ≡ replicate limit None) }
     {
         let row = missing(alloc, (limit as usize).div_ceil(WIDTH))?;
-        Ok(Segments { alloc, limit, row })
+        let spares = spares_of(alloc, room.min(limit as usize).div_ceil(WIDTH))?;
+        Ok(Segments {
+            alloc,
+            limit,
+            row,
+            spares,
+        })
     }
 
     /// The number of entries.
@@ -121,7 +136,7 @@ impl Segments {
     }
 
     /// Stores a bucket with its dummy. Takes memory for the bucket's segment only if no bucket of
-    /// it is stored.
+    /// it is stored and none is left that was taken before.
     ///
     /// # Errors
     ///
@@ -133,13 +148,16 @@ impl Segments {
         ensures lacks { OnErr result (LacksSegment self.old bucket) }
     {
         let segment = &mut self.row[bucket as usize / WIDTH];
-        put(self.alloc, segment, bucket as usize % WIDTH, dummy)
+        let place = bucket as usize % WIDTH;
+        put(self.alloc, &mut self.spares, segment, place, dummy)
     }
 }
 
-/// Stores a dummy at a place of a segment, which is made if it is missing.
+/// Stores a dummy at a place of a segment. A missing segment is made first, in memory that was taken
+/// before if there is some.
 fn put(
     alloc: Global,
+    spares: &mut Vec<Vec<PackedRef>>,
     segment: &mut Option<Segment>,
     place: usize,
     dummy: NodeRef,
@@ -153,8 +171,21 @@ fn put(
         segment.set(place, dummy);
         return Ok(());
     }
-    *segment = Some(Segment::new(alloc, place, dummy)?);
+    let memory = match spares.pop() {
+        Some(memory) => memory,
+        None => Vec::with_capacity(alloc, WIDTH)?,
+    };
+    *segment = Some(Segment::new(memory, place, dummy)?);
     Ok(())
+}
+
+/// The memory for this number of segments.
+fn spares_of(alloc: Global, count: usize) -> Result<Vec<Vec<PackedRef>>, AllocError> {
+    let mut spares = Vec::with_capacity(alloc, count)?;
+    for _ in 0..count {
+        spares.push(Vec::with_capacity(alloc, WIDTH)?)?;
+    }
+    Ok(spares)
 }
 
 /// A row of missing segments.

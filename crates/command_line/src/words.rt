@@ -1,5 +1,6 @@
 //! The command line, by the rules of `clap`: the call that the words ask for, or that they ask for
-//! none. Each command is made and added separately, which keeps the proof of `command` cheap.
+//! none. No file is opened here; a call borrows the name of its file from the words. Each command
+//! is made and added separately, which keeps the proof of `all_commands` cheap.
 ghost use Rattle.std.specs.Prelude.{◌≡◌, ◌⊎◌, Some, None, false, IfOk, IfErr, map, option_map};
 ghost use Rattle.std.specs.String.{string_bytes};
 ghost use Rattle.clap.specs.Words.{found_of, rows_of, rule_of};

@@ -1,5 +1,6 @@
 //! Worked runs on the core: calls in tables, each with its answer, and the pairs and the history
-//! that they leave.
+//! that they leave. Contracts say what an answer means, but not that a call is given memory.
+//! `limits` plays its tables by the functions here.
 mod limits;
 mod pairs;
 mod plain_map;

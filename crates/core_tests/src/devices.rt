@@ -1,5 +1,6 @@
 //! The calls of a core, each in a function without a contract, so that a test has only its own
-//! safety to prove.
+//! safety to prove. All modules that run a core share them, so each call is proved once. A call
+//! that requires stripes that are no words tests this first, and fails the test if it is not so.
 use boost_core::Core;
 use std::alloc::{AllocError, Global};
 use std::process::Abort;

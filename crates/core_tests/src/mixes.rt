@@ -1,5 +1,6 @@
 //! Workers that take turns as a seed says: the history of each mix, compared with the turns of its
-//! workers.
+//! workers. `workers` tests workers without a core or a seed. The worker of each turn is drawn here
+//! once more, from the words of the same generator; the turns were written by hand.
 use rand_core::SeedableRng;
 use rand_core::utils::NextWord;
 use rand_pcg::Pcg32;

@@ -17,12 +17,12 @@ use Rattle.txn_drive.specs.declared.phase.Phase.TheVariants.{Fresh, Seeking, Act
 use Rattle.txn_drive.specs.declared.turn.Turn.{Turn}
 use Rattle.txn_drive.specs.declared.turn.Turn.TheVariants.{One, Two}
 use Rattle.txn_drive.specs.Drives.{sized_of, turn_in, turn_of, end_of, ended_by}
-use Rattle.txn_drive.specs.Made.{made, IsMade}
+use Rattle.txn_drive.specs.Made.{made, IsMade, CommitNothing, IsQuiet}
 use Rattle.txn_drive.proofs.DriveLaws.{made_at_end}
 use Rattle.boost_core.specs.State.{State, seat_in}
 use Rattle.core_tokens.specs.Tokens.{Token, IsSameCaller, IsSameClaims}
 use Rattle.core_tokens.specs.Suits.{may_refuse, is_odd, IsSized, Suits, IsInStep}
-use Rattle.core_tokens.specs.Holds.{FoundOther, HadNoRoom, TookTurn, TakesTurn, Held, InStep, odd_if, end_in, is_out, out_if, GoesOn, GoesTo, HasRun, MayEnd, CommitNothing, IsQuiet}
+use Rattle.core_tokens.specs.Holds.{FoundOther, HadNoRoom, TookTurn, TakesTurn, Held, InStep, odd_if, end_in, is_out, out_if, GoesOn, GoesTo, HasRun, MayEnd}
 use Rattle.txn_drive.proofs.Quiet.{going_quiet}
 use Rattle.core_tokens.proofs.Quiet.{odd_quiet}
 use Rattle.core_tokens.proofs.Going.{goes_sized, in_step_sized, is_sized}
@@ -90,9 +90,9 @@ suits_plain_in m s c call (Linking way again) suits = refl
 suits_plain_in m s c call (Storing way) suits = refl
 suits_plain_in m s c call (First a) suits = suits
 suits_plain_in m s c call (Last work a) suits = suits
-suits_plain_in m s c call (Lost work) suits = absurd suits
+suits_plain_in m s c call (Lost work) suits = absurd suits.1
 suits_plain_in m s c (calls.Help key) Helped suits = refl
-suits_plain_in m s c call Helped suits = absurd (false≢true suits)
+suits_plain_in m s c call Helped suits = absurd (false≢true suits.0)
 suits_plain_in m s c call (Refused r) suits = suits
 
 pub record EndsInStep (b : Bool) (r : Option End) : Type 0 where

@@ -3,7 +3,6 @@ pub mod Claiming
 pub mod Phases
 pub mod Starting
 pub mod Working
-pub mod Helping
 pub mod Suiting
 pub mod Stepping
 pub mod Quiet

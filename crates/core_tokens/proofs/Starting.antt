@@ -1,13 +1,11 @@
 -- A core and a drive stay in step over the first step of a call.
-use Rattle.std.proofs.Common.{◌≡◌, ℕ, true, false, not, cond, Some, None, refl, sym, ap, ◌∙◌}
+use Rattle.std.proofs.Common.{◌≡◌, ℕ, true, false, not, cond, Some, None, refl, ap, ◌∙◌}
 use Rattle.std.specs.Prelude.{nat_le}
-use mathlib.Core.Logic.{inl, inr}
 use Rattle.txn_words.specs.declared.answer.Answer.{Answer}
 use Rattle.txn_words.specs.declared.answer.Answer.TheVariants as answers
 use Rattle.txn_words.specs.declared.refusal.Refusal.{Refusal}
 use Rattle.txn_words.specs.declared.refusal.Refusal.TheVariants as refusals
 use Rattle.txn_words.specs.declared.refusal.Refusal.TheVariants.{NoMemory, StampsUsedUp}
-use Rattle.txn_words.specs.declared.step.Step.{Step}
 use Rattle.txn_words.specs.declared.step.Step.TheVariants as steps
 use Rattle.txn_words.specs.Shape.{Seat}
 use Rattle.txn_drive.specs.declared.call.Call.{Call}
@@ -19,13 +17,10 @@ use Rattle.txn_words.specs.Seats.{refusal_in}
 use Rattle.boost_core.specs.Refusals.{refusal_of, MayLack}
 use Rattle.boost_core.specs.Machine.{IsAllowed}
 use Rattle.boost_core.proofs.Refused.{or_else, refusal_parts}
+use Rattle.boost_core.proofs.Calls.{never_refused}
 use Rattle.core_tokens.specs.Suits.{is_help, may_refuse, is_odd, Fits, Suits}
 
--- A step that nothing refuses may lack only memory or a stamp.
-pub lacks_only : (m : State) (step : Step) (r : Refusal) → refusal_of m step ≡ None → IsAllowed m step (answers.Refused r) → MayLack m step r
-lacks_only m step r none (inl is) = absurd (let both : None ≡ Some r = sym none ∙ is in cc)
-lacks_only m step r none (inr lack) = lack.1
-
+-- A first step that the seat does not refuse is not refused.
 pub first_free : (m : State) (c : ℕ) (call : Call) → nat_le m.limits.callers c ≡ false → is_help call ≡ false → refusal_in m.limits.half (seat_in m.history c) (first_step c call) ≡ None → refusal_of m (first_step c call) ≡ None
 first_free m c calls.Begin within plain none = refusal_parts m c (steps.Begin c) refl ∙ (λ i. cond (within i) (Some refusals.NoSuchCaller) (or_else (none i) None))
 first_free m c (calls.Op op) within plain none = refusal_parts m c (steps.Ask c op) refl ∙ (λ i. cond (within i) (Some refusals.NoSuchCaller) (or_else (none i) None))
@@ -44,7 +39,7 @@ may_lack m c (calls.Back n) NoMemory lack = refl
 may_lack m c call r lack = absurd lack
 
 plain_refused : (m : State) (c : ℕ) (call : Call) (r : Refusal) → refusal_of m (first_step c call) ≡ None → IsAllowed m (first_step c call) (answers.Refused r) → is_odd call (ends.Refused r) ≡ false
-plain_refused m c call r none allowed = ap not (may_lack m c call r (lacks_only m (first_step c call) r none allowed))
+plain_refused m c call r none allowed = ap not (may_lack m c call r (never_refused m (first_step c call) r none allowed))
 
 pub suits_first : (m n : State) (c : ℕ) (s : Seat) (call : Call) (a : Answer) → refusal_of m (first_step c call) ≡ None → is_help call ≡ false → IsAllowed m (first_step c call) a
     → Fits s call (told_first call a) → Suits n s c call (told_first call a)

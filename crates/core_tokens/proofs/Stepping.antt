@@ -53,7 +53,6 @@ in_step_told tried m n limits c seen seen' d e step a old whole shape shape' sma
     let callers : m.limits.callers ≡ limits.callers = ap (λ (x : Sizes). x.callers) ins.same_limits in
     let below = ins.within in
     let cursors = old.callers in
-    let helpers = old.helpers in
     let mine = subst (λ w. AllByRecursion (λ e. caller_of e ≡ w) es) ins.mine (entries_callers d step a is) in
     let over = goes_over (claim_in tried m step) m n step a takes.goes in
     let history = over.history in
@@ -72,7 +71,7 @@ in_step_told tried m n limits c seen seen' d e step a old whole shape shape' sma
     let longer : length seen' ≡ length seen + length es = ap length takes.entries ∙ length-append seen es in
     let few = ins.few in
     let moved : Move m step a n → Suits n next c d.call (told_in d.call d.phase a) = λ move.
-    suits_told m n c next d.call d.phase a (le_false m.limits.callers c (omega (arith, below, callers))) (omega (arith, cursors, below, callers)) (omega (arith, helpers, below, callers)) old whole sized
+    suits_told m n c next d.call d.phase a (le_false m.limits.callers c (omega (arith, below, callers))) (omega (arith, cursors, below, callers)) old whole sized
     (omega (arith, few, longer, small)) ins.suits fits
     (λ none. ap (λ h. seat_in h c) (history ∙ ap (λ xs. m.history ++ xs) (sym (ap (λ o. entries_if o a) step_is) ∙ none) ∙ append-nil m.history))
     (subst (λ o. MoveIf m o a n) (sym step_is) move) in

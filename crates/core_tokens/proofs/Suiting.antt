@@ -1,42 +1,72 @@
 -- A core and a drive stay in step over a move.
-use Rattle.std.proofs.Common.{◌≡◌, ℕ, ◌-◌, ◌<◌, ◌^◌, Bool, false, [], length, Option, Some, None, refl, sym, ap, ◌∙◌}
+use Rattle.std.proofs.Common.{◌≡◌, ℕ, ◌-◌, ◌<◌, ◌^◌, Bool, true, false, [], length, Option, Some, None, refl, sym, ap, subst, ◌∙◌, arith}
 use Rattle.std.specs.Prelude.{nat_le}
+use Rattle.std.proofs.lemmas.Bool.{false≢true}
 use Rattle.txn_words.specs.declared.answer.Answer.{Answer}
+use Rattle.txn_words.specs.declared.refusal.Refusal.TheVariants.{NoMemory, StampsUsedUp}
 use Rattle.txn_words.specs.declared.step.Step.{Step}
+use Rattle.txn_words.specs.declared.step.Step.TheVariants as steps
 use Rattle.txn_words.specs.Shape.{Seat}
 use Rattle.txn_drive.specs.declared.call.Call.{Call}
 use Rattle.txn_drive.specs.declared.call.Call.TheVariants as calls
 use Rattle.txn_drive.specs.declared.phase.Phase.{Phase}
-use Rattle.txn_drive.specs.declared.phase.Phase.TheVariants.{Fresh, Seeking, Acting, Doubling, Initialising, Linking, Storing}
-use Rattle.txn_drive.specs.Drives.{first_step, step_in, told_in}
+use Rattle.txn_drive.specs.declared.phase.Phase.TheVariants.{Fresh, Seeking, Acting, Doubling, Initialising, Linking, Storing, Helped, Refused}
+use Rattle.txn_drive.specs.Drives.{first_step, sized_in, step_in, told_in}
 use Rattle.boost_core.specs.State.{State, seat_in}
 use Rattle.txn_words.specs.Seats.{refusal_in}
 use Rattle.boost_core.specs.Machine.{Move}
 use Rattle.boost_core.specs.Whole.{IsWhole}
+use Rattle.boost_core.specs.Helps.{HelpSuits}
+use Rattle.boost_core.proofs.InStep.{help_suits_told}
 use Rattle.core_tokens.proofs.Phases.{entries_if}
-use Rattle.core_tokens.specs.Suits.{Fits, undone_of, IsSized, Suits}
+use Rattle.core_tokens.specs.Suits.{is_help, Fits, undone_of, IsSized, Suits}
 use Rattle.core_tokens.proofs.Starting.{first_free, suits_first}
 use Rattle.core_tokens.proofs.Working.{suits_seek, suits_act}
-use Rattle.core_tokens.proofs.Helping.{suits_double, suits_init_seek, suits_link, suits_store}
+
+-- A phase of a call for help that suits the core suits the call.
+suits_help : (n : State) (s : Seat) (c key : ℕ) (phase : Phase) → HelpSuits n c phase → Suits n s c (calls.Help key) phase
+suits_help n s c key (Doubling size) suits = (refl, suits)
+suits_help n s c key (Initialising way again) suits = (refl, suits)
+suits_help n s c key (Linking way again) suits = (refl, suits)
+suits_help n s c key (Storing way) suits = (refl, suits)
+suits_help n s c key Helped suits = (refl, suits)
+suits_help n s c key (Refused NoMemory) suits = refl
+suits_help n s c key (Refused StampsUsedUp) suits = refl
+suits_help n s c key (Refused r) suits = absurd suits
+suits_help n s c key phase suits = absurd suits
+
+sized_is : (size : ℕ) (phase : Phase) → IsSized size phase → sized_in size phase ≡ phase
+sized_is size (Doubling seen) is = ap Doubling (sym is)
+sized_is size phase is = refl
+
+suits_helper : (m n : State) (c : ℕ) (s : Seat) (call : Call) (phase : Phase) (step : Step) (a : Answer) → nat_le m.limits.callers c ≡ false → IsWhole m → IsWhole n → IsSized m.size phase → is_help call ≡ true → HelpSuits m c phase
+    → step_in c call phase ≡ Some step → Move m step a n → Suits n s c call (told_in call phase a)
+suits_helper m n c s (calls.Help key) phase step a within old whole sized help suits is move =
+    let most = whole.most in
+    let fits = whole.fits in
+    let same = sized_is m.size phase sized in
+    subst (λ p. Suits n s c (calls.Help key) (told_in (calls.Help key) p a)) same
+    (suits_help n s c key (told_in (calls.Help key) (sized_in m.size phase) a) (help_suits_told m n c key phase step a old (omega arith) within suits (ap (step_in c (calls.Help key)) same ∙ is) move))
+suits_helper m n c s call phase step a within old whole sized help suits is move = absurd (false≢true help)
 
 abbrev pub MoveIf : State → Option Step → Answer → State → Type 0
 MoveIf m None a n = ⊥
 MoveIf m (Some step) a n = Move m step a n
 
-pub suits_told : (m n : State) (c : ℕ) (s : Seat) (call : Call) (phase : Phase) (a : Answer) → nat_le m.limits.callers c ≡ false → c < length m.cursors → c < length m.helpers → IsWhole m → IsWhole n
+pub suits_told : (m n : State) (c : ℕ) (s : Seat) (call : Call) (phase : Phase) (a : Answer) → nat_le m.limits.callers c ≡ false → c < length m.cursors → IsWhole m → IsWhole n
     → IsSized m.size phase → undone_of phase < 2 ^ 64 - 1 → Suits m (seat_in m.history c) c call phase → Fits s call (told_in call phase a) → (entries_if (step_in c call phase) a ≡ [] → s ≡ seat_in m.history c)
     → MoveIf m (step_in c call phase) a n → Suits n s c call (told_in call phase a)
-suits_told m n c s call Fresh a within cursors helpers old whole sized few suits fits same move =
+suits_told m n c s call Fresh a within cursors old whole sized few suits fits same move =
     suits_first m n c s call a (first_free m c call within suits.1 suits.0) suits.1 move.allowed fits
-suits_told m n c s call (Seeking work again) a within cursors helpers old whole sized few suits fits same move =
+suits_told m n c s call (Seeking work again) a within cursors old whole sized few suits fits same move =
     suits_seek m n c s call work again a within cursors (same refl) (suits ∙ ap (λ (t : Seat). Some t.phase) (sym (same refl))) move
-suits_told m n c s call (Acting work again) a within cursors helpers old whole sized few suits fits same move =
+suits_told m n c s call (Acting work again) a within cursors old whole sized few suits fits same move =
     suits_act m n c s call work again a within few suits.0 suits.1 move fits
-suits_told m n c s call (Doubling size) a within cursors helpers old whole sized few suits fits same move = suits_double m n c s call size a whole suits sized move
-suits_told m n c s call (Initialising way again) a within cursors helpers old whole sized few suits fits same move = suits_init_seek m n c s call way again a within helpers whole suits.0 suits.1 move
-suits_told m n c s call (Linking way again) a within cursors helpers old whole sized few suits fits same move = suits_link m n c s call way again a within helpers suits.0 suits.1 suits.2 suits.3 move
-suits_told m n c s call (Storing way) a within cursors helpers old whole sized few suits fits same move = suits_store m n c s call way a within old whole suits.0 suits.1 suits.2 suits.3 move
-suits_told m n c s call phase a within cursors helpers old whole sized few suits fits same move = absurd move
+suits_told m n c s call (Doubling size) a within cursors old whole sized few suits fits same move = suits_helper m n c s call (Doubling size) (steps.Double size) a within old whole sized suits.0 suits.1 refl move
+suits_told m n c s call (Initialising way again) a within cursors old whole sized few suits fits same move = suits_helper m n c s call (Initialising way again) (steps.InitSeek c way.bucket) a within old whole sized suits.0 suits.1 refl move
+suits_told m n c s call (Linking way again) a within cursors old whole sized few suits fits same move = suits_helper m n c s call (Linking way again) (steps.InitLink c) a within old whole sized suits.0 suits.1 refl move
+suits_told m n c s call (Storing way) a within cursors old whole sized few suits fits same move = suits_helper m n c s call (Storing way) (steps.InitStore c) a within old whole sized suits.0 suits.1 refl move
+suits_told m n c s call phase a within cursors old whole sized few suits fits same move = absurd move
 
 -- Whether a seat refuses the first step of a call does not depend on the caller's number.
 no_caller : (half : Bool) (s : Seat) (c : ℕ) (call : Call) → refusal_in half s (first_step 0 call) ≡ refusal_in half s (first_step c call)

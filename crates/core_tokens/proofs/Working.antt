@@ -1,8 +1,7 @@
 -- A core and a drive stay in step over the steps of an operation and of a return.
-use Rattle.std.proofs.Common.{◌≡◌, ℕ, ◌+◌, ◌-◌, ◌<◌, ◌==◌, ◌&&◌, ◌||◌, ◌^◌, Bool, true, false, not, cond, if◌then◌else◌, List, length, get_or-set_same, is_some, Option, Some, None, refl, sym, ap, subst, ◌∙◌}
-use Rattle.std.specs.Prelude.{nat_le, slice_get, slice_set, unwrap_or}
+use Rattle.std.proofs.Common.{◌≡◌, ℕ, ◌+◌, ◌-◌, ◌<◌, ◌==◌, ◌&&◌, ◌||◌, ◌^◌, Bool, true, false, not, cond, if◌then◌else◌, List, length, is_some, Option, Some, None, refl, sym, ap, subst, ◌∙◌}
+use Rattle.std.specs.Prelude.{nat_le}
 use Rattle.std.proofs.lemmas.Bool.{false≢true, and_parts, lt-ltb}
-use Rattle.std.proofs.lemmas.Option.{unwrap_or-slice_get}
 use mathlib.Core.Logic.{inl, inr}
 use Rattle.txn_words.specs.declared.answer.Answer.{Answer}
 use Rattle.txn_words.specs.declared.answer.Answer.TheVariants as answers
@@ -27,9 +26,9 @@ use Rattle.boost_core.specs.Refusals.{lacks_in, has_job, has_target, is_closed, 
 use Rattle.boost_core.specs.Answers.{IsReply, is_back_at, is_at_end}
 use Rattle.boost_core.specs.Machine.{IsAllowed, Move}
 use Rattle.boost_core.proofs.Refused.{or_else, refusal_parts}
-use Rattle.boost_core.proofs.Calls.{act_free}
+use Rattle.boost_core.proofs.Calls.{act_free, and_none, never_refused}
+use Rattle.boost_core.proofs.InStep.{set_there}
 use Rattle.core_tokens.specs.Suits.{work_phase, is_odd, Fits, Suits}
-use Rattle.core_tokens.proofs.Starting.{lacks_only}
 
 -- A caller at work has a transaction, and is waiting or leaving.
 abbrev IsAtWork : Option Standing → Type 0
@@ -50,13 +49,6 @@ IsAsking (Some q) = (is_waiting q ≡ true) × ((s : Seat) → has_job (record s
 asking : (call : Call) → IsAsking (work_phase call Operation)
 asking (calls.Op op) = (refl, λ s. refl)
 asking call = tt
-
-pub set_in : {A : Type 0} (xs : List A) (i : ℕ) (x d : A) → i < length xs → unwrap_or (slice_get (slice_set xs i x) i) d ≡ x
-set_in xs i x d within = unwrap_or-slice_get (slice_set xs i x) i d ∙ get_or-set_same xs i x d within
-
-pub and_none : (b : Bool) → (b && false) ≡ false
-and_none true = refl
-and_none false = refl
 
 nothing_only : (b : Bool) (r : Refusal) → cond (not b) (Some NothingToSeek) None ≡ Some r → (b ≡ false) × (r ≡ NothingToSeek)
 nothing_only true r is = absurd (cc is)
@@ -89,7 +81,7 @@ pub suits_seek : (m n : State) (c : ℕ) (s : Seat) (call : Call) (work : Work) 
     → work_phase call work ≡ Some s.phase → Move m (steps.Seek c) a n → Suits n s c call (told_seek work again a)
 suits_seek m n c s call work again answers.Placed within there is fits move =
     placed_suits n c s call work again fits
-    (ap (λ (cursors : List (Option ℕ)). is_some (caller_changes cursors c)) (ap (λ (x : State). x.cursors) move.state) ∙ ap is_some (set_in m.cursors c (Some n.changes) None there))
+    (ap (λ (cursors : List (Option ℕ)). is_some (caller_changes cursors c)) (ap (λ (x : State). x.cursors) move.state) ∙ ap is_some (set_there m.cursors c (Some n.changes) None there))
 suits_seek m n c s call work again (answers.Refused r) within there is fits move =
     let open_so = (subst IsAtWork (fits ∙ ap (λ (t : Seat). Some t.phase) is) (at_work call work)).0 in
     let nothing = seek_refused m c r within open_so move.allowed in
@@ -138,7 +130,7 @@ pub suits_act : (m n : State) (c : ℕ) (s : Seat) (call : Call) (work : Work) (
     → Fits s call (told_act work again a) → Suits n s c call (told_act work again a)
 suits_act m n c s call work again (answers.Refused r) within few at cursor move fits =
     let busy = subst IsAtWork at (at_work call work) in
-    absurd (lacks_only m (steps.Act c) r (act_free m c within busy.0 busy.1 cursor) move.allowed)
+    absurd (never_refused m (steps.Act c) r (act_free m c within busy.0 busy.1 cursor) move.allowed)
 suits_act m n c s call work again answers.Again within few at cursor move fits = fits
 suits_act m n c s call work again (answers.Done r) within few at cursor move fits = done_plain call work _ _ r at move.allowed.1
 suits_act m n c s call work again answers.Undone within few at cursor move fits = undone_suits n c s (seat_in m.history c) call work few at move.allowed.1 fits

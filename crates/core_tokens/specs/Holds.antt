@@ -2,14 +2,12 @@
 -- effect of a call by its end.
 use Rattle.std.specs.Prelude.{ℕ, ◌≡◌, ◌≢◌, Bool, true, false, not, ◌||◌, List, [], ◌++◌}
 use Rattle.std.specs.Prelude.{Option, Some, None, is_some}
-use Rattle.std.specs.List.{filter}
 use Rattle.txn_words.specs.declared.answer.Answer.{Answer}
 use Rattle.txn_words.specs.declared.answer.Answer.TheVariants as answers
 use Rattle.txn_words.specs.declared.entry.Entry.{Entry}
 use Rattle.txn_words.specs.declared.refusal.Refusal.TheVariants.{NoMemory, OutOfStep}
 use Rattle.txn_words.specs.declared.step.Step.{Step}
 use Rattle.txn_words.specs.Entries.{entries_of}
-use Rattle.txn_words.specs.Kinds.{is_commit}
 use Rattle.txn_words.specs.Shape.{Seat, seat_after}
 use Rattle.txn_words.specs.Sizes.{Sizes}
 use Rattle.txn_drive.specs.declared.call.Call.{Call}
@@ -19,7 +17,7 @@ use Rattle.txn_drive.specs.declared.«end».End.TheVariants as ends
 use Rattle.txn_drive.specs.declared.turn.Turn.{Turn}
 use Rattle.txn_drive.specs.declared.turn.Turn.TheVariants.{One, Two, Ended}
 use Rattle.txn_drive.specs.declared.phase.Phase.{Phase}
-use Rattle.txn_drive.specs.Made.{made, IsMade}
+use Rattle.txn_drive.specs.Made.{made, IsMade, CommitNothing, IsQuiet}
 use Rattle.txn_drive.specs.Drives.{sized_of, step_of, turn_of, told_of, end_of}
 use Rattle.boost_core.specs.State.{State}
 use Rattle.boost_core.specs.Words.{Goes}
@@ -150,15 +148,6 @@ pub record TurnTaken (tried : Option Trial) (m : State) (seen : List Entry) (d :
 abbrev pub MayEnd : Call → End → Type 0
 MayEnd call (ends.Refused OutOfStep) = Unit {0}
 MayEnd call outcome = is_odd call outcome ≡ false
-
--- None of the entries commits.
-abbrev pub CommitNothing : List Entry → Type 0
-CommitNothing es = filter is_commit es ≡ []
-
--- A call that ends out of step has committed nothing.
-abbrev pub IsQuiet : End → List Entry → Type 0
-IsQuiet (ends.Refused OutOfStep) added = CommitNothing added
-IsQuiet outcome added = Unit {0}
 
 -- A call with this end; the entries `base` were seen before it. It is quiet, provided that the rule
 -- of shape has a row for each entry that was seen.

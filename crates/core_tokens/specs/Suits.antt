@@ -1,7 +1,6 @@
 -- The phases of a drive that suit a caller's seat and the core.
 use Rattle.std.specs.Prelude.{ℕ, ◌≡◌, ◌<◌, ◌≤◌, Bool, true, false, not, List, length, Option, Some}
 use Rattle.std.specs.Prelude.{None, is_some}
-use Rattle.split_key.specs.Split.{parent_of, IsAncestor}
 use Rattle.txn_words.specs.declared.entry.Entry.{Entry}
 use Rattle.txn_words.specs.declared.refusal.Refusal.{Refusal}
 use Rattle.txn_words.specs.declared.refusal.Refusal.TheVariants.{NoMemory, StampsUsedUp, StaleWord}
@@ -17,15 +16,14 @@ use Rattle.txn_drive.specs.declared.«end».End.{End}
 use Rattle.txn_drive.specs.declared.«end».End.TheVariants as ends
 use Rattle.txn_drive.specs.declared.phase.Phase.{Phase}
 use Rattle.txn_drive.specs.declared.phase.Phase.TheVariants.{Fresh, Seeking, Acting, Doubling}
-use Rattle.txn_drive.specs.declared.phase.Phase.TheVariants.{Initialising, Linking, Storing, First}
-use Rattle.txn_drive.specs.declared.phase.Phase.TheVariants.{Last, Lost, Helped, Refused}
+use Rattle.txn_drive.specs.declared.phase.Phase.TheVariants.{First, Last, Refused}
 use Rattle.txn_drive.specs.declared.phase.Work.{Work}
 use Rattle.txn_drive.specs.declared.phase.Work.TheVariants.{Operation, Busy, Leaving}
-use Rattle.txn_drive.specs.declared.way.Way.{Way}
 use Rattle.txn_drive.specs.Drives.{first_step, end_first, end_last}
 use Rattle.txn_drive.specs.Made.{undone_in}
-use Rattle.boost_core.specs.State.{State, seat_in, caller_changes, help_in, is_set, bucket_at}
-use Rattle.boost_core.specs.Refusals.{refusal_in, lacks_in, has_cursor, has_dummy}
+use Rattle.boost_core.specs.State.{State, seat_in, caller_changes}
+use Rattle.boost_core.specs.Refusals.{refusal_in, lacks_in}
+use Rattle.boost_core.specs.Helps.{HelpSuits}
 
 -- The phase of a caller during a work of its call.
 abbrev pub work_phase : Call → Work → Option Standing
@@ -75,13 +73,6 @@ abbrev pub IsSized : ℕ → Phase → Type 0
 IsSized size (Doubling seen) = seen ≡ size
 IsSized size phase = Unit {0}
 
--- The bucket on the way may be initialised.
-pub record IsOnWay (m : State) (way : Way) : Type 0 where
-  pub ancestor : IsAncestor way.bucket way.target
-  pub target : way.target < m.size
-  pub bucket : way.bucket < m.size
-  pub parent : is_set m.stored (parent_of way.bucket) ≡ true
-
 -- Its caller's seat, cursor and helper are as the drive was told last.
 abbrev pub Suits : State → Seat → ℕ → Call → Phase → Type 0
 Suits m s c call Fresh =
@@ -90,19 +81,10 @@ Suits m s c call (Seeking work again) = work_phase call work ≡ Some s.phase
 Suits m s c call (Acting work again) =
     (work_phase call work ≡ Some s.phase)
     × (lacks_in s (is_some (caller_changes m.cursors c)) (Act c) ≡ false)
-Suits m s c call (Doubling size) = is_help call ≡ true
-Suits m s c call (Initialising way again) = (is_help call ≡ true) × IsOnWay m way
-Suits m s c call (Linking way again) =
-    (is_help call ≡ true) × IsOnWay m way × (has_cursor (help_in m.helpers c) ≡ true)
-    × (bucket_at (help_in m.helpers c) ≡ way.bucket)
-Suits m s c call (Storing way) =
-    (is_help call ≡ true) × IsOnWay m way × (has_dummy (help_in m.helpers c) ≡ true)
-    × (bucket_at (help_in m.helpers c) ≡ way.bucket)
 Suits m s c call (First answer) = is_odd call (end_first call answer) ≡ false
 Suits m s c call (Last work answer) = is_odd call (end_last call work answer) ≡ false
-Suits m s c call (Lost work) = ⊥
-Suits m s c call Helped = is_help call ≡ true
 Suits m s c call (Refused refusal) = is_odd call (ends.Refused refusal) ≡ false
+Suits m s c call phase = (is_help call ≡ true) × HelpSuits m c phase
 
 -- The core has the limits, the caller's entries are those that were seen, and the drive is as it
 -- was told last.

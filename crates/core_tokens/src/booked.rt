@@ -1,5 +1,6 @@
-//! A core that callers share, with the book that counts its entries. Invariant: the book's total is
-//! the length of the history, so no entry can be added without a caller's share of the ledger.
+//! A core with the book that counts its entries, made together with the passes of its callers. It
+//! is a type beside `Core`, since `boost_core` knows no ledger. Invariant: the book's total is the
+//! length of the history, so no entry can be added without a caller's share of the ledger.
 ghost use Rattle.std.specs.Prelude.{◌≡◌, ◌+◌, true, length, IfErr, IfOk};
 ghost use Rattle.std.specs.List.{sum_by};
 ghost use Rattle.boost_core.specs.State.{start_with_words};
@@ -9,7 +10,7 @@ use crate::caller::Caller;
 use crate::pass::{Pass, passes_of, words_of};
 use crate::room::Room;
 use boost_core::Core;
-use std::alloc::{AllocError, Global};
+use std::alloc::Global;
 use std::sync::ledger::{Blank, Book, Ledger, Share};
 use txn_trace::{Limits, Refusal};
 use undo_log::Side;
@@ -68,7 +69,8 @@ impl<L: Ledger> Booked<L> {
     ///
     /// # Cost
     ///
-    /// That of `new`, and the memory for the room: 32 bytes for an entry, 40 for a node.
+    /// That of `new`, and the memory for the room: 32 bytes for an entry, 40 for a node. If the room
+    /// is written, time in proportion to it, and 4 bytes more for a node.
     pub fn with_room(
         alloc: Global,
         blank: Blank,
@@ -84,17 +86,15 @@ impl<L: Ledger> Booked<L> {
     {
         let (book, mut all) = blank.open::<L>();
         let none = all.empty();
-        let mut core = match Core::with_capacity(alloc, limits, room.nodes) {
+        let mut core = match Core::with_capacity(alloc, limits, room.nodes, room.is_written) {
             Ok(core) => core,
             Err(_) => Core::with_words(alloc, limits)?,
         };
-        let _entries = core.reserve(room.entries);
+        let _entries = core.reserve(room.entries, room.is_written);
         let booked = Booked { core, book, none };
         let (words, seats) = words_of(alloc, limits)?;
-        match passes_of(alloc, limits, words, seats, &mut all) {
-            Ok(passes) => Ok((booked, passes)),
-            Err(AllocError) => Err(Refusal::NoMemory),
-        }
+        let passes = passes_of(alloc, limits, words, seats, &mut all)?;
+        Ok((booked, passes))
     }
 
     /// Takes the core out, once the callers of all passes are there: its history has as many

@@ -1,5 +1,7 @@
-//! A caller's token: its seat after its own entries, its rights and its side value. Invariant: its
-//! share of the ledger counts as many entries as `seen` has.
+//! A caller's token: the entries that its calls added, its rights to stripes and its side value.
+//! Each part has a type with its own invariant; here one call changes them together, and only here
+//! does a token break. Invariant: it has a word for each stripe of its map, and unless it is
+//! broken, the rule of shape has a row for each entry that it saw.
 ghost use Rattle.std.specs.Prelude.{◌≡◌, ◌≢◌, ◌<◌, true, false, is_some, length, unwrap_or, Some};
 ghost use Rattle.std.specs.Prelude.{None, [], ◌∷◌, List, ◌+◌, IfSome, IfNone, IfErr, OnOk, OnErr};
 ghost use Rattle.txn_words.specs.declared.entry.Entry.{Entry};
@@ -125,7 +127,8 @@ impl<L: Ledger, S: Side> Caller<L, S> {
     }
 
     /// Makes room in `seen` for this many more entries, so that it need not grow while they are
-    /// added. The token is unchanged.
+    /// added. If the room is to be written, no later entry is the first to touch a page of memory.
+    /// The token is unchanged.
     ///
     /// # Errors
     ///
@@ -133,11 +136,12 @@ impl<L: Ledger, S: Side> Caller<L, S> {
     ///
     /// # Cost
     ///
-    /// One allocation, and a copy of the entries if there are any.
-    pub fn reserve(&mut self, entries: usize) -> Result<(), AllocError>
+    /// One allocation, and a copy of the entries if there are any; if the room is written, time in
+    /// proportion to it.
+    pub fn reserve(&mut self, entries: usize, is_written: bool) -> Result<(), AllocError>
         ensures { self.new ≡ self.old }
     {
-        self.seen.reserve_entries(entries)
+        self.seen.reserve_entries(entries, is_written)
     }
 
     /// Whether it has no transaction open and may begin one. For a broken token, which may do
@@ -287,10 +291,8 @@ impl<L: Ledger, S: Side> Caller<L, S> {
             × (self.new ≡ self.old)) }
     {
         let stripe = op.key() % u64::from(self.limits.stripes());
-        match self.claims.try_word(stripe) {
-            Ok(()) => Ok(()),
-            Err(AllocError) => Err(Refusal::NoMemory),
-        }
+        self.claims.try_word(stripe)?;
+        Ok(())
     }
 
     /// Makes the token ready for the holds of a call, if it does not refuse the call: tries the

@@ -1,5 +1,7 @@
 //! The rights to stripes that a caller holds, and the word that it tried last: an operation is
-//! asked for by one of these.
+//! asked for by one of these. They are apart from `seen`, since words are tried and rights given
+//! back between holds, and a hold changes none of them. Invariant: a right that the last trial
+//! found is at the position that the trial names, so asking by it takes constant time.
 ghost use Rattle.std.specs.Prelude.{◌≡◌, ◌<◌, [], true, None, IfErr, OnOk};
 ghost use Rattle.txn_trace.specs.Locks.{stripe_of};
 ghost use Rattle.txn_words.specs.Map.{key_of};

@@ -1,5 +1,7 @@
 //! The laws of holds: a function that does nothing, whose contract is about the holds of a call for
-//! help. It is about one hold at a time, so it serves those who take holds by hand too.
+//! help. Each clause is about one hold, so it serves those who take holds by hand too; from one to
+//! the next they carry a key's bucket, which the contract of `Caller::hold` cannot. They rely on
+//! `Held`, which that contract ensures, and in the last hold on a core that is `IsWhole`.
 ghost use Rattle.std.specs.Prelude.{◌≡◌, ◌%◌, ℕ, true, Some, None};
 ghost use Rattle.txn_drive.specs.declared.drive.Drive.{Drive};
 ghost use Rattle.txn_drive.specs.declared.«end».End.TheVariants.{Helped};

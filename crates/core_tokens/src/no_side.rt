@@ -1,5 +1,6 @@
-//! The side value of callers that keep none: its words never change, and its jobs do nothing. So
-//! the calls of a caller are written once, for callers with and without a side value.
+//! A side value for callers that keep none, so that the calls of a caller are written once, for
+//! callers with and without one. It is of the tokens: `undo_log` has only the trait that it
+//! implements. Invariant: its four words are 0 before and after each job, so no return changes it.
 use undo_log::Side;
 
 /// No side value, for callers that keep nothing beside the map: its words never change.

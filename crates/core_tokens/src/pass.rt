@@ -107,9 +107,7 @@ pub(crate) fn words_of(
     ensures seats { IfOk result (λ r. AreSeats r.0.value limits.callers r.1.items) }
     ensures err { IfErr result (λ refusal. refusal ≡ Refusal.NoMemory) }
 {
-    let Ok(rights) = StripeRight::all(alloc, limits.stripes() as usize) else {
-        return Err(Refusal::NoMemory);
-    };
+    let rights = StripeRight::all(alloc, limits.stripes() as usize)?;
     let Ok((words, seats)) = KeyWords::new(alloc, rights, limits.callers() as usize) else {
         return Err(Refusal::NoMemory);
     };

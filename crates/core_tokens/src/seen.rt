@@ -1,5 +1,6 @@
-//! The entries that a caller has seen, with its seat after them and its share of the ledger.
-//! Invariant: there is room for all that the caller owes, and the share counts the entries.
+//! The entries that a caller has seen, with its seat after them and its share of the ledger. They
+//! are one type, since `note` adds an entry to all three. Invariant: the share counts the entries,
+//! and there is room for all that the caller owes, so no commit or abort is refused memory here.
 ghost use Rattle.std.specs.Prelude.{◌≡◌, ◌+◌, ◌<◌, ◌≤◌, ◌^◌, ℕ, true, [], ◌++◌, is_some, length};
 ghost use Rattle.std.specs.Prelude.{Some, OnOk, OnErr};
 ghost use Rattle.txn_words.specs.Entries.{entries_of};
@@ -13,7 +14,9 @@ ghost use Rattle.core_tokens.specs.Tokens.{is_over};
 use std::alloc::{AllocError, Global};
 use std::marker::Model;
 use std::sync::ledger::{Book, Ledger, Share};
-use txn_trace::{Answer, Entry, Limits, Phase, Refusal, Seat, SmallEntry, Step, entry_of};
+use txn_trace::{
+    Answer, Entry, Limits, Phase, Refusal, Seat, SmallEntry, Step, entry_of, make_room,
+};
 
 /// The entries that a caller's calls have added, in order, and the seat that they give it.
 ///
@@ -106,15 +109,19 @@ impl<L: Ledger> Seen<L> {
         self.seat.refusal(limits, step)
     }
 
-    /// Makes room for this many more entries.
+    /// Makes room for this many more entries, written or not.
     ///
     /// # Errors
     ///
     /// `AllocError` if memory is refused.
-    pub(crate) fn reserve_entries(&mut self, entries: usize) -> Result<(), AllocError>
+    pub(crate) fn reserve_entries(
+        &mut self,
+        entries: usize,
+        is_written: bool,
+    ) -> Result<(), AllocError>
         ensures { self.new.entries ≡ self.old.entries }
     {
-        self.entries.reserve(entries)
+        make_room(&mut self.entries, entries, is_written)
     }
 
     /// Makes room for the entry that a step may add, and for all that is owed after it.

@@ -1,5 +1,7 @@
-//! The turns of a drive on the core. A step is taken on the core, in the book, in the seen entries
-//! and in the drive by one function, so that none of them misses it.
+//! The turns of a drive on the core. One function takes a step on the core, in the book, in the
+//! seen entries and in the drive, so that none of them misses it; `Caller::hold` tests the token
+//! before and after. Room for the entries of a turn is made before its first step: if that is
+//! refused, core, entries and drive are unchanged.
 ghost use Rattle.std.specs.Prelude.{◌≡◌, ℕ, true, false, Some, List, [], is_some};
 ghost use Rattle.txn_words.specs.declared.entry.Entry.{Entry};
 ghost use Rattle.txn_words.specs.declared.refusal.Refusal.{Refusal};

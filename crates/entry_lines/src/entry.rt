@@ -1,5 +1,6 @@
-//! An entry from the elements of its array, in the form of the newest version of history files. The
-//! elements were read before, so this takes no memory.
+//! An entry from the elements of its array, in the form of the newest version of history files. It
+//! is apart from `txn_files`, whose readers take whole files, and computes the same definitions.
+//! The elements were read before, so this takes constant time and no memory.
 ghost use Rattle.std.specs.Prelude.{◌≡◌, map, option_map};
 ghost use Rattle.piece_files.specs.Plain.{data_of};
 ghost use Rattle.txn_files.specs.Entries.{busy_of, entry_named, entry_of, transaction_entry};

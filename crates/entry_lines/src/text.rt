@@ -1,5 +1,6 @@
-//! A history as lines, one for each entry: the text of a store that records its own history. The
-//! text is made as a whole, in time and memory in proportion to the entries.
+//! A history as lines, one for each entry: the text of a store that records its own history. A line
+//! depends on its entry only, so lines can be appended, and a text that is cut short can be read.
+//! The text is made as a whole, in time and memory in proportion to the entries.
 ghost use Rattle.std.specs.Prelude.{◌≡◌, [], ◌∷◌, ◌++◌, decimal, OnOk, IfOk, string_bytes};
 ghost use Rattle.std.specs.List.{join_with_byte};
 ghost use Rattle.txn_files.specs.HistoryText.{array_text, comma, optional_text, quoted};

@@ -1,5 +1,6 @@
 //! Calls `audit` on two histories, which are written out as entries: one that is legal, and one
-//! that is not. They differ only in the last reply. No map is needed to judge them.
+//! that is not. They differ only in the last reply. No map is needed to judge them, so this example
+//! is apart from those that run one.
 use audit::is_legal;
 use std::io;
 use std::io::Print;

@@ -1,5 +1,6 @@
 //! Calls `visits`: four visitors put different values at the same key, all at once, and each gets
-//! the value that it put.
+//! the value that it put, which that crate proves. It also has the threads; here is only the call.
+//! The answers are in the order of the visits, so the output is the same in each run.
 use boost_core::Core;
 use std::io;
 use std::io::Print;

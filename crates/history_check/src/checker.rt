@@ -1,5 +1,6 @@
-//! A checker that is fed the entries of a history one after another. Once an entry breaks a rule,
-//! the verdict stays, whatever is fed after it.
+//! The checker that is fed entry by entry: a state, the number of entries so far, and the first bad
+//! one. The state judges one entry; this module keeps the verdict, which stays once an entry breaks
+//! a rule, whatever is fed after it. If memory is refused, the same entry may be fed again.
 ghost use Rattle.std.specs.Prelude.{◌≡◌, ℕ, ◌<◌, ◌++◌, [], ◌∷◌, List, IfOk, OnOk, OnErr};
 ghost use Rattle.txn_words.specs.Kinds.{caller_of};
 ghost use Rattle.txn_words.specs.declared.holder.Holder.{Holder};

@@ -1,5 +1,6 @@
-//! The check of a whole history in memory: a checker, fed with every entry. Packed entries are
-//! unpacked one at a time.
+//! The check of a whole history in memory: a checker, fed with every entry. Only this module takes
+//! lists of entries. Packed ones are unpacked one at a time, so a check takes no memory besides the
+//! checker's; after a bad entry it reads on, in constant time for each entry.
 ghost use Rattle.std.specs.Prelude.{◌<◌, IfOk};
 ghost use Rattle.std.specs.List.{All};
 ghost use Rattle.txn_words.specs.Kinds.{caller_of};

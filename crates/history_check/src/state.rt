@@ -1,5 +1,6 @@
-//! The state of a checker: callers and live map, and whether an entry was bad. Its view is the
-//! history that it was fed; no list of the entries is kept.
+//! The state of a checker: callers and live map, by which each entry is judged, first its shape,
+//! then replies, then locks. The checker notes the first bad entry, and asks the state no more
+//! after it. A contract sees the history that the state tells; no list of the entries is kept.
 ghost use Rattle.std.specs.Prelude.{◌<◌, [], IfOk, OnErr};
 ghost use Rattle.txn_words.specs.Kinds.{caller_of};
 

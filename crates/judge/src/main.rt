@@ -1,5 +1,6 @@
-//! The program `judge`. `judge_line::run` decides what it does with its words, its input and its
-//! outputs, and its exit status; nothing is decided here.
+//! The program `judge`: it hands the memory, the files and the outputs of a process to
+//! `judge_line::run`, which decides what is done with them and answers the exit status. That is in
+//! another crate, so that it is tested without a process.
 #![tactic(auto)]
 
 use judge_line::{Host, run};

@@ -7,7 +7,8 @@ use Rattle.judge_engine.specs.declared.basis.Basis.{Basis}
 use Rattle.judge_engine.specs.declared.fault.Fault.{Fault}
 use Rattle.judge_engine.specs.declared.fault.Fault.TheVariants.{Input, Line, NoMemory, Read, Write}
 use Rattle.entry_lines.specs.Lines.{history_of_lines}
-use Rattle.judge_engine.specs.Files.{FailsToCheck, FailsToExplain, IsUnjudgedFile, max_read}
+use Rattle.txn_files.specs.Reading.{max_read}
+use Rattle.judge_engine.specs.Files.{FailsToCheck, FailsToExplain, IsUnjudgedFile}
 use Rattle.judge_engine.specs.Outputs.{Leaves}
 use Rattle.judge_engine.specs.Watching.{FailsToWatch, IsJudgedLines, IsRefusedLine, IsUnjudged, Watches}
 use Rattle.judge_engine.proofs.Known.{OfAll-early, OfAll-read}

@@ -1,6 +1,5 @@
 -- The bytes that a watcher took in, and the verdict on them.
 use Rattle.std.proofs.Common.{◌≡◌, ℕ, ◌+◌, true, false, List, [], ◌∷◌, ◌++◌, Option, Some, None, is_some, refl, sym, ap, subst, ◌∙◌, append-nil}
-use Rattle.std.specs.Option.{SomeIff}
 use Rattle.txn_words.specs.declared.entry.Entry.{Entry}
 use Rattle.piece_files.specs.declared.file_fault.FileFault.{FileFault}
 use Rattle.history_check.specs.declared.verdict.Rule.{Rule}
@@ -44,10 +43,6 @@ settled basis bytes more w outcome entry rule is t v =
 pub line_done : (bytes : List ℕ) (h : List Entry) (part : List ℕ) (n next : ℕ) (refused : Option (ℕ × FileFault)) → part ≡ [] → next ≡ n + 1 → is_some refused ≡ false → StandsAt bytes h [] (n + 1) None → StandsAt bytes h part next refused
 line_done bytes h part n next None empty is e s = rw (empty, is) s
 line_done bytes h part n next (Some r) empty is e s = absurd (cc e)
-
-pub next_is : (o : Option ℕ) (P : Type 0) (v x : ℕ) → SomeIff o P v → o ≡ Some x → x ≡ v
-next_is None P v x may is = absurd (cc is)
-next_is (Some y) P v x may is = let same : y ≡ x = cc is in sym same ∙ may.1
 
 -- A line is refused, and all entries before it are legal.
 pub refused_line : (basis : Basis) (bytes more : List ℕ) (h : List Entry) (part : List ℕ) (n number : ℕ) (fault : FileFault) (refused : Option (ℕ × FileFault)) (outcome : Verdict) (commits running : ℕ) → refused ≡ Some (number, fault) → outcome ≡ Legal commits running → StandsAt bytes h part n refused → IsVerdictBy basis h outcome → IsRefusedLine basis (history_of_lines (bytes ++ more)) number fault

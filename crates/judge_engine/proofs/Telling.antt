@@ -14,7 +14,8 @@ use Rattle.piece_files.specs.Faults.{Fails}
 use Rattle.piece_files.specs.declared.file_fault.FileFault.{FileFault}
 use Rattle.piece_files.specs.declared.file_fault.FileFault.TheVariants as files
 use Rattle.script_outcomes.specs.Outcomes.{AreOutcomes}
-use Rattle.judge_engine.specs.Files.{OfFile, max_read}
+use Rattle.txn_files.specs.Reading.{max_read}
+use Rattle.judge_engine.specs.Files.{OfFile}
 use Rattle.judge_engine.specs.Outcomes.{is_kind, how_many, outcome_line, lines_from, outcomes_text, IsWell, HistoryOf, FailsForScripts, FailsForHistory, of_scripts, of_history, Tells}
 
 count_push : (kind : Kind) (os : List Outcome) (o : Outcome) → how_many kind (os ++ o ∷ []) ≡ how_many kind os + cond (is_kind kind o) 1 0

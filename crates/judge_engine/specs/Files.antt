@@ -1,20 +1,14 @@
 -- The answers about a history file.
-use Rattle.std.specs.Prelude.{◌≡◌, ℕ, Bool, true, false, nat_le, List, take, Option, Ok, Err, IfSome, if◌then◌else◌}
+use Rattle.std.specs.Prelude.{◌≡◌, ℕ, Bool, true, false, List, take, Option, Ok, Err, IfSome}
 use Rattle.txn_words.specs.declared.entry.Entry.{Entry}
-use Rattle.txn_words.specs.declared.holder.Holder.{Holder}
-use Rattle.txn_words.specs.declared.holder.Holder.TheVariants.{Now, Begun}
-use Rattle.txn_files.specs.HistoryFile.{history_of}
+use Rattle.txn_files.specs.HistoryFile.{history_of, holder_in}
+pub use Rattle.txn_files.specs.Reading.{max_read}
 use Rattle.history_check.specs.declared.verdict.Verdict.{Verdict}
 use Rattle.judge_engine.specs.declared.basis.Basis.{Basis}
 use Rattle.judge_engine.specs.declared.basis.Basis.TheVariants.{Locks, Commits}
 use Rattle.judge_engine.specs.declared.fault.Fault.{Fault}
 use Rattle.judge_engine.specs.declared.fault.Fault.TheVariants.{Input, Line, NoMemory, Read, Write}
 use Rattle.judge_engine.specs.Bases.{IsVerdictBy}
-
--- Whom a Busy may name in a history file of this version: in versions 1 and 2 a caller that holds
--- the stripe, after them one that has begun a transaction.
-abbrev pub holder_in : ℕ → Holder
-holder_in version = if nat_le version 2 then Now else Begun
 
 -- The rules by which a history file is judged.
 abbrev pub basis_of : Bool → ℕ → ℕ → Basis
@@ -37,10 +31,6 @@ IsUnjudgedFile bytes NoMemory = Unit {0}
 IsUnjudgedFile bytes Read = Unit {0}
 IsUnjudgedFile bytes (Line number fault) = ⊥
 IsUnjudgedFile bytes Write = ⊥
-
--- One byte more than a file may have.
-abbrev pub max_read : ℕ
-max_read = 16777217
 
 -- A property of the bytes that a reader had left, or of the first of them, one more than a file may
 -- have.

@@ -1,5 +1,7 @@
-//! The commands of `judge` over a reader and a writer. Each makes the text of a verdict as a whole
-//! before it writes: so a fault before that leaves the output unchanged.
+//! The commands of `judge` that answer a verdict, over a reader and a writer; the modules beside
+//! read, judge and write. Each makes the text of a verdict as a whole before it writes: so a fault
+//! before that leaves the output unchanged. `watch` has only a checker in memory, the others a
+//! file.
 ghost use Rattle.std.specs.Prelude.{IfOk, IfErr};
 ghost use Rattle.judge_engine.specs.Bases.{HasStripes};
 ghost use Rattle.judge_engine.specs.Files.{Checks, FailsToCheck, FailsToExplain};

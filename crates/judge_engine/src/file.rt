@@ -5,30 +5,17 @@ ghost use Rattle.std.specs.Prelude.{◌≡◌, ◌<◌, IfOk, IfErr};
 ghost use Rattle.std.specs.List.{All};
 ghost use Rattle.txn_words.specs.Kinds.{caller_of};
 ghost use Rattle.piece_files.specs.Faults.{Gives};
-ghost use Rattle.txn_files.specs.HistoryFile.{history_of};
+ghost use Rattle.txn_files.specs.HistoryFile.{history_of, holder_in};
 ghost use Rattle.judge_engine.specs.declared.basis.Basis.TheVariants as bases;
 ghost use Rattle.judge_engine.specs.Bases.{IsVerdictBy};
-ghost use Rattle.judge_engine.specs.Files.{holder_in, IsJudgedFile, IsUnjudgedFile};
+ghost use Rattle.judge_engine.specs.Files.{IsJudgedFile, IsUnjudgedFile};
 
 use crate::fault::Fault;
 use crate::lines::{lines_by_commits, lines_by_locks};
 use history_check::Verdict;
 use std::alloc::{AllocError, Global};
-use txn_files::{FileFault, read_packed_history};
+use txn_files::{FileFault, holder_in, read_packed_history};
 use txn_trace::{Holder, SmallEntry};
-
-/// The last version of history files in which a Busy names a caller that holds the stripe.
-const LAST_OF_NOW: u64 = 2;
-
-/// Whom a Busy may name in a history file of this version. Constant time.
-fn holder_in(version: u64) -> Holder
-    ensures { result ≡ holder_in version }
-{
-    match version <= LAST_OF_NOW {
-        true => Holder::Now,
-        false => Holder::Begun,
-    }
-}
 
 /// The stripes, the entries and the version of the history file that bytes are. The bytes are
 /// dropped.

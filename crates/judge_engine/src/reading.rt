@@ -4,7 +4,7 @@
 ghost use Rattle.std.specs.Prelude.{◌≡◌, ◌<◌, [], length, take, IfOk, IfErr, IfSome};
 ghost use Rattle.judge_engine.specs.declared.basis.Basis.{Basis as TheBasis};
 ghost use Rattle.judge_engine.specs.Faults.{IsReadFault};
-ghost use Rattle.judge_engine.specs.Files.{max_read};
+ghost use Rattle.txn_files.specs.Reading.{max_read};
 ghost use Rattle.judge_engine.specs.Bases.{HasStripes};
 ghost use Rattle.judge_engine.specs.Watchers.{TookIn};
 ghost use Rattle.judge_engine.specs.Watching.{FailsToWatch, Watches};

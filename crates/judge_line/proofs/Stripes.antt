@@ -1,12 +1,13 @@
 -- How many locks a word asks for.
-use Rattle.std.proofs.Common.{◌≡◌, ℕ, ◌<◌, ◌≤◌, ◌^◌, ◌&&◌, Bool, true, List, [], ◌∷◌, length, Option, Some, None, Result, Ok, Err, arith, refl, sym, ap, ◌∙◌}
+use Rattle.std.proofs.Common.{◌≡◌, ℕ, ◌<◌, ◌≤◌, ◌^◌, ◌&&◌, Bool, true, List, Option, Some, None, Result, Ok, Err, arith, sym, ap, ◌∙◌}
 use Rattle.std.specs.Prelude.{if◌then◌else◌, nat_le, option_and_then}
 use Rattle.std.specs.Result.{result_ok}
 use Rattle.std.specs.Str.Parse.{ParsesUnsigned, digits_value, without_leading_plus}
 use Rattle.std.proofs.lemmas.Bool.{and_parts, and_from, false_from_ne_true, le-leb, leb-true}
 use Rattle.program_host.specs.Words.{is_numeral}
 use Rattle.program_host.proofs.Numerals.{numeral_to, numeral_from}
-use Rattle.judge_line.specs.Words.{max_stripes, stripes_of}
+use Rattle.txn_words.specs.Sizes.{max_stripes}
+use Rattle.judge_line.specs.Words.{stripes_of}
 
 abbrev pub in_range : ℕ → Option ℕ
 in_range n = if nat_le 1 n && nat_le n max_stripes then Some n else None

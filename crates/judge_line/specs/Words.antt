@@ -12,6 +12,7 @@ use Rattle.clap.specs.Words.{new_app, new_rule, subcommand_of, with_rule, with_s
 use Rattle.clap.specs.Simple.{on_top}
 use Rattle.program_host.specs.Words.{is_numeral}
 use Rattle.txn_words.specs.declared.holder.Holder.TheVariants.{Begun}
+use Rattle.txn_words.specs.Sizes.{max_stripes}
 use Rattle.judge_engine.specs.declared.basis.Basis.{Basis}
 use Rattle.judge_engine.specs.declared.basis.Basis.TheVariants.{Locks, Commits}
 use Rattle.judge_engine.specs.Bases.{HasStripes}
@@ -91,12 +92,8 @@ abbrev pub is_set : Option Text → Bool
 is_set None = false
 is_set (Some word) = bytes_eq word (codes "true")
 
--- The greatest number of locks, which is also the default.
-abbrev pub max_stripes : ℕ
-max_stripes = 4096
-
--- The number from 1 to 4,096 that a word writes, which is one or more decimal digits, and a plus
--- before them if need be.
+-- The number from 1 to `max_stripes` that a word writes, which is one or more decimal digits, and a
+-- plus before them if need be.
 abbrev pub stripes_of : Text → Option ℕ
 stripes_of word =
     let digits = without_leading_plus word in

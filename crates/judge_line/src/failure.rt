@@ -1,5 +1,6 @@
-//! Why a call of the program has no verdict, and the usage, which is printed for words that are no
-//! call.
+//! The reasons why a call of the program has no verdict or no outcomes, and the usage, which is
+//! printed for words that are no call. The engines have a fault type each and know no words; here
+//! the three are one type, with one line and one exit status for each value.
 ghost use Rattle.std.specs.Prelude.{◌≡◌};
 ghost use Rattle.judge_line.specs.Failures.{message_of, status_of};
 ghost use Rattle.judge_line.specs.declared.failure.Failure.TheVariants as failures;

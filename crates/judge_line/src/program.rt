@@ -1,5 +1,6 @@
-//! The whole call: words, files, the engine, the line of a failure, the exit status. It is generic
-//! over the system and both outputs, so that contracts and tests reach all of it.
+//! The whole call of `judge`: words, files, the engine, the line of a failure, the exit status. The
+//! engines take readers, so the names in a call are opened here. The system and both outputs are
+//! type parameters, so that tests run a call on words and files in memory.
 ghost use Rattle.std.specs.Prelude.{◌≡◌, ◌⊎◌, Bool, Result, Some, IfOk, IfErr, IfSome};
 ghost use Rattle.std.specs.IoError.{error_kind};
 ghost use Rattle.judge_engine.specs.declared.fault.Fault.TheVariants as faults;

@@ -1,5 +1,6 @@
-//! A law of the words: a function that does nothing, whose contract is the law. So a crate above
-//! can cite it without naming a lemma of this crate.
+//! A law of the words, by a function that does nothing and whose contract is the law: a crate above
+//! can cite it without naming a lemma of this crate. No contract of a call could say it, since each
+//! is about one seat: the law compares the views of two.
 ghost use Rattle.key_words.specs.Laws.{HeldOnce};
 
 /// No stripe is held in two views.

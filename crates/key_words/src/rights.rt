@@ -1,5 +1,6 @@
 //! A seat and the rights of the stripes that it holds, as one value, so that no call can separate
-//! them. Invariant: the rights are those of the stripes that the seat holds, each once.
+//! them. Invariant: the rights are those of the stripes that the seat holds, each once. They have
+//! no index, so a take looks through them before it tries a word.
 ghost use Rattle.std.specs.Prelude.{◌≡◌, ◌<◌, [], reverse, vec_len, slice_get, Some, IfErr, IfOk, IfSome, IfNone};
 ghost use Rattle.key_words.specs.Rule.{Holds};
 ghost use Rattle.key_words.specs.Seats.{IsOf, known, stripes_of};

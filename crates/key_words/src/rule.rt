@@ -1,5 +1,6 @@
-//! The rule of the words, and a type for each of the steps that keep it. A call names its step by
-//! the type, and no value of these types is made.
+//! The rule of the words, and a type for each of the steps that keep it. They are apart from the
+//! code of `words`, which names each step on a word, and each new seat, by its type. No value of
+//! these types is made, so the rule costs nothing when a program runs.
 ghost use Rattle.std.specs.Prelude.{[]};
 ghost use Rattle.key_words.specs.Rule.{IsOrderly, view};
 ghost use Rattle.key_words.specs.Steps.{brought, elder, freed, newborn, took};

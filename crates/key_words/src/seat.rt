@@ -1,5 +1,6 @@
-//! A seat at the words: the state that one thread brings to an atomic step. Invariant: it has out
-//! exactly the slots of the stripes that it holds, each empty.
+//! The state that one thread brings to an atomic step on the words: its number and its seat at the
+//! atomic table. The rights that it took are elsewhere, so a single take needs no list. Invariant:
+//! the number is below 64, and the slots that are out are those of its stripes, each empty.
 ghost use Rattle.std.specs.Prelude.{◌≡◌, ℕ, ◌<◌, []};
 ghost use Rattle.key_words.specs.Rule.{Holds};
 ghost use Rattle.key_words.specs.Steps.{emptied};

@@ -1,5 +1,6 @@
 //! The answers to takes, for a caller that takes a single stripe and for one that keeps its rights:
-//! granted, or the word that was seen.
+//! the right or its position, or the word that was seen. The word names the seat that held the
+//! stripe at the atomic step; that seat may have given it back since.
 use key_locks::StripeRight;
 
 /// The answer to a take of a single stripe.

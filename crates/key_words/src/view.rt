@@ -1,5 +1,6 @@
-//! The view of a seat in the rule of the words. It exists only in proofs; each atomic step gives
-//! the view after it.
+//! The view of a seat in the rule of the words, apart from the seat, since the rule needs it and no
+//! program does. Each atomic step gives the view after it: the number stays, the count and the
+//! notes only grow, and the list of stripes follows the takes and the gives.
 use std::collections::LinkedList;
 
 /// A seat's view. It exists only in proofs, and no value of it is made.

@@ -38,7 +38,7 @@ pairs_one : (n : NodeAt) → pairs (n ∷ []) ≡ pair_of n
 unfolding pairs
 pairs_one n = append_nil (pair_of n)
 
-pairs_none : pairs [] ≡ []
+pub pairs_none : pairs [] ≡ []
 unfolding pairs
 pairs_none = refl
 

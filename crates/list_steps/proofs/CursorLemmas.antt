@@ -2,7 +2,7 @@
 use Rattle.std.proofs.Common.{◌≡◌, ℕ, inl, inr, List, Option, Some, None, Bool, true, false, refl, sym, ◌∙◌, ap, subst, arith, ◌==◌, ◌&&◌, not}
 use Rattle.std.proofs.lemmas.Bool.Decides.{eqb_tells}
 use Rattle.split_key.specs.Sort.{IsBefore, IsNotBefore}
-use Rattle.split_key.proofs.SortLemmas.{before_total, cases_before, cases_same}
+use Rattle.split_key.proofs.SortLemmas.{before_total, cases_before, cases_same, true-false, same_test}
 use Rattle.node_list.specs.Nodes.{NodeAt, Listing, IsLinked, node_of, next_of, place_of}
 use Rattle.node_list.specs.Order.{IsSpread}
 use Rattle.node_list.specs.Follow.{Follows}
@@ -13,7 +13,7 @@ use Rattle.list_steps.specs.Found.{behind, fits, is_noted, is_next_noted, noted,
 use Rattle.list_steps.specs.Seek.{IsBelow, IsNotBelow, IsPred}
 use Rattle.node_list.proofs.OrderLemmas.{some-injective, some-none}
 use Rattle.node_list.proofs.NodesLemmas.{found_linked, linked_found, next_found}
-use Rattle.list_steps.proofs.NodeLemmas.{found_at, next_linked, next_node, same_test}
+use Rattle.list_steps.proofs.NodeLemmas.{found_at, next_linked, next_node}
 
 and_left : (a b : Bool) → (a && b) ≡ true → a ≡ true
 and_left true b is = refl
@@ -22,9 +22,6 @@ and_left false b is = is
 and_right : (a b : Bool) → (a && b) ≡ true → b ≡ true
 and_right true b is = is
 and_right false b is = cc
-
-true-false : true ≡ false → ⊥
-true-false e = cc
 
 pub same_from_test : (a b : ℕ) → (a == b) ≡ true → a ≡ b
 same_from_test a b is = elim (eqb_tells a b) [

@@ -1,22 +1,11 @@
 -- A list of nodes, split at a place.
-use Rattle.std.proofs.Common.{◌≡◌, ◌≢◌, ℕ, inl, inr, List, [], ◌∷◌, ◌++◌, Option, Some, None, true, false, refl, sym, ◌∙◌, ap, subst, append_assoc, ◌==◌}
+use Rattle.std.proofs.Common.{◌≡◌, ◌≢◌, ℕ, inl, inr, List, [], ◌∷◌, ◌++◌, Option, Some, None, refl, sym, ◌∙◌, ap, subst, append_assoc}
 use Rattle.std.proofs.lemmas.Bool.Decides.{eqb_tells}
 use Rattle.node_list.specs.Nodes.{NodeAt, IsLinked, node_of, next_of, first, without_first, place_of, linked_after, unlinked_after, changed_at}
 use Rattle.node_list.specs.Order.{AbsentFrom, IsSpread}
 use Rattle.node_list.proofs.OrderLemmas.{some-injective, some-none}
 use Rattle.node_list.proofs.NodesLemmas.{found_linked, next_found}
-
-pub same_test : (a b : ℕ) → a ≡ b → (a == b) ≡ true
-same_test a b same = elim (eqb_tells a b) [
-  | inl here ↦ here.0
-  | inr differs ↦ absurd (differs.1 same)
-]
-
-pub apart_test : (a b : ℕ) → a ≢ b → (a == b) ≡ false
-apart_test a b differs = elim (eqb_tells a b) [
-  | inl here ↦ absurd (differs here.1)
-  | inr apart ↦ apart.0
-]
+use Rattle.split_key.proofs.SortLemmas.{apart_test, same_test}
 
 -- The node at the place, with the nodes before and behind it.
 pub record IsAt (nodes : List NodeAt) (place : ℕ) (n : NodeAt) : Type 0 where

@@ -4,7 +4,7 @@ use Rattle.std.proofs.Common.{◌≡◌, ℕ, ◌+◌, ◌-◌, ◌<◌, ◌≤�
 use Rattle.std.proofs.lemmas.Bool.Decides.{eqb_tells}
 use Rattle.std.specs.List.{AllByRecursion}
 use Rattle.split_key.specs.declared.sort.SortKey.{SortKey}
-use Rattle.split_key.proofs.SortLemmas.{cases_before}
+use Rattle.split_key.proofs.SortLemmas.{cases_before, same_test, apart_test}
 use Rattle.node_list.specs.Nodes.{NodeAt, Listing, node_of, next_of, place_of, first, without_first, unlinked_after, one_more, changes_after}
 use Rattle.node_list.specs.Order.{AbsentFrom, IsSpread}
 use Rattle.node_list.specs.Follow.{Follows}
@@ -12,7 +12,7 @@ use Rattle.node_list.specs.declared.node.Kind.TheVariants.{Dummy}
 use Rattle.node_list.specs.Sound.{AllPlain, IsSound}
 use Rattle.node_list.proofs.OrderLemmas.{each_found}
 use Rattle.list_steps.specs.Seek.{cleaned, sought, IsBelow, IsNotBelow, IsPred, IsStart, KeepsRest}
-use Rattle.list_steps.proofs.NodeLemmas.{IsAt, found_at, node_at, next_at, at_unlinked, at_next, first_is, first_none, next_node, same_test, apart_test}
+use Rattle.list_steps.proofs.NodeLemmas.{IsAt, found_at, node_at, next_at, at_unlinked, at_next, first_is, first_none, next_node}
 
 -- The nodes behind a place.
 unfoldable pub nodes_behind : List NodeAt → ℕ → List NodeAt

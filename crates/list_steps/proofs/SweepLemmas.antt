@@ -4,7 +4,7 @@ use Rattle.std.specs.List.{AllByRecursion}
 use Rattle.split_key.specs.declared.sort.SortKey.{SortKey}
 use Rattle.split_key.specs.Split.{reversed}
 use Rattle.split_key.specs.Sort.{IsBefore, IsNotBefore, dummy_at}
-use Rattle.split_key.proofs.SortLemmas.{lower_from, before_irreflexive, before_once, before_not_before, before_behind}
+use Rattle.split_key.proofs.SortLemmas.{lower_from, before_irreflexive, before_once, before_not_before, before_behind, true-false}
 use Rattle.node_list.specs.declared.node.Kind.TheVariants.{Dummy}
 use Rattle.node_list.specs.Nodes.{NodeAt, Listing, node_of, next_of, first, without_first, unlinked_after}
 use Rattle.node_list.specs.Order.{IsNodeBefore, IsRising, IsSpread}
@@ -27,9 +27,6 @@ pub record IsSweeping (nodes : List NodeAt) (place : ℕ) : Type 0 where
 clean-append : (front rest : List NodeAt) → IsClean front → IsClean rest → IsClean (front ++ rest)
 clean-append [] rest before after = after
 clean-append (n ∷ front) rest before after = (before.0, clean-append front rest before.1 after)
-
-true-false : true ≡ false → ⊥
-true-false e = cc
 
 not_marked : (b : Bool) → (b ≡ true → ⊥) → b ≡ false
 not_marked true never = absurd (never refl)

@@ -1,5 +1,6 @@
 //! The seek: a walk from a node to the position of a sort key, which unlinks the marked nodes that
-//! it passes. It and the sweep have the only loops over the list.
+//! it passes. It and the sweep have the only loops over the list in this crate; all other steps
+//! take constant time. Only a seek makes cursors, and each fits the list that the seek leaves.
 ghost use Rattle.std.specs.Prelude.{◌≡◌, ◌-◌, length, true};
 ghost use Rattle.node_list.specs.Nodes.{changes_after};
 ghost use Rattle.node_list.specs.Follow.{Follows};

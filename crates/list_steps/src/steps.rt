@@ -1,5 +1,6 @@
 //! The test of a cursor, and the steps that rely on its answer: link, mark, swap. They are separate
-//! from the test, so that a caller that has looked does not look again.
+//! from the test, so that a caller that has looked does not look again: the contract of each
+//! requires what the test found. Each takes constant time and no memory.
 ghost use Rattle.std.specs.Prelude.{◌≡◌, ◌<◌, ◌-◌, ◌^◌, is_ok, IsOk, IfOk};
 ghost use Rattle.node_list.specs.Nodes.{IsLinked, IsOut, IsRegularAt, filled, place_of};
 ghost use Rattle.node_list.specs.Order.{IsVacant};

@@ -1,5 +1,6 @@
 //! The sweep: unlinks the first marked node, or answers that no node is marked. It is separate from
-//! the other steps, since it needs no cursor.
+//! the other steps, since it needs no cursor. A call unlinks at most one node, so other steps may
+//! be taken between two sweeps; if no node is marked, it does not walk.
 ghost use Rattle.std.specs.Prelude.{◌≡◌, ◌↔◌, false};
 ghost use Rattle.std.specs.List.{AllByRecursion};
 ghost use Rattle.node_list.specs.Follow.{Follows};

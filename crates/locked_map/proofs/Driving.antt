@@ -9,9 +9,9 @@ use Rattle.txn_drive.specs.declared.call.Call.{Call}
 use Rattle.txn_drive.specs.declared.drive.Drive.{Drive}
 use Rattle.txn_drive.specs.declared.«end».End.{End}
 use Rattle.txn_drive.specs.Drives.{first_phase, new_drive}
-use Rattle.txn_drive.specs.Made.{made}
+use Rattle.txn_drive.specs.Made.{made, CommitNothing}
 use Rattle.boost_core.specs.State.{State}
-use Rattle.core_tokens.specs.Holds.{CommitNothing, FitsIf, Held, IsGoing}
+use Rattle.core_tokens.specs.Holds.{FitsIf, Held, IsGoing}
 use Rattle.locked_map.specs.Calls.{IsHeld, IsHolding}
 use Rattle.core_tokens.specs.Tokens.{Token}
 

@@ -11,11 +11,11 @@ use Rattle.txn_drive.specs.declared.drive.Drive.{Drive}
 use Rattle.txn_drive.specs.declared.«end».End.{End}
 use Rattle.txn_drive.specs.declared.«end».End.TheVariants as ends
 use Rattle.txn_drive.specs.Drives.{new_drive}
-use Rattle.txn_drive.specs.Made.{IsMade}
+use Rattle.txn_drive.specs.Made.{IsMade, CommitNothing}
 use Rattle.undo_log.specs.Sides.{IsSameSide}
 use Rattle.boost_core.specs.State.{State}
 use Rattle.core_tokens.specs.Claims.{Readies, claims_at}
-use Rattle.core_tokens.specs.Holds.{CommitNothing, Held}
+use Rattle.core_tokens.specs.Holds.{Held}
 use Rattle.core_tokens.specs.Ready.{refused_by}
 use Rattle.core_tokens.specs.Sides.{Follows}
 use Rattle.core_tokens.specs.Suits.{may_refuse}

@@ -1,5 +1,6 @@
 //! The result of `close`: the core and the callers, in one value, so that neither is dropped by
-//! mistake.
+//! mistake. Its fields are public, and anyone may make one of other parts: only the clauses of
+//! `close` promise that the history is legal and that the callers' entries are all of it.
 use boost_core::Core;
 use core_tokens::Caller;
 use std::sync::ledger::Ledger;

@@ -1,5 +1,6 @@
-//! The reason why a map was not closed, with all that was passed in, so that nothing is lost. It is
-//! an error with a text.
+//! The reason why a map was not closed, with all that was passed in, so that nothing is lost: the
+//! map itself if it may be closed again, its core if not. It is apart from `Closed`, since it is an
+//! error with a text. The text shows only the reason, and none of the values.
 ghost use Rattle.std.specs.Prelude.{◌≡◌};
 ghost use Rattle.locked_map.specs.Texts.{text_of};
 

@@ -1,5 +1,6 @@
-//! The reason why a call of a transaction was not done: another caller held a stripe, or it was
-//! refused. Each map says what becomes of the transaction.
+//! The reason why a call of a transaction was not done, as one error for all maps: another caller
+//! held a stripe, or the call was refused. Each map says what becomes of the transaction. Neither a
+//! `Stop` nor its text takes memory, so it can be returned when memory is refused.
 ghost use Rattle.std.specs.Prelude.{◌≡◌};
 ghost use Rattle.txn_words.specs.declared.refusal.Refusal.TheVariants.{NoMemory};
 ghost use Rattle.map_answers.specs.declared.stop.Stop.TheVariants.{Refused};

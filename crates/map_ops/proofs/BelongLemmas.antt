@@ -1,10 +1,9 @@
 -- A step on the list keeps each node at its position, and the linked dummies.
-use Rattle.std.proofs.Common.{◌≡◌, ℕ, ◌||◌, ◌⊎◌, inl, inr, List, [], ◌∷◌, Bool, true, false, cond, map, refl, sym, ◌∙◌, ap, subst}
+use Rattle.std.proofs.Common.{◌≡◌, ℕ, ◌||◌, inl, inr, List, [], ◌∷◌, Bool, true, false, cond, map, refl, sym, ◌∙◌, ap, subst}
 use Rattle.std.specs.List.{AllByRecursion, range_with_len}
-use Rattle.std.proofs.lemmas.Bool.Decides.{eqb_tells}
 use Rattle.node_list.specs.declared.node.Kind.{Kind}
 use Rattle.node_list.specs.declared.node.Kind.TheVariants.{Dummy, Regular}
-use Rattle.node_list.specs.Nodes.{NodeAt, Listing, IsLinked, changed_at, linked_after, marked_at, written_at}
+use Rattle.node_list.specs.Nodes.{NodeAt, Listing, IsLinked, linked_after, marked_at, written_at}
 use Rattle.node_list.specs.Sound.{AllPlain}
 use Rattle.node_list.proofs.OrderLemmas.{each_linked, each_changed}
 use Rattle.list_steps.specs.Seek.{sought}
@@ -13,7 +12,7 @@ use Rattle.split_key.specs.declared.sort.SortKey.{SortKey}
 use Rattle.split_key.specs.Sort.{regular_at}
 use Rattle.bucket_table.specs.Directory.{Directory, limit_of}
 use Rattle.bucket_table.specs.Dummies.{IsKeyedNode, has_dummy, is_dummy_of}
-use Rattle.bucket_table.proofs.DummyLemmas.{each_sought, has_dummy-linked_after}
+use Rattle.bucket_table.proofs.DummyLemmas.{each_sought, has_dummy-linked_after, has_dummy-changed_at, either}
 use Rattle.map_ops.specs.TableAt.{linked_of, table_of}
 use Rattle.map_ops.specs.Sound.{Belong, IsEvenDummy}
 
@@ -41,10 +40,6 @@ belong_written nodes place value belong = record {
   even = each_changed IsEvenDummy nodes place (λ n. record n { value = value }) (λ n is own. own) belong.even;
 }
 
-either : (b : Bool) → (b ≡ true) ⊎ (b ≡ false)
-either true = inl refl
-either false = inr refl
-
 swept_past : (n : NodeAt) (rest : List NodeAt) → n.marked ≡ false → without_first_marked (n ∷ rest) ≡ n ∷ without_first_marked rest
 unfolding without_first_marked
 swept_past n rest unmarked = ap (λ b. cond b rest (n ∷ without_first_marked rest)) unmarked
@@ -59,15 +54,6 @@ each_swept P (n ∷ rest) each = elim (either n.marked) [
 
 pub belong_swept : (nodes : List NodeAt) → Belong nodes → Belong (without_first_marked nodes)
 belong_swept nodes belong = record { keyed = each_swept IsKeyedNode nodes belong.keyed; even = each_swept IsEvenDummy nodes belong.even }
-
--- The dummies of a list in which one node was changed.
-has_dummy-changed_at : (nodes : List NodeAt) (place : ℕ) (change : NodeAt → NodeAt) (bucket : ℕ) → ((n : NodeAt) → is_dummy_of bucket (change n) ≡ is_dummy_of bucket n) → has_dummy (changed_at nodes place change) bucket ≡ has_dummy nodes bucket
-unfolding has_dummy changed_at
-has_dummy-changed_at [] place change bucket same = refl
-has_dummy-changed_at (n ∷ rest) place change bucket same = elim (eqb_tells n.place place) [
-  | inl here ↦ rw here.0 (ap (λ b. b || has_dummy rest bucket) (same n))
-  | inr past ↦ rw past.0 (ap (λ b. is_dummy_of bucket n || b) (has_dummy-changed_at rest place change bucket same))
-]
 
 pub has_dummy-marked : (nodes : List NodeAt) (place bucket : ℕ) → has_dummy (marked_at nodes place) bucket ≡ has_dummy nodes bucket
 has_dummy-marked nodes place bucket = has_dummy-changed_at nodes place (λ n. record n { marked = true }) bucket (λ n. refl)

@@ -8,6 +8,7 @@ use Rattle.node_list.specs.Sound.{IsSound}
 use Rattle.node_list.proofs.NodesLemmas.{place-found}
 use Rattle.list_steps.specs.Content.{pair_if, pair_of, pairs}
 use Rattle.list_steps.proofs.NodeLemmas.{IsAt, next_at, at_next, first_is, first_none}
+use Rattle.list_steps.proofs.ContentLemmas.{pairs_none}
 
 -- All pairs up to this place are found.
 pub record IsWalking (nodes : List NodeAt) (place : ℕ) (found : List (ℕ × ℕ)) : Type 0 where
@@ -22,10 +23,6 @@ pairs_behind_dummy n rest dummy = ap (λ kind. pair_if kind n.marked n.at.key n.
 pairs_next : (n : NodeAt) (rest : List NodeAt) → pairs (n ∷ rest) ≡ pair_of n ++ pairs rest
 unfolding pairs
 pairs_next n rest = refl
-
-pairs_none : pairs [] ≡ []
-unfolding pairs
-pairs_none = refl
 
 -- A walk begins at the first node, a dummy.
 pub walk_first : (l : Listing) → IsSound l → IsWalking l.nodes l.head []

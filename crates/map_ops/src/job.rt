@@ -1,4 +1,5 @@
-//! The inverses of changes: take out, write back, put back. A job that puts a key back owns the
+//! The inverses of changes: take out, write back, put back. They are a type apart from `Op`, since
+//! the inverse of a put depends on whether the key had a value. A job that puts a key back owns the
 //! node for it, so that going back never takes memory.
 ghost use Rattle.std.specs.Prelude.{◌≡◌};
 

@@ -1,5 +1,6 @@
 //! The laws of the table, as contracts of functions that do nothing: a change followed by its
-//! inverse, and two inverses of different keys in either order.
+//! inverse, and two inverses of different keys in either order. They follow from the contracts of
+//! `apply` and `take_back` and need no code, so they are apart from the table.
 
 ghost use Rattle.std.specs.Prelude.{◌≡◌, ◌≢◌, ℕ, Option, None};
 ghost use Rattle.txn_words.specs.declared.op.Op.{Op};

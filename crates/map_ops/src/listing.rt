@@ -1,5 +1,6 @@
-//! The pairs of a list, in its order, and the sorted map of these, for reports and for tests. Time
-//! and memory in proportion to the nodes.
+//! The pairs of a list, in its order, and the sorted map of these, for reports and for tests: no
+//! step uses them. Listing takes time in proportion to the nodes and memory in proportion to the
+//! pairs; the map of n pairs takes time in proportion to n log n, and memory for them again.
 ghost use Rattle.std.specs.Prelude.{◌≡◌, ◌++◌, IfOk, OnOk};
 ghost use Rattle.std.specs.BTreeMap.{IsFromIterResult};
 ghost use Rattle.std.specs.Ordering.{nat_cmp};

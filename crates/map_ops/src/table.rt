@@ -70,12 +70,13 @@ impl Table {
         requires least { 2 ≤ max }
         ensures { IfOk result (λ table. IsNew table max callers) }
     {
-        Table::with_capacity(alloc, max, callers, 0)
+        Table::with_capacity(alloc, max, callers, 0, false)
     }
 
     /// `new`, and takes the memory for this many nodes at once, so that the list need not grow while
     /// they come. There is a node for each key, for each key that is taken and not yet swept, and
-    /// for each stored bucket.
+    /// for each stored bucket. If that memory is to be written, the memory for the entries of as
+    /// many buckets is taken too, and no later node or bucket is the first to touch a page.
     ///
     /// # Errors
     ///
@@ -83,19 +84,22 @@ impl Table {
     ///
     /// # Cost
     ///
-    /// That of `new`, and 40 bytes of memory for each node.
+    /// That of `new`, and 40 bytes of memory for each node; if it is written, time in proportion to
+    /// it, and 4 bytes more for each node, up to `max` times.
     pub fn with_capacity(
         alloc: Global,
         max: u32,
         callers: u32,
         nodes: usize,
+        is_written: bool,
     ) -> Result<Table, AllocError>
         requires power { (exponent : ℕ) × (max ≡ 2 ^ exponent) }
         requires least { 2 ≤ max }
         ensures { IfOk result (λ table. IsNew table max callers) }
     {
-        let list = NodeList::with_capacity(alloc, 0, nodes)?;
-        let buckets = Buckets::new(alloc, max, callers, &list)?;
+        let list = NodeList::with_capacity(alloc, 0, nodes, is_written)?;
+        let stored = if is_written { nodes } else { 0 };
+        let buckets = Buckets::with_capacity(alloc, max, callers, &list, stored)?;
         Ok(Table { list, buckets })
     }
 

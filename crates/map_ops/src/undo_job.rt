@@ -1,5 +1,6 @@
-//! A job of the table as a job of an undo log, whose world is the table. It joins two crates that
-//! do not use each other.
+//! A job of the table as a job of an undo log, whose world is the table. Only this module of the
+//! crate uses `undo_log`, which knows no table, so all others are free of logs. To run a job costs
+//! a seek and one change at its position, and takes no memory.
 use crate::job::MapJob;
 use crate::table::Table;
 use undo_log::UndoJob;

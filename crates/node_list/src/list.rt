@@ -1,4 +1,5 @@
-//! The list: a slab of nodes that are chained by their places, and the counts of them. Invariant:
+//! The list: a slab of nodes that are chained by their places, and the counts of them. `slots.rt`
+//! changes single slots; a method here makes a whole change of the list, and keeps the invariant:
 //! the nodes are in strict order of their sort keys, and each counter is the number of its nodes.
 ghost use Rattle.std.specs.Prelude.{◌≡◌, ℕ, ◌+◌, ◌-◌, ◌<◌, ◌^◌, ◌↔◌, Some, None, Err, [], ◌∷◌, IfOk, OnErr, IfSome, IfNone, IsSomeAnd, false};
 ghost use Rattle.std.specs.List.{AllByRecursion};
@@ -11,7 +12,9 @@ ghost use Rattle.node_list.specs.Tally.{AreMarksFrom, first_marked};
 
 use crate::node::{Kind, Node, NodeRef};
 use crate::packed_ref::PackedRef;
-use crate::slots::{Slot, linked_at, mark, node_at, replace_next, set_slot, set_value};
+use crate::slots::{
+    Slot, linked_at, mark, node_at, replace_next, set_slot, set_value, slab_with_room,
+};
 use crate::spare::{Spare, SpareFault};
 use crate::tally::Tally;
 use slab::Slab;
@@ -69,11 +72,11 @@ impl NodeList {
         ensures last { IfOk result (λ list. list.last ≡ first_stamp) }
         ensures sound { IfOk result IsSound }
     {
-        NodeList::with_capacity(alloc, first_stamp, 0)
+        NodeList::with_capacity(alloc, first_stamp, 0, false)
     }
 
     /// `new`, and takes the memory for this many nodes at once, so that the list need not grow while
-    /// they come.
+    /// they come. If that memory is to be written, no later node is the first to touch a page of it.
     ///
     /// # Errors
     ///
@@ -81,8 +84,14 @@ impl NodeList {
     ///
     /// # Cost
     ///
-    /// That of `new`, and 40 bytes of memory for each node.
-    pub fn with_capacity(alloc: Global, first_stamp: u64, nodes: usize) -> Result<Self, AllocError>
+    /// That of `new`, and 40 bytes of memory for each node; if the memory is written, time in
+    /// proportion to it.
+    pub fn with_capacity(
+        alloc: Global,
+        first_stamp: u64,
+        nodes: usize,
+        is_written: bool,
+    ) -> Result<Self, AllocError>
         requires { first_stamp < 2 ^ 64 - 1 }
         ensures nodes { IfOk result (λ list. list.nodes ≡ first_dummy list.head first_stamp ∷ []) }
         ensures out { IfOk result (λ list. (place : ℕ) → out_at list place ≡ None) }
@@ -91,7 +100,7 @@ impl NodeList {
         ensures sound { IfOk result IsSound }
     {
         let marks = Tally::new(alloc)?;
-        let mut slab = Slab::with_capacity(alloc, nodes)?;
+        let mut slab = slab_with_room(alloc, nodes, is_written)?;
         let node = Node::dummy(SortKey::dummy(0), first_stamp);
         match slab.insert(Slot::of_linked(node)) {
             // The first place of a slab is 0.

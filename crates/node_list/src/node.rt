@@ -1,5 +1,6 @@
-//! Nodes, and the references that name them. A reference is a place in the slab; the stamp of a
-//! node tells it from any other node that is ever at its place.
+//! Nodes, and the references that name them; every other module here but `tally` is built on these.
+//! A reference is a place in the slab, and a node's stamp tells it from any other node that is ever
+//! at its place: a reference is plain data, and keeps no node from being unlinked.
 ghost use Rattle.std.specs.Prelude.{◌≡◌, ◌-◌, ◌^◌, ◌<◌, if◌then◌else◌, None, true, false};
 ghost use Rattle.node_list.specs.Nodes.{is_regular};
 ghost use Rattle.node_list.specs.declared.node.Kind.TheVariants.{Dummy};

@@ -1,5 +1,6 @@
-//! A node's place or none, in half the memory of an option: a list of buckets keeps thousands of
-//! them. A contract sees it as the option, so no definition tells the two apart.
+//! A node's place or none, in half the memory of an option: each node has one, and a list of
+//! buckets keeps thousands. A contract sees it as the option, so no definition tells the two apart.
+//! Every number of 32 bits is a place or stands for none, so the type needs no invariant.
 ghost use Rattle.std.specs.Prelude.{◌≡◌, Some, None};
 
 use crate::node::NodeRef;

@@ -29,8 +29,9 @@ use Rattle.boost_core.specs.Machine.{Move, Moves}
 use Rattle.boost_core.specs.Plain.{Returns, undoing, undone}
 use Rattle.owned_map.specs.Within.{taken_back, Stands, IsAt, CanAbort, GoesOn}
 use Rattle.owned_map.proofs.Histories.{stands_after}
-use Rattle.owned_map.proofs.Steps.{to_state, unmoved, phase_in, leaves_on, first_none, ready, unready, based}
+use Rattle.owned_map.proofs.Steps.{to_state, unmoved, phase_in, leaves_on, ready, unready, based}
 use Rattle.owned_map.proofs.Only as only
+use Rattle.boost_core.proofs.Refused.{first_none}
 
 module _ {rule : Holder} (limits : Sizes) (c : ℕ) (base : Map) (h : List Entry) where
   saved_now : Stands rule limits c base Opened h → Stands rule limits c base Opened (h ++ entry.Saved c ∷ []) × (now (h ++ entry.Saved c ∷ []) ≡ now h)

@@ -3,7 +3,6 @@ use Rattle.std.proofs.Common.{◌≡◌, ℕ, ◌+◌, ◌-◌, ◌<◌, ◌≤�
 use Rattle.std.specs.Prelude.{nat_le, nat_lt, ◌||◌, unwrap_or}
 use Rattle.std.proofs.lemmas.Bool.{and_parts, ltb-true, leb-false}
 use Rattle.std.proofs.lemmas.List.{append-nil, get_or_append_left, length_push, get_or_push, get_or-take, length-take-le}
-use mathlib.Core.Logic.{inl, inr}
 use Rattle.txn_words.specs.declared.holder.Holder.{Holder}
 use Rattle.txn_words.specs.declared.op.Op.{Op}
 use Rattle.txn_words.specs.declared.refusal.Refusal.TheVariants as refusals
@@ -14,7 +13,7 @@ use Rattle.txn_words.specs.declared.answer.Answer.TheVariants as answers
 use Rattle.txn_words.specs.declared.entry.Entry.{Entry}
 use Rattle.txn_words.specs.declared.entry.Entry.TheVariants as entry
 use Rattle.txn_words.specs.declared.seat.Phase.{Phase}
-use Rattle.txn_words.specs.declared.seat.Phase.TheVariants.{Opened, Waiting, LeavingTo, LeavingToEnd}
+use Rattle.txn_words.specs.declared.seat.Phase.TheVariants.{Opened, Waiting, LeavingTo}
 use Rattle.txn_words.specs.Sizes.{Sizes}
 use Rattle.txn_words.specs.Map.{Map, key_of, reply_of, after, set_at}
 use Rattle.txn_trace.specs.Now.{now}
@@ -33,8 +32,9 @@ use Rattle.boost_core.specs.Refusals.{has_job, has_stamp_for}
 use Rattle.boost_core.specs.Machine.{Move, Moves}
 use Rattle.boost_core.specs.Plain.{Operates, Returns, undoing, undone}
 use Rattle.owned_map.specs.Within.{taken_back, map_at, levels_of, KeepsLevels, KeepsSavepoints, IsSaved, IsBackAt, Stands, IsAt, IsGrown}
-use Rattle.owned_map.proofs.Steps.{to_state, unmoved, phase_in, first_none, ready, based, replied, waits}
+use Rattle.owned_map.proofs.Steps.{to_state, unmoved, phase_in, ready, based, replied, waits}
 use Rattle.owned_map.proofs.Levels.{past, left_to_now, undone_to_now, reached_at}
+use Rattle.boost_core.proofs.Refused.{first_none}
 
 -- The map at a level, by the seat, the log and the map now.
 abbrev level_map : ℕ → Seat → List (ℕ × Option ℕ) → Map → Map

@@ -27,6 +27,7 @@ use Rattle.boost_core.specs.Plain.{Operates, Aborts, Ends, Leaves, undoing, undo
 use Rattle.owned_map.specs.Within.{taken_back, Stands, IsAt, CanAbort, IsIdle, GoesOn, HasDone, IsTakenBack, IsCommitted}
 use Rattle.owned_map.proofs.Histories.{seat_there, began_now, asked_now, busy_now, did_now, left_now, undone_now, aborted_now, committed_now}
 use Rattle.owned_map.proofs.Only as only
+use Rattle.boost_core.proofs.Refused.{closed_is, first_none}
 
 -- Facts of a state, moved to an equal one.
 pub to_state : (c : ℕ) (base : Map) (q : Phase) (s t : State) → t ≡ s → IsAt c base q s → IsAt c base q t
@@ -46,20 +47,9 @@ phase_in c base q s stands = ap (λ (o : Option Seat). unwrap_or o closed_seat) 
 phase_of : {A : Type 0} (s : State) (c : ℕ) (base : Map) (q : Phase) → IsAt c base q s → (f : Phase → A) → f (seat_in s.history c).phase ≡ f q
 phase_of s c base q stands f = ap (λ (seat : Seat). f seat.phase) (phase_in c base q s stands) ∙ ap f stands.phase_is
 
-pub first_none : (b : Bool) (refusal : Refusal) (rest : Option Refusal) → cond b (Some refusal) rest ≡ None → (b ≡ false) × (rest ≡ None)
-first_none true refusal rest none = absurd (cc (none))
-first_none false refusal rest none = (refl, none)
-
 not_not : (b : Bool) → not b ≡ false → b ≡ true
 not_not true is = refl
 not_not false is = absurd (false≢true (sym is))
-
-closed_is : (q : Phase) → is_closed q ≡ true → q ≡ Closed
-closed_is Closed is = refl
-closed_is Opened is = absurd (false≢true is)
-closed_is (Waiting op) is = absurd (false≢true is)
-closed_is (LeavingTo n) is = absurd (false≢true is)
-closed_is LeavingToEnd is = absurd (false≢true is)
 
 -- A caller with a closed seat has no transaction.
 idle_after : (c : ℕ) (s t : State) → t ≡ s → seat_after (own c s.history) ≡ Some closed_seat → IsIdle c t

@@ -1,5 +1,5 @@
 -- No operation asks for a key that the limits refuse, so the map has none.
-use Rattle.std.proofs.Common.{◌≡◌, ℕ, ◌+◌, zero, suc, Bool, true, false, cond, List, [], ◌∷◌, ◌++◌, map, Option, Some, None, refl, sym, ap, subst, ◌∙◌}
+use Rattle.std.proofs.Common.{◌≡◌, ℕ, ◌+◌, Bool, true, false, cond, List, [], ◌∷◌, ◌++◌, map, Option, Some, None, refl, sym, ap, subst, ◌∙◌}
 use Rattle.std.specs.Prelude.{not, ◌&&◌}
 use Rattle.std.specs.List.{filter, fold}
 use Rattle.std.proofs.lemmas.Bool.{and_from, and_parts}
@@ -27,7 +27,7 @@ use Rattle.boost_core.specs.Machine.{IsAllowed, Move, Moves}
 use Rattle.boost_core.specs.Plain.{Operates, Returns, Aborts, Ends, Leaves, undoing, undone}
 use Rattle.owned_map.specs.Taken.{is_well, asks_well, HasTakenKeys}
 use Rattle.owned_map.proofs.Levels.{past}
-use Rattle.owned_map.proofs.Steps.{first_none}
+use Rattle.boost_core.proofs.Refused.{first_none}
 
 abbrev pub IsWell : State → Type 0
 IsWell s = asks_well s.limits.half s.history ≡ true

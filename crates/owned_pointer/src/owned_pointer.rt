@@ -1,5 +1,6 @@
-//! The pointer, and its conversions from and to a box. Its field is public, so that a crate with
-//! its own proof can keep the address elsewhere, for instance as a pointer whose type is erased.
+//! The pointer, and its conversions from and to a box, which move no value. Its field is public, so
+//! that a crate with its own proof can keep the address elsewhere, for instance as a pointer whose
+//! type is erased. A pointer is no `Drop`, so it ends only by `into_box` or by such a proof.
 ghost use Rattle.std.specs.Prelude.{◌≡◌};
 
 use std::alloc::Global;

@@ -5,6 +5,7 @@ use Rattle.serde_json.specs.Data.{unsigned, negative, float, Data, null, boolean
 use Rattle.serde_json.specs.Find.{as_str}
 use Rattle.piece_files.specs.Elements.{◌>>=◌, number_of, number_at, word_at, one_of, two_of, end_of, optional, optional_at, optional_of}
 use Rattle.piece_files.specs.Tokens.{is_plain, are_plain}
+use Rattle.piece_files.proofs.ValueKinds.{never}
 
 -- ---- what is behind an answer
 
@@ -15,9 +16,6 @@ bound (Some a) f b e = (a, refl, e)
 pub chosen : {A Q : Type 0} (b : Bool) (x y : Option A) {a : A} → (if b then x else y) ≡ Some a → (x ≡ Some a → Q) → (y ≡ Some a → Q) → Q
 chosen true x y e f g = f e
 chosen false x y e f g = g e
-
-pub never : {A Q : Type 0} {a : A} → None ≡ Some a → Q
-never e = absurd (grind (arith, e))
 
 pub tested : {A : Type 0} (b : Bool) (x : A) {a : A} → (if b then Some x else None) ≡ Some a → b ≡ true
 tested true x e = refl

@@ -11,7 +11,7 @@ use Rattle.piece_files.specs.Members.{members_within}
 use Rattle.piece_files.specs.Tokens.{value_at, items_at, members_at, is_whole, is_plain}
 use Rattle.piece_files.proofs.Values.{value_at-null, value_at-boolean, value_at-string, value_at-array, value_at-object, value_at-end_object, value_at-end_array, value_at-key, value_at-bad, too_deep_array, too_deep_object}
 
-never : {A Q : Type 0} {a : A} → None ≡ Some a → Q
+pub never : {A Q : Type 0} {a : A} → None ≡ Some a → Q
 never e = absurd (grind (arith, e))
 
 abbrev data_or : Data → Option (Data × List Token) → Data

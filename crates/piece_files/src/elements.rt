@@ -1,5 +1,6 @@
-//! The elements of an array, read one after the other. Each call takes constant time and takes no
-//! memory.
+//! The elements of an array, taken from the front of a slice one after the other, so that a kind of
+//! pieces need not look at tokens. Each call takes constant time and no memory; `None` means that
+//! the elements are not those that the call takes.
 
 ghost use Rattle.std.specs.Prelude.{◌≡◌, map, option_map};
 ghost use Rattle.piece_files.specs.Plain.{data_of};

@@ -1,5 +1,6 @@
 //! A file as a whole: its numbers and its pieces, by the names of its members. The order in which
-//! faults count is decided here and nowhere else.
+//! faults count is decided here and nowhere else: `members` finds only what a text has, or that it
+//! is not JSON. No other module of the crate tests the length of a file or its version.
 
 ghost use Rattle.std.specs.Prelude.{◌≡◌, ◌∷◌, ◌≤◌, List, length, take, map, true, Option, Some, Result, Ok, Err, MatchResult};
 ghost use Rattle.std.specs.Str.{IsUtf8};

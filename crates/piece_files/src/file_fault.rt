@@ -1,5 +1,6 @@
-//! Why a file is refused, with the numbers that users see. The contract of `read_file` gives the
-//! order in which faults are looked for.
+//! The faults for which a file is refused, with the numbers that users see: those of `Refusal` in
+//! `txn_words`, which this crate does not use. A fault names one piece at most, the first that is
+//! wrong. The contract of `read_file` gives the order in which faults are looked for.
 ghost use Rattle.std.specs.Prelude.{◌≡◌};
 ghost use Rattle.piece_files.specs.Faults.{words_of};
 ghost use Rattle.piece_files.specs.declared.file_fault.FileFault.TheVariants.{NoMemory};

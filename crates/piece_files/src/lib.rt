@@ -10,15 +10,15 @@
 //! they begin with. What bytes, tokens and numbers mean as JSON is what `json` and `serde_json`
 //! say.
 //!
-//! A file in plain form, as most are written, is read straight from its bytes: no escapes, numbers of
-//! at most 19 digits, only pieces that the kind has, and white space anywhere between. The reader of
-//! JSON makes an index of the whole text first, so it reads only what has another form, from the
-//! start (`members.rt`). `specs/PlainBytes.antt` says what tokens bytes in plain form are.
+//! A file in plain form, as most are written, is read straight from its bytes: no escapes, numbers
+//! of at most 19 digits, only pieces that the kind has, and white space anywhere between. The
+//! reader of JSON makes an index of the text as it goes, so it reads only what has another form,
+//! from the start (`members.rt`). `specs/PlainBytes.antt` says what tokens bytes in plain form are.
 //!
 //! Promised: `read_file` computes that function, or says that memory was refused. A text is read
-//! once, or twice if it has no plain form, in time proportional to its length. What is passed over is tested to be
-//! JSON, and nothing of it is kept; of the pieces no more are kept than a file may have, and the
-//! others counted.
+//! once, or twice if it has no plain form, in time proportional to its length. What is passed over
+//! is tested to be JSON, and nothing of it is kept; of the pieces no more are kept than a file may
+//! have, and the others counted.
 #![tactic(auto)]
 
 mod elements;

@@ -1,5 +1,6 @@
 //! The members of a file, taken one after the other: those that its kind has are kept, the others
-//! passed over.
+//! passed over. `plain_members` tries each text first; if it gives up, the reader of JSON reads the
+//! text from its start and decides. So a text is read at most twice.
 
 ghost use Rattle.std.specs.Prelude.{◌≡◌, ◌∷◌, ◌≤◌, ◌<◌, true, false, map, length, replicate, Option, Some, None, Ok, Err, IfOk, OnOk, OnErr, MatchResult, codes};
 ghost use Rattle.json.specs.Reads.{token_of};

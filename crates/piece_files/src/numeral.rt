@@ -1,5 +1,6 @@
 //! The number that a number's text in JSON is, if it is a whole number below 2^64. Texts of up to
-//! 19 digits, nearly all of a file, are read by one short loop, the others by `fast_float`.
+//! 19 digits, nearly all of a file, are read by one short loop, the others by `fast_float`, which
+//! only this module uses. Time is in proportion to the text; no memory is taken.
 
 ghost use Rattle.std.specs.Prelude.{◌≡◌, false, option_map, IfSome};
 ghost use Rattle.std.specs.Prelude as prelude;

@@ -1,5 +1,6 @@
 //! Values that are passed over: they are tested to be JSON, and nothing of them is kept, at any
-//! depth that the reader allows.
+//! depth that the reader allows. No kind of file is asked, so the same loops serve all of them. The
+//! calls nest as deep as the value does, which `depth` bounds.
 
 ghost use Rattle.std.specs.Prelude.{◌≡◌, ◌∷◌, ◌<◌, ◌≤◌, length, Some, None, OnOk, OnErr};
 ghost use Rattle.json.specs.Reads.{token_of};

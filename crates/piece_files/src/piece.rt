@@ -1,5 +1,6 @@
-//! The pieces of an array, read one after the other: one loop for all kinds of pieces. Past the
-//! limit pieces are counted and not kept.
+//! The pieces of an array, read one after the other: one loop for all kinds of pieces, and the
+//! trait by which a kind says what its pieces are. `plain_pieces` leaves to this loop each array
+//! that has a fault. Past the limit pieces are counted and not kept.
 
 ghost use Rattle.std.specs.Prelude.{◌≡◌, ℕ, ◌+◌, ◌^◌, ◌∷◌, ◌<◌, ◌≤◌, List, length, Bool, true, Option, Some, None, Err, MatchResult, IfOk, IfSome, OnErr, OnOk, drop, option_and_then};
 ghost use Rattle.json.specs.Token.{Token as SpecToken};

@@ -1,5 +1,6 @@
-//! Plain values, the elements that are kept: null, a text, or a whole number below 2^64. An element
-//! takes no memory.
+//! Plain values, the elements that are kept: null, a text, or a whole number below 2^64. Any other
+//! value is passed over, and its array is then not plain. An element takes no memory: an array has
+//! room for a fixed number, and a text stays in the file or the scratch.
 
 ghost use Rattle.std.specs.Prelude.{◌≡◌, ◌∷◌, ◌<◌, ◌≤◌, List, length, Some, None, option_map, IfOk, OnOk, OnErr};
 ghost use Rattle.json.specs.Reads.{token_of};

@@ -1,5 +1,6 @@
 //! Arrays of plain values in plain form, read straight from the bytes into an array of fixed size,
-//! without memory. An array in any other form is left to the reader of JSON.
+//! without memory. A piece within a file and a line by itself are read by the same loop. An array
+//! in any other form is left to the reader of JSON, which also decides on faults.
 ghost use Rattle.std.specs.Prelude.{◌≡◌, ◌<◌, ◌≤◌, ℕ, true, length, drop, map, Some, IfSome};
 ghost use Rattle.json.specs.Lex.{after_value};
 ghost use Rattle.serde_json.specs.Data.{array};

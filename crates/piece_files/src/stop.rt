@@ -1,5 +1,6 @@
-//! Why reading tokens stops early, in the words of the reader of JSON. `file_fault` says the same
-//! in the words of a file; inside the loops over tokens these two reasons are all that there are.
+//! The reasons why reading tokens stops early: no JSON, or no memory. They are apart from
+//! `FileFault`, since inside the loops over tokens there are no others; `?` makes them of the
+//! errors of the reader and the allocator. `members` says them in the words of a file.
 ghost use Rattle.std.specs.Prelude.{◌≡◌};
 ghost use Rattle.piece_files.specs.declared.stop.Stop.TheVariants.{NotJson, NoMemory};
 

@@ -1,5 +1,6 @@
 //! The public type: the slots, with the numbers that say how many more may be used and how many
-//! have a value.
+//! have a value. `probe.rt` only finds slots; the methods here fill, count and replace them.
+//! Invariant: each key is where its probe stops, and no more slots may be used than are empty.
 ghost use Rattle.std.specs.Prelude.{◌≡◌, ℕ, ◌+◌, ◌<◌, ◌≤◌, Option, IfOk, OnOk, OnErr, IfSome, length};
 ghost use Rattle.std.specs.List.Sorted.{IsPermutation};
 ghost use Rattle.txn_words.specs.Map.{count_of, empty, get, set_at};

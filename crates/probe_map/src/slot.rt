@@ -1,5 +1,6 @@
-//! A slot of the array: 24 bytes, so that a cache line has two or three of them. A probe goes on
-//! over a removed key, so that a removal moves no other slot.
+//! A slot of the array: 24 bytes, so that a cache line has two or three of them. Probes read its
+//! key, and the map its value. A probe goes on over a removed key, so that a removal moves no other
+//! slot: once a slot has a key, it keeps it until the array is replaced.
 ghost use Rattle.std.specs.Prelude.{◌≡◌};
 ghost use Rattle.probe_map.specs.Probes.{stops};
 ghost use Rattle.probe_map.specs.Slots.{is_empty, key_in, value_in};

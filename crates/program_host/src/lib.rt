@@ -1,9 +1,9 @@
 //! The system that a program runs on; all programs share it, below their command lines.
 //!
-//! `System` is what a program needs of it, the words of the call and files, so that a program can be
-//! tried on a system in memory; `Host` is the system behind a runtime. `specs/Words.antt` has two
-//! definitions for a command line that `clap` reads: that a command is an application of `clap`, and
-//! which words are numerals. `proofs/` has what both command lines need of them.
+//! `System` is what a program needs of it, the words of the call and files, so that a program can
+//! be tried on a system in memory; `Host` is the system behind a runtime. `specs/Words.antt` has
+//! two definitions for a command line that `clap` reads: that a command is an application of
+//! `clap`, and which words are numerals. `proofs/` has what both command lines need of them.
 #![tactic(auto)]
 
 mod system;

@@ -1,4 +1,5 @@
-//! The system that a program runs on, as a trait, and the one behind a runtime. The toolchain
+//! The system that a program runs on, as a trait, and the one behind a runtime. Programs are
+//! written for the trait: their contracts say more if words and files are known. The toolchain
 //! promises nothing of a process's words and files, so nothing is known of those of `Host`.
 ghost use Rattle.std.specs.Prelude.{◌≡◌, ℕ, List, Option, Some, None, IfOk, IfErr, IfSome, map};
 ghost use Rattle.std.specs.String.{string_bytes};

@@ -1,5 +1,6 @@
 //! Shared parts of the tests: texts with gaps, readers and writers that fail at a given call, and a
-//! system in memory.
+//! system in memory. Engines and commands are tested with the same ones. A reader or a writer takes
+//! no memory, so a test that is refused memory can still compare all that was written.
 
 use program_host::System;
 use std::alloc::{AllocError, Global};

@@ -1,5 +1,6 @@
 //! Files of steps, of scripts and of histories: their content, and the first fault of each that is
-//! refused.
+//! refused. The kinds have a module each, for their tables and contents; here are the tests of all
+//! kinds: of faults, of large files, of cut ones, and of refused memory.
 
 mod histories;
 mod scripts;

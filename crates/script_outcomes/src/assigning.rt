@@ -1,5 +1,6 @@
 //! The run over a history: each entry is passed to the way of its caller's worker, which writes the
-//! outcomes. Holds one way for each worker and one outcome for each script.
+//! outcomes. Only this module sees all workers together; it passes over entries of callers without
+//! a worker. Holds one way for each worker and one outcome for each script.
 ghost use Rattle.std.specs.Prelude.{◌≡◌, ℕ, ◌<◌, List, IfOk, length};
 ghost use Rattle.script_outcomes.specs.Outcomes.{AreOutcomes};
 ghost use Rattle.script_outcomes.specs.Ways.{AreFresh, AreNone};

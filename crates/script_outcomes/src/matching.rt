@@ -1,5 +1,6 @@
-//! Compares one transaction with one script: whether its entries are those of the script. A
-//! comparison takes a step for each entry that agrees, and no memory.
+//! Compares one transaction with one script: whether its entries are those of the script. It knows
+//! no workers and no outcomes: `way.rt` says which scripts a transaction is compared with. A
+//! comparison takes a step for each action of the script that agrees, and no memory.
 ghost use Rattle.std.specs.Prelude.{◌≡◌, true, false, IfSome, IsNone, List};
 ghost use Rattle.txn_words.specs.declared.entry.Entry.{Entry as AnEntry};
 ghost use Rattle.txn_trace.specs.Plays.{IsPlayed};

@@ -1,5 +1,6 @@
 //! The outcome of a script, and its text. A run over a history writes one for each script, so a
-//! text is one line without its line feed.
+//! text is one line without its line feed. It is the only type that users of the crate see; it
+//! names an entry by its index, so it is plain data and may outlast the history.
 
 use std::fmt;
 

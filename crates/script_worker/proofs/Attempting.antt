@@ -6,14 +6,12 @@ use Rattle.std.proofs.lemmas.List.Elements.{filter-append, filter_map-append}
 use Rattle.txn_words.specs.declared.action.Action.{Action}
 use Rattle.txn_words.specs.declared.entry.Entry.{Entry}
 use Rattle.txn_words.specs.declared.entry.Entry.TheVariants.{Began, Committed}
-use Rattle.txn_words.specs.Kinds.{is_commit}
 use Rattle.txn_words.specs.Shape.{how_many}
 use Rattle.txn_trace.specs.Plays.{is_undone, without_undone, ArePlayed, IsPlayed}
+use Rattle.txn_drive.specs.Made.{CommitNothing}
+use Rattle.txn_drive.proofs.Quiet.{append_quiet}
 use Rattle.script_worker.specs.Chunks.{IsFront}
-use Rattle.script_worker.specs.Accounts.{CommitNothing, Outcome, Told, is_busy, reply_in, replies_in, AreBusy, IsPlayedBy, IsAccount, AreAccounts}
-
-pub quiet-append : (xs ys : List Entry) → CommitNothing xs → CommitNothing ys → CommitNothing (xs ++ ys)
-quiet-append xs ys quiet silent = filter-append is_commit xs ys ∙ (λ i. quiet i ++ silent i)
+use Rattle.script_worker.specs.Accounts.{Outcome, Told, is_busy, reply_in, replies_in, AreBusy, IsPlayedBy, IsAccount, AreAccounts}
 
 -- No attempt yet, and one more that found a stripe held.
 pub busy_none : AreBusy 0 []
@@ -24,7 +22,7 @@ busy_more n es fs busy one =
     let before = busy.enough in
     let last = one.enough in
     let longer : how_many is_busy (es ++ fs) ≡ how_many is_busy es + how_many is_busy fs = ap length (filter-append is_busy es fs) ∙ length-append (filter is_busy es) (filter is_busy fs) in
-    record { nothing = quiet-append es fs busy.nothing one.nothing; enough = omega arith }
+    record { nothing = append_quiet es fs busy.nothing one.nothing; enough = omega arith }
 
 pub busy_fewer : (n m : ℕ) (es : List Entry) → m ≤ n → AreBusy n es → AreBusy m es
 busy_fewer n m es le busy = let many = busy.enough in record { nothing = busy.nothing; enough = omega arith }
@@ -40,7 +38,7 @@ pub front_more : (c : ℕ) (script left fewer : List Action) (txn : ℕ) (replie
 front_more c script left fewer txn replies es added quiet asked front = record {
   inner = front.inner ++ added;
   whole = ap (λ xs. xs ++ added) front.whole;
-  quiet = quiet-append es added front.quiet quiet;
+  quiet = append_quiet es added front.quiet quiet;
   replied = filter_map-append reply_in es added ∙ ap (λ rs. rs ++ replies_in added) front.replied;
   goes = λ rest plays.
       subst (IsPlayed script) (sym (append_assoc (without_undone es) (without_undone added) rest) ∙ ap (λ xs. xs ++ rest) (sym (filter-append (λ e. not (is_undone e)) es added)))

@@ -18,14 +18,15 @@ use Rattle.txn_words.specs.declared.refusal.Refusal.TheVariants.{OutOfStep}
 use Rattle.txn_words.specs.Kinds.{is_commit}
 use Rattle.txn_words.specs.Shape.{how_many}
 use Rattle.txn_trace.specs.Plays.{without_undone, ArePlayed}
-use Rattle.script_worker.specs.Accounts.{CommitNothing, is_busy, replies_in, AreBusy, IsAccount}
-use Rattle.script_worker.specs.Chunks.{Heard, IsQuiet, first_heard, txn_then, replies_then, heard_then, outcome_by, IsFront, IsAtStage, IsChunk}
-use Rattle.script_worker.proofs.Attempting.{quiet-append, busy_none, busy_more, busy_fewer, front_begun, front_more, front_committed}
+use Rattle.script_worker.specs.Accounts.{is_busy, replies_in, AreBusy, IsAccount}
+use Rattle.script_worker.specs.Chunks.{Heard, first_heard, txn_then, replies_then, heard_then, outcome_by, IsFront, IsAtStage, IsChunk}
+use Rattle.script_worker.proofs.Attempting.{busy_none, busy_more, busy_fewer, front_begun, front_more, front_committed}
 use Rattle.txn_drive.specs.declared.call.Call.{Call}
 use Rattle.txn_drive.specs.declared.call.Call.TheVariants as calls
 use Rattle.txn_drive.specs.declared.«end».End.{End}
 use Rattle.txn_drive.specs.declared.«end».End.TheVariants as ends
-use Rattle.txn_drive.specs.Made.{undone_by, IsMade, IsRefused}
+use Rattle.txn_drive.specs.Made.{undone_by, IsMade, IsRefused, CommitNothing, IsQuiet}
+use Rattle.txn_drive.proofs.Quiet.{append_quiet}
 use Rattle.script_worker.specs.declared.attempt.Stage.{Stage}
 use Rattle.script_worker.specs.declared.attempt.Stage.TheVariants.{Beginning, Acting, Leaving}
 use Rattle.script_worker.specs.declared.attempt.Attempt.{Attempt}
@@ -72,7 +73,7 @@ module _ (c tries : ℕ) (script : List Action) (heard : Heard) (before part : L
   After added end progress = ChunkAfter c tries script heard (before ++ (part ++ added)) end progress
 
   all_quiet : (added : List Entry) → CommitNothing part → CommitNothing added → CommitNothing (before ++ (part ++ added))
-  all_quiet added quiet silent = quiet-append before (part ++ added) busy.nothing (quiet-append part added quiet silent)
+  all_quiet added quiet silent = append_quiet before (part ++ added) busy.nothing (append_quiet part added quiet silent)
 
   -- A call that found a stripe held.
   busy_one : (call : Call) (x : ℕ) (added : List Entry) → IsMade c call (ends.Busy x) added → AreBusy 1 added
@@ -184,7 +185,7 @@ module _ (c tries : ℕ) (script : List Action) (heard : Heard) (before part : L
 
   -- A call that is refused.
   to_leaving : (refusal : Refusal) (added : List Entry) → added ≡ [] → CommitNothing part → After added (ends.Refused refusal) (Next (attempt_at again (Leaving refusal)))
-  to_leaving refusal added none quiet = record { before = before; part = part ++ added; whole = refl; busy = busy; at = quiet-append part added quiet (ap (filter is_commit) none) }
+  to_leaving refusal added none quiet = record { before = before; part = part ++ added; whole = refl; busy = busy; at = append_quiet part added quiet (ap (filter is_commit) none) }
 
   refused_action : (refusal : Refusal) (o : Option Action) (added : List Entry) → added ≡ [] → CommitNothing part → After added (ends.Refused refusal) (refused_with again o refusal)
   refused_action refusal None added none quiet = all_quiet added quiet (ap (filter is_commit) none)
@@ -227,7 +228,7 @@ chunk_goes c tries script heard next chunk added end made is so_far =
 -- Before the end of its script a chunk commits nothing.
 pub chunk_quiet : (c : ℕ) (script : List Action) (heard : Heard) (chunk : List Entry) → IsChunk c script heard chunk → CommitNothing chunk
 chunk_quiet c script heard chunk so_far =
-    subst CommitNothing (sym so_far.whole) (quiet-append so_far.before so_far.part so_far.busy.nothing (stage_quiet c 0 script heard so_far.before so_far.part so_far.busy heard.attempt.stage so_far.at))
+    subst CommitNothing (sym so_far.whole) (append_quiet so_far.before so_far.part so_far.busy.nothing (stage_quiet c 0 script heard so_far.before so_far.part so_far.busy heard.attempt.stage so_far.at))
 
 pub chunk_over : (c tries : ℕ) (script : List Action) (heard : Heard) (finish : Finish) (chunk added : List Entry) (end : End) → IsMade c (call_at script heard.attempt.stage) end added → IsQuiet end added
     → progress_of script tries heard.attempt end ≡ Over finish → IsChunk c script heard chunk → IsAccount c tries script (outcome_by finish end heard) (chunk ++ added)

@@ -13,8 +13,8 @@ use Rattle.txn_words.specs.declared.entry.Entry.TheVariants.{Began, Asked, Did, 
 use Rattle.txn_words.specs.Kinds.{is_began, is_commit}
 use Rattle.txn_words.specs.Shape.{Seat, row, closed_seat, seat_after}
 use Rattle.txn_trace.specs.Plays.{is_undone, without_undone, ArePlayed, IsPlayed}
-use Rattle.script_worker.specs.Accounts.{CommitNothing}
 use Rattle.txn_trace.proofs.Lists.{filter_within}
+use Rattle.txn_drive.specs.Made.{CommitNothing}
 
 -- Entries that begin no transaction.
 abbrev pub BeginNothing : List Entry → Type 0

@@ -7,10 +7,8 @@ use Rattle.txn_drive.specs.declared.drive.Drive.{Drive}
 use Rattle.txn_drive.specs.declared.«end».End.{End}
 use Rattle.txn_drive.specs.declared.«end».End.TheVariants as ends
 use Rattle.txn_drive.specs.Drives.{end_of}
-use Rattle.txn_drive.specs.Made.{made}
+use Rattle.txn_drive.specs.Made.{made, CommitNothing, IsQuiet}
 use Rattle.txn_drive.proofs.Quiet.{made_quiet}
-use Rattle.script_worker.specs.Accounts.{CommitNothing}
-use Rattle.script_worker.specs.Chunks.{IsQuiet}
 
 if_quiet : (outcome : End) (es : List Entry) → CommitNothing es → IsQuiet outcome es
 if_quiet (ends.Refused OutOfStep) es quiet = quiet

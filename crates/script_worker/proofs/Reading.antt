@@ -11,10 +11,10 @@ use Rattle.txn_trace.specs.History.{txn_after}
 use Rattle.txn_words.specs.Kinds.{caller_of, is_commit}
 use Rattle.txn_words.specs.Shape.{own, IsShaped}
 use Rattle.txn_trace.specs.Plays.{is_commit_of, commits_of}
-use Rattle.script_worker.specs.Accounts.{CommitNothing}
 use Rattle.txn_trace.proofs.Pushes.{txn_in, txn_at, txn_in-push, own-push_in, own-push_out}
 use Rattle.txn_trace.proofs.Inductions.{by_entries}
 use Rattle.txn_trace.proofs.Steps.{txns_of-push}
+use Rattle.txn_drive.specs.Made.{CommitNothing}
 use Rattle.script_worker.proofs.Parts.{BeginNothing}
 
 -- The committed transactions, from a caller's own entries: at each Committed that of the last

@@ -5,17 +5,17 @@ use Rattle.txn_words.specs.declared.action.Action.{Action}
 use Rattle.txn_words.specs.declared.entry.Entry.{Entry}
 use Rattle.txn_words.specs.declared.step.Step.{Step}
 use Rattle.txn_drive.specs.Drives.{step_of}
-use Rattle.txn_drive.specs.Made.{made}
+use Rattle.txn_drive.specs.Made.{made, CommitNothing}
 use Rattle.txn_drive.proofs.DriveLaws.{goes_on}
 use Rattle.txn_drive.proofs.Quiet.{going_quiet}
+use Rattle.txn_drive.proofs.Quiet.{append_quiet}
 use Rattle.script_worker.specs.declared.task.Task.{Task}
 use Rattle.script_worker.specs.Accounts as accounts
-use Rattle.script_worker.specs.Accounts.{CommitNothing, Outcome, AreAccounts, every, tolds_of}
+use Rattle.script_worker.specs.Accounts.{Outcome, AreAccounts, every, tolds_of}
 use Rattle.script_worker.specs.Chunks.{heard_at}
 use Rattle.script_worker.specs.Workers.{Standing, IsReadyTask, IsReady}
 use Rattle.script_worker.specs.Keeps.{KeepsAt, Keeps}
 use Rattle.script_worker.proofs.Accounts.{account_more}
-use Rattle.script_worker.proofs.Attempting.{quiet-append}
 use Rattle.script_worker.proofs.Chunks.{chunk_quiet}
 use Rattle.script_worker.proofs.Every.{get-every}
 
@@ -32,7 +32,7 @@ module _ (tries workers : ℕ) (scripts : List (List Action)) (w : ℕ) (below :
   at_told (Some task) seen ready at =
       let some : 0 < workers = omega (arith, below) in
       let here = get-every workers some scripts w (length at.outcomes) ∙ ap (slice_get scripts) (sym at.number) ∙ at.there in
-      let quiet : CommitNothing (at.chunk ++ made task.drive) = quiet-append at.chunk (made task.drive) (chunk_quiet w at.script (heard_at task.attempt at.txn at.replies) at.chunk at.so_far) (open_quiet task (step_of task.drive) refl ready) in (
+      let quiet : CommitNothing (at.chunk ++ made task.drive) = append_quiet at.chunk (made task.drive) (chunk_quiet w at.script (heard_at task.attempt at.txn at.replies) at.chunk at.so_far) (open_quiet task (step_of task.drive) refl ready) in (
         at.outcomes ++ accounts.Aborted ∷ [],
         subst (AreAccounts w tries (tolds_of (every workers w scripts) (at.outcomes ++ accounts.Aborted ∷ []))) (sym at.entries)
             (account_more w tries (every workers w scripts) at.outcomes at.script accounts.Aborted at.earlier (at.chunk ++ made task.drive) here at.told quiet),

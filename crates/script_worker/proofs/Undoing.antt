@@ -4,8 +4,8 @@ use Rattle.txn_words.specs.declared.entry.Entry.{Entry}
 use Rattle.txn_words.specs.Kinds.{is_commit}
 use Rattle.txn_words.specs.Shape.{how_many}
 use Rattle.txn_trace.specs.Plays.{without_undone}
-use Rattle.script_worker.specs.Accounts.{CommitNothing, is_busy, replies_in}
-use Rattle.txn_drive.specs.Made.{undone_by}
+use Rattle.script_worker.specs.Accounts.{is_busy, replies_in}
+use Rattle.txn_drive.specs.Made.{undone_by, CommitNothing}
 
 -- Changes that are taken back commit nothing.
 pub undone_quiet : (c k : ℕ) (e : Entry) → is_commit e ≡ false → CommitNothing (undone_by c k ++ e ∷ [])

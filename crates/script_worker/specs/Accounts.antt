@@ -11,10 +11,7 @@ use Rattle.txn_trace.specs.History.{of, is_committed, commits}
 use Rattle.txn_words.specs.Kinds.{is_commit}
 use Rattle.txn_words.specs.Shape.{own, how_many}
 use Rattle.txn_trace.specs.Plays.{without_undone, IsPlayed, Plays, commits_of}
-
--- None of the entries commits.
-abbrev pub CommitNothing : List Entry → Type 0
-CommitNothing es = filter is_commit es ≡ []
+use Rattle.txn_drive.specs.Made.{CommitNothing}
 
 -- The outcome of a script: committed, as this transaction, with this commit number and these
 -- replies; or with nothing committed.

@@ -8,6 +8,7 @@ use Rattle.txn_words.specs.declared.refusal.Refusal.TheVariants.{OutOfStep}
 use Rattle.txn_trace.specs.Plays.{without_undone, ArePlayed, IsPlayed}
 use Rattle.txn_drive.specs.declared.«end».End.{End}
 use Rattle.txn_drive.specs.declared.«end».End.TheVariants as ends
+use Rattle.txn_drive.specs.Made.{CommitNothing}
 use Rattle.script_worker.specs.declared.attempt.Stage.{Stage}
 use Rattle.script_worker.specs.declared.attempt.Stage.TheVariants.{Beginning, Acting, Leaving}
 use Rattle.script_worker.specs.declared.attempt.Attempt.{Attempt}
@@ -15,12 +16,7 @@ use Rattle.script_worker.specs.declared.attempt.Finish.{Finish}
 use Rattle.script_worker.specs.declared.attempt.Finish.TheVariants as finishes
 use Rattle.script_worker.specs.Attempts.{first_attempt}
 use Rattle.script_worker.specs.Accounts as accounts
-use Rattle.script_worker.specs.Accounts.{CommitNothing, Outcome, replies_in, AreBusy}
-
--- A call that ends out of step has committed nothing.
-abbrev pub IsQuiet : End → List Entry → Type 0
-IsQuiet (ends.Refused OutOfStep) added = CommitNothing added
-IsQuiet outcome added = Unit {0}
+use Rattle.script_worker.specs.Accounts.{Outcome, replies_in, AreBusy}
 
 -- An attempt with what its caller has been told: the number of its transaction, and the replies of
 -- its operations.

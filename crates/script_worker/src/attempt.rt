@@ -1,5 +1,6 @@
 //! One attempt at a script: the next call, and the progress after the end of a call. These rules
-//! are about one script only and take no step; those of the worker are in `task`.
+//! are about one script only and take no step; those of the worker are in `task`. An attempt keeps
+//! its stage and the number of attempts before it, and nothing of the script.
 ghost use Rattle.std.specs.Prelude.{◌≡◌};
 ghost use Rattle.script_worker.specs.Attempts.{first_attempt, call_for, call_at, done_with, done_at, busy_at, refused_with, refused_at, progress_of};
 

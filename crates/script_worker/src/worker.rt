@@ -1,5 +1,6 @@
-//! A worker: its number, the limits of the map and its task. By the invariant of the type it has a
-//! step to take while it has a script left. `task` says what follows an answer.
+//! A worker: its number, the limits of the map and its task. `task` says what follows an answer;
+//! this module adds the type, whose invariant is that a worker with a script left has a step to
+//! take. Turns and answers keep the account of its scripts in the history (`specs/Keeps.antt`).
 ghost use Rattle.std.specs.Option.{option_or};
 ghost use Rattle.std.specs.Prelude.{◌≡◌, ℕ, ◌<◌, ◌++◌, List, [], Some, true, is_some};
 ghost use Rattle.txn_words.specs.declared.action.Action.{Action};

@@ -1,5 +1,6 @@
-//! A checker that is fed the entries of a history one after another, and judges replies at each
-//! commit. After an entry breaks a rule, the verdict no longer changes.
+//! The checker by the order of commits. It adds to the state the number of entries and the first
+//! bad one, after which the verdict no longer changes. Replies are judged at the Committed; before
+//! it, `misread` and `is_torn` tell if an open transaction could commit, and change nothing.
 ghost use Rattle.std.specs.Prelude.{◌≡◌, ℕ, ◌<◌, ◌++◌, [], ◌∷◌, List, IfOk, OnOk, OnErr, IfSome, IsNone, Some, true, false};
 ghost use Rattle.txn_words.specs.Kinds.{caller_of};
 ghost use Rattle.serial_check.specs.Verdicts.{IsVerdictOn};

@@ -1,5 +1,6 @@
 //! The judge of commits: the committed map and the footprints of open transactions. A commit is
-//! right if the committed map has the values that its footprint needs.
+//! right if the committed map has the values that its footprint needs, and no reply contradicts
+//! another. Only a right commit changes the map; any other entry changes at most one footprint.
 ghost use Rattle.std.specs.Prelude.{◌≡◌, ℕ, ◌<◌, true, false, [], List, Some, IfOk, OnErr, IfSome, IsNone, vec_len};
 ghost use Rattle.txn_trace.specs.History.{is_open};
 ghost use Rattle.txn_words.specs.Kinds.{caller_of};

@@ -1,13 +1,13 @@
 //! A judge of recorded histories by the order of their commits.
 //!
-//! A history is a list of `txn_trace`'s entries. It is serializable in the order of its commits if
-//! each transaction that commits has the replies of running alone on the map of those that
-//! committed before it, and if each caller's entries follow the state table: `IsSerializable`. The
-//! rule of shape is that of `history_check`; there is no rule of locks, and transactions that abort
-//! or stay open may have read anything. So it judges stores whose readers share locks or that
-//! validate at the commit (optimistic, or multi-version), while `history_check` judges those that
-//! lock each key for one transaction. A history that is serializable only in another order than
-//! that of its commits is refused.
+//! A history, a list of `txn_trace`'s entries, is serializable in the order of its commits if each
+//! transaction that commits has the replies of running alone on the map of those that committed
+//! before it, and if each caller's entries follow the state table: `IsSerializable`. The rule of
+//! shape is that of `history_check`; there is no rule of locks, and transactions that abort or stay
+//! open may have read anything. So it judges stores whose readers share locks or that validate at
+//! the commit (optimistic, or multi-version), while `history_check` judges those that lock each key
+//! for one transaction. A history that is serializable only in another order than that of its
+//! commits is refused.
 //!
 //! No transaction is run again, and no entry is kept. The replies of a transaction fit a map
 //! exactly if each key had, before the transaction's first operation there, that operation's reply:

@@ -1,5 +1,6 @@
-//! The state of a checker: callers, committed map and footprints. Its model is the history that it
-//! was fed; no list of the entries is kept.
+//! The state of a checker: callers, committed map and footprints. It puts two judges together, that
+//! of shape from `history_check`, which is asked first, and that of commits. Its model is the
+//! history that it was fed, unchanged if memory is refused; no list of the entries is kept.
 ghost use Rattle.std.specs.Prelude.{◌<◌, [], IfOk, OnErr};
 ghost use Rattle.txn_words.specs.Kinds.{caller_of};
 

@@ -1,5 +1,6 @@
 //! The outcomes of scripts: files of scripts and of histories, with the outcome of each script
-//! found by hand.
+//! found by hand. Nothing is judged here, unlike in `histories`, and the files are read as the
+//! program reads them. A row that is refused memory is tried once more.
 
 use script_outcomes::{Outcome, outcomes};
 use std::alloc::{AllocError, Global};

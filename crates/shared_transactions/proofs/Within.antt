@@ -4,7 +4,6 @@ use Rattle.std.specs.List.{filter, fold}
 use Rattle.std.specs.Option.{option_and_then, option_or}
 use Rattle.std.proofs.lemmas.Bool.{false≢true}
 use Rattle.std.proofs.lemmas.List.{append-nil}
-use Rattle.std.proofs.lemmas.List.Elements.{filter-append}
 use Rattle.std.proofs.lemmas.List.Sums.{fold-append}
 use Rattle.txn_words.specs.Kinds.{is_commit}
 use Rattle.txn_words.specs.declared.answer.Answer.TheVariants as answers
@@ -22,11 +21,11 @@ use Rattle.txn_drive.specs.declared.call.Call.TheVariants as calls
 use Rattle.txn_drive.specs.declared.«end».End.{End}
 use Rattle.txn_drive.specs.declared.«end».End.TheVariants as ends
 use Rattle.txn_drive.specs.Drives.{first_step}
-use Rattle.txn_drive.specs.Made.{undone_by, IsMade}
+use Rattle.txn_drive.specs.Made.{undone_by, IsMade, CommitNothing}
+use Rattle.txn_drive.proofs.Quiet.{append_quiet, undone_quiet}
 use Rattle.locked_map.specs.Calls.{Ended, Ran, FellOut, Failed, TriedNothing, WasRefused, WentOn}
 use Rattle.core_tokens.specs.Ready.{refused_by, refused_at}
 use Rattle.core_tokens.specs.Claims.{Claimed, Readies, given_back}
-use Rattle.core_tokens.specs.Holds.{CommitNothing}
 use Rattle.core_tokens.specs.Tokens.{Token, IsSameCaller, is_over}
 use Rattle.core_tokens.specs.Noted.{began_by, last_txn}
 use Rattle.shared_transactions.specs.Within.{is_idle, is_steady, is_steady_in, HoldsNone, HoldsWithin, IsOver, IsSince, GoesOn, IsTakenBack, IsUndone, IsBegun, IsCommitted, IsRun, is_quiet}
@@ -38,13 +37,6 @@ use Rattle.map_answers.specs.declared.stop.Stop.{Stop}
 use Rattle.map_answers.specs.declared.stop.Stop.TheVariants as stops
 use Rattle.locked_map.specs.Calls.{Stopped, Passed, LeavesBy}
 use Rattle.std.specs.Prelude.{Result, Ok, Err, IfErr}
-
-undone_quiet : (c k : ℕ) → CommitNothing (undone_by c k)
-undone_quiet c zero = refl
-undone_quiet c (suc k) = undone_quiet c k
-
-append_quiet : (xs ys : List Entry) → CommitNothing xs → CommitNothing ys → CommitNothing (xs ++ ys)
-append_quiet xs ys quiet silent = filter-append is_commit xs ys ∙ (λ i. quiet i ++ silent i)
 
 -- The entries of a call that takes changes back commit nothing.
 undoing_quiet : (c k : ℕ) (opening closing : Entry) → is_commit opening ≡ false → is_commit closing ≡ false → CommitNothing (opening ∷ undone_by c k ++ closing ∷ [])

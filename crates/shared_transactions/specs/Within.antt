@@ -9,8 +9,8 @@ use Rattle.txn_words.specs.Seats.{is_closed}
 use Rattle.txn_words.specs.Shape.{Seat, seat_after}
 use Rattle.txn_drive.specs.declared.call.Call.{Call}
 use Rattle.txn_drive.specs.declared.call.Call.TheVariants as calls
+use Rattle.txn_drive.specs.Made.{CommitNothing}
 use Rattle.core_tokens.specs.Claims.{Claimed, given_back}
-use Rattle.core_tokens.specs.Holds.{CommitNothing}
 use Rattle.core_tokens.specs.Noted.{last_txn}
 use Rattle.core_tokens.specs.Tokens.{Token, IsSameCaller, is_over}
 

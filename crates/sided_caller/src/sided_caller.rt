@@ -1,5 +1,6 @@
-//! A caller beside its side value. Each call is made on the caller, and then the side value follows
-//! the answer.
+//! A caller beside its side value. Each call on the map is made on the caller, and then the side
+//! value follows the answer, which takes no memory: `save` makes its room before. Invariant: in a
+//! transaction the side value has a level for its beginning and for each savepoint, else one.
 ghost use Rattle.std.specs.Prelude.{◌≡◌, ℕ, ◌+◌, ◌≤◌, ◌<◌, ◌%◌, ◌^◌, true, false, [], ◌∷◌, IfOk, IfErr, OnOk, OnErr, Some, None, length, if◌then◌else◌};
 ghost use mathlib.Core.List.{IsPrefix};
 ghost use Rattle.txn_words.specs.declared.entry.Entry.TheVariants.{Began, Asked, Did, Saved, Leave, Returned, Committed, Aborted};

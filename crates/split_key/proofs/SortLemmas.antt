@@ -23,7 +23,7 @@ same_test a b same = elim (eqb_tells a b) [
   | inr differs ↦ absurd (differs.1 same)
 ]
 
-apart_test : (a b : ℕ) → a ≢ b → (a == b) ≡ false
+pub apart_test : (a b : ℕ) → a ≢ b → (a == b) ≡ false
 apart_test a b differs = elim (eqb_tells a b) [
   | inl here ↦ absurd (differs here.1)
   | inr apart ↦ apart.0

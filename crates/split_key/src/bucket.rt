@@ -1,5 +1,6 @@
-//! Buckets as numbers: the bucket that a key belongs to, the parent of a bucket, and the bucket to
-//! which a position of the split order belongs. A bucket is the lowest bits of its keys.
+//! Buckets as numbers: the bucket of a key, the bucket of a position in the split order, and the
+//! parent of a bucket. `split` puts nodes in order; this module says to which bucket they belong,
+//! by their lowest bits. The sizes are powers of two, so no call divides.
 ghost use Rattle.std.specs.Prelude.{◌≡◌, ℕ, ◌%◌, ◌<◌, ◌≤◌};
 ghost use Rattle.split_key.specs.Split.{reversed, split, parent_of, IsParent};
 ghost use Rattle.split_key.specs.Split.{IsAncestor, IsPowerOfTwo};

@@ -1,5 +1,6 @@
-//! Keys. A key is a number of 64 bits with its own type, so that it is not mistaken for a position,
-//! a bucket or a value. Files of version 1 hold only half keys, those below 2^63.
+//! Keys, in a type apart from plain numbers, so that none is mistaken for a position, a bucket or a
+//! value. Half keys are those below 2^63: a map whose limits are from a file of version 1 takes no
+//! others. No two half keys share a split key.
 ghost use Rattle.std.specs.Prelude.{◌≡◌, ℕ, ◌<◌, ◌≤◌, ◌^◌, MatchResult};
 ghost use Rattle.split_key.specs.Text.{bad_key_text};
 

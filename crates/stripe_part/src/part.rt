@@ -1,5 +1,6 @@
 //! The public type: a box with the map and the number of its changes, made at the first change, or
 //! at the start, for room. Without it a part is empty, and the calls answer as on the empty map.
+//! Only this module tests for the box; its content and the invariant are in `counted_map.rt`.
 ghost use Rattle.std.specs.Prelude.{◌≡◌, ℕ, ◌<◌, true, Option, IfOk, IfErr, OnErr};
 ghost use Rattle.txn_words.specs.Map.{count_of};
 ghost use Rattle.txn_words.specs.Shape.{changes};

@@ -28,6 +28,7 @@ use Rattle.striped_map.specs.Steps.{Extends, TakesIn, removed, lost, undone}
 use Rattle.striped_map.specs.Handling.{under}
 use Rattle.striped_map.specs.Sound.{Held, parts_of, stripes_in, with_part, owed_in, at_place, of_job, Change, Spot, AreHeld, AreLogged}
 use Rattle.striped_map.proofs.Lands.{own-append, own-none}
+use Rattle.striped_map.proofs.Moves.{times_same, times_other}
 
 abbrev pub Job : Type 0
 Job = ℕ × Option ℕ
@@ -112,13 +113,6 @@ with_set f g (x ∷ ks) zero k at apart same = ap (λ (y : ℕ). with_part g y �
     ∙ ap (λ (l : List Held). with_part g k ∷ l) (with_same f g ks (λ i other there. same other (λ e. absurd (let z = apart (suc i) (there ∙ ap (λ (y : ℕ). Some y) e) in omega arith))))
 with_set f g (x ∷ ks) (suc j) k at apart same = ap (λ (p : PartAt). (record { stripe = x; part = p }) ∷ map (with_part g) ks) (same x (λ e. absurd (let z = apart 0 (ap (λ (y : ℕ). Some y) e) in omega arith)))
     ∙ ap (λ (l : List Held). with_part f x ∷ l) (with_set f g ks j k at (λ i there. let z = apart (suc i) there in omega arith) same)
-
--- Which stripes are held.
-times_same : (k : ℕ) (ks : List ℕ) → times k (k ∷ ks) ≡ 1 + times k ks
-times_same k ks = ap (λ b. cond b 1 0 + times k ks) (eq-eqb k k refl)
-
-times_other : (k j : ℕ) (ks : List ℕ) → j ≢ k → times k (j ∷ ks) ≡ times k ks
-times_other k j ks ne = ap (λ b. cond b 1 0 + times k ks) (ne_eqb j k ne) ∙ (omega arith)
 
 times_append : (k : ℕ) (xs ys : List ℕ) → times k (xs ++ ys) ≡ times k xs + times k ys
 times_append k [] ys = omega arith

@@ -430,9 +430,7 @@ impl Hand {
         ensures refused { IfErr result (λ refusal. refusal ≡ NoMemory) }
         ensures unchanged { OnErr result (self.new.seat ≡ self.old.seat) }
     {
-        if self.levels.reserve(1).is_err() {
-            return Err(Refusal::NoMemory);
-        }
+        self.levels.reserve(1)?;
         map.add(&mut self.seat, map.quiet(), Addition::Save);
         self.levels.push_reserved(self.order.len());
         Ok(self.levels.len() as u64)

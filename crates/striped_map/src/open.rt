@@ -67,15 +67,11 @@ pub fn open_map_with_capacity(
     if !may_open(stripes, callers) {
         return Err(Refusal::Limit);
     }
-    let Ok((map, mut first)) = StripedMap::new(alloc, stripes, keys) else {
-        return Err(Refusal::NoMemory);
-    };
+    let (map, mut first) = StripedMap::new(alloc, stripes, keys)?;
     let Ok(map) = Arc::new(alloc, map) else {
         return Err(Refusal::NoMemory);
     };
-    let Ok(mut all) = Vec::with_capacity(alloc, callers) else {
-        return Err(Refusal::NoMemory);
-    };
+    let mut all = Vec::with_capacity(alloc, callers)?;
     for place in 0..callers {
         let Ok(owned) = Arc::try_clone(&map) else {
             return Err(Refusal::NoMemory);

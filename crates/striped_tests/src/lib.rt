@@ -1,8 +1,8 @@
 //! Tests of `striped_map` and `sided_caller`: what no contract says, that each call succeeds while
 //! there is memory, and worked runs of callers side by side with their values.
 //!
-//! They are a separate crate, since a crate with tests is proved twice. A device is a function
-//! without a clause: it makes one call and tells what it answered.
+//! They are not in the crates of the map, whose proofs would then be run twice. A device is a
+//! function without a clause: it makes one call and tells what it answered.
 #![tactic(auto)]
 
 #[cfg(test)]

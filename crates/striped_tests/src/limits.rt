@@ -1,5 +1,6 @@
 //! Callers at the limits of the map: stripes, callers, keys, values, savepoints, changes, and the
-//! order of the pairs.
+//! order of the pairs. Loops make most rows, up to a hundred thousand of them, unlike in `runs`. A
+//! contract lets a call that takes memory give up; here only a row that says so may.
 use crate::calls::{
     Ask, Home, NEW, Row, Told, Worked, has_left, leaves, must, open, play, play_worked,
 };

@@ -1,5 +1,6 @@
 //! Callers with a side value at the limits: keys, values, changes of the side value, savepoints,
-//! and two of them in threads.
+//! and two of them in threads. `limits` tests the map itself; a row here also names the side value
+//! after its call. With two threads only the counts at the end are known.
 use crate::calls::{NEW, Told, has_left};
 use crate::sided::{Call, Row, Sided, SidedHome, answer, has_count, leaves, open_sided, play};
 use crate::threads::must_start;

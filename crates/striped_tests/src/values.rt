@@ -1,6 +1,6 @@
 //! Tests of `Transaction`: each call, each way to end one, and a drop after any number of calls.
 //! `Call` names its calls, since `Ask` lacks four: `contains_key`, `swap`, `is_empty` and `pairs`.
-//! The first three are also tested on a caller. All values were worked out by hand.
+//! The first three are also tested on a caller. The values of each row were worked out by hand.
 use crate::calls::{Ask, Home, NEW, Row, Told, leaves, must, open, play};
 use std::process::Abort;
 use striped_map::{Caller, Stop, Transaction};

@@ -2,9 +2,9 @@
 //! `undo_log`, `map_ops`, `probe_map` and `stripe_part`, one module for each.
 //!
 //! They test what no contract says: that each call succeeds while there is memory, the state after
-//! a refused allocation, and worked runs with their values. They are a separate crate, since a
-//! crate with tests is proved twice. A device is a function without a clause that makes the calls
-//! of a library and returns their answers, so that its callers have little to prove.
+//! a refused allocation, and worked runs with their values. They are one crate for all of these,
+//! since each crate with tests is proved twice. A device is a function without a clause that makes
+//! the calls of a library and returns their answers, so that its callers have little to prove.
 #![tactic(auto)]
 
 #[cfg(test)]

@@ -1,5 +1,6 @@
 //! Tests of `probe_map`: drawn calls compared with a plain list, keys that share a home, growth,
-//! removed keys, and refused allocations.
+//! removed keys, and refused allocations. No contract says that room is made while there is memory.
+//! Contracts hide the slots, so keys are chosen here whose homes are the first and the last.
 use crate::draws::{Draws, draw};
 use probe_map::ProbeMap;
 use std::alloc::{AllocError, Global};

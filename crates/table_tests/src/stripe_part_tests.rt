@@ -1,5 +1,7 @@
 //! Tests of `stripe_part`: drawn operations compared with std's map, growth, and refused
-//! allocations.
+//! allocations. A part has no log, so the test keeps one beside it and one beside the plain map,
+//! and takes changes back by these. A refused operation leaves the part unchanged, and is made
+//! again.
 use crate::draws::{Draws, draw};
 use std::alloc::{AllocError, Global};
 use std::collections::BTreeMap;

@@ -14,7 +14,7 @@ use Rattle.txn_drive.specs.declared.call.Call.{Call}
 use Rattle.txn_drive.specs.declared.call.Call.TheVariants as calls
 use Rattle.txn_drive.specs.declared.«end».End.{End}
 use Rattle.txn_drive.specs.declared.«end».End.TheVariants as ends
-use Rattle.txn_drive.specs.Made.{IsMade}
+use Rattle.txn_drive.specs.Made.{IsMade, CommitNothing}
 use Rattle.script_worker.specs.declared.attempt.Finish.TheVariants as finishes
 use Rattle.script_worker.specs.declared.attempt.Progress.{Progress}
 use Rattle.script_worker.specs.declared.attempt.Progress.TheVariants.{Over}
@@ -22,12 +22,12 @@ use Rattle.script_worker.specs.Attempts.{call_at, progress_of}
 use Rattle.script_worker.specs.Chunks.{Heard}
 use Rattle.locked_map.specs.Calls.{Ended, Failed, FellOut}
 use Rattle.core_tokens.specs.Ready.{refused_at}
-use Rattle.core_tokens.specs.Holds.{CommitNothing, is_out}
+use Rattle.core_tokens.specs.Holds.{is_out}
 use Rattle.core_tokens.specs.Tokens.{Token}
 use Rattle.script_worker.specs.Accounts as accounts
 use Rattle.script_worker.specs.Accounts.{Outcome}
 use Rattle.thread_runs.specs.Runs.{Adds, Grows, HasEnded, HasRunTo, IsIn, phase_at}
-use Rattle.script_worker.proofs.Attempting.{quiet-append}
+use Rattle.txn_drive.proofs.Quiet.{append_quiet}
 use Rattle.thread_runs.proofs.Ending.{MayLeave, Stands, call_stands}
 use Rattle.thread_runs.proofs.Looping.{IsRunning, RunsOn, run_call}
 
@@ -133,7 +133,7 @@ fell_out c c' tries script heard base seen call last k l told mine adds rows (la
       added = adds.added ++ fell.added;
       entries = fell.entries ∙ ap (λ es. es ++ fell.added) adds.entries ∙ append_assoc seen adds.added fell.added;
       made = tt;
-      quiet = λ whole. quiet-append adds.added fell.added silent (fell.quiet whole);
+      quiet = λ whole. append_quiet adds.added fell.added silent (fell.quiet whole);
     } in (
       subst (λ (o : Outcome). HasRunTo c tries script o base l.seen) (sym told_is) (run_call c tries script heard base seen l.seen (ends.Refused OutOfStep) (Over (finishes.Refused OutOfStep)) both refl running),
       inl fell.broken,

@@ -18,11 +18,10 @@ use Rattle.txn_drive.specs.declared.call.Call.{Call}
 use Rattle.txn_drive.specs.declared.call.Call.TheVariants as calls
 use Rattle.txn_drive.specs.declared.«end».End.{End}
 use Rattle.txn_drive.specs.declared.«end».End.TheVariants as ends
-use Rattle.txn_drive.specs.Made.{IsMade}
+use Rattle.txn_drive.specs.Made.{IsMade, IsQuiet}
 use Rattle.script_worker.specs.declared.attempt.Stage.{Stage}
 use Rattle.script_worker.specs.declared.attempt.Stage.TheVariants.{Beginning}
 use Rattle.locked_map.specs.Calls.{Ended}
-use Rattle.core_tokens.specs.Holds.{IsQuiet}
 use Rattle.core_tokens.specs.Suits.{may_refuse}
 use Rattle.core_tokens.specs.Tokens.{Token}
 use Rattle.script_worker.specs.Chunks.{Heard, heard_at}

@@ -1,5 +1,6 @@
-//! The outcomes of all workers, merged into the scripts' order. Each row has its last outcome
-//! first, so the next one is taken from its end, in constant time.
+//! The outcomes of all workers, merged into the scripts' order. It works on lists, without map or
+//! thread, and its contract is about their lengths and order only. Each row has its last outcome
+//! first, so the next one is taken from its end, in constant time, and no outcome is copied.
 ghost use Rattle.std.specs.Prelude.{◌≡◌, ◌<◌, IfOk, length, reverse};
 ghost use Rattle.script_worker.specs.Accounts.{every};
 ghost use Rattle.thread_runs.specs.Each.{Each};

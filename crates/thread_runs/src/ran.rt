@@ -1,5 +1,6 @@
 //! The result of a run of scripts: an outcome for each script, and the history. The outcomes are in
-//! the order of the scripts, whichever worker ran them.
+//! the order of the scripts, whichever worker ran them. They are returned as one value, since an
+//! outcome is true of this history only: it names a transaction by its number there.
 use crate::outcome::Outcome;
 use txn_trace::SmallEntry;
 

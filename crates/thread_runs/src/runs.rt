@@ -1,6 +1,7 @@
-//! A run of scripts: makes the map, lets the workers run in their threads, closes the map, and
-//! merges the outcomes. It picks the names of ledger and terms itself, so that its callers need
-//! none.
+//! A run of scripts, from a new map to the outcomes in the scripts' order; its parts are in the
+//! modules beside. It picks the names of ledger and terms itself, so that its callers need none.
+//! Before a thread starts, the map takes room for what the scripts add if no attempt is repeated,
+//! so that it need not grow under its lock; if that room is refused, it grows as it is used.
 ghost use Rattle.std.specs.Prelude.{◌≡◌, ◌≤◌, IfOk, IfErr, map, reverse};
 ghost use Rattle.thread_runs.specs.Runs.{IsRunOf, IsRunRefusal};
 
@@ -93,16 +94,13 @@ fn run_under<L: Ledger + Send + Sync, T: Terms + Send + Sync, G: Gate, R: Thread
         map: &map,
         scripts,
         workers,
-        entries: room.entries / workers,
+        room,
         tries,
         gate,
         terms: PhantomData,
     };
     let reports = in_threads(rt, alloc, limits, &orders, passes)?;
-    let (callers, rows) = match unzip(alloc, reports) {
-        Ok(parts) => parts,
-        Err(AllocError) => return Err(Refusal::NoMemory),
-    };
+    let (callers, rows) = unzip(alloc, reports)?;
     let Ok(closed) = map.close(callers) else {
         return Err(Refusal::OutOfStep);
     };
@@ -110,26 +108,35 @@ fn run_under<L: Ledger + Send + Sync, T: Terms + Send + Sync, G: Gate, R: Thread
     // saw.
     drop(closed.callers);
     let trace = closed.core.into_trace();
-    match in_order(alloc, rows, scripts) {
-        Ok(outcomes) => Ok(Ran { outcomes, trace }),
-        Err(AllocError) => Err(Refusal::NoMemory),
-    }
+    let outcomes = in_order(alloc, rows, scripts)?;
+    Ok(Ran { outcomes, trace })
 }
 
-/// Room for all that scripts add if no attempt is repeated: two entries for each action, and a begin
-/// and an end for each script; a node for each put, and for each bucket, of which the table has no
-/// more than it has keys.
+/// Room for what scripts add if no attempt is repeated: two entries for each action but a help, and a
+/// begin and an end for each script; a node for each put, and for each bucket, of which the table
+/// has no more than it has keys. With several workers it is written before they start.
 fn room_for(scripts: &[Script], limits: Limits) -> Room {
-    let mut room = Room::default();
+    let mut room = Room {
+        is_written: limits.callers() > 1,
+        ..Room::default()
+    };
     for script in scripts {
         let actions = script.actions();
-        let entries = actions.len().saturating_mul(2).saturating_add(2);
-        room.entries = room.entries.saturating_add(entries);
+        room.entries = room.entries.saturating_add(entries_of(actions));
         room.nodes = room.nodes.saturating_add(puts_in(actions));
     }
     let buckets = room.nodes.min(limits.buckets() as usize);
     room.nodes = room.nodes.saturating_add(buckets);
     room
+}
+
+/// The entries of one attempt at a script, if none of its changes is taken back.
+fn entries_of(actions: &[PackedAction]) -> usize {
+    let calls = actions
+        .iter()
+        .filter(|packed| !matches!(packed.action(), Action::Help(_)))
+        .count();
+    calls.saturating_mul(2).saturating_add(2)
 }
 
 /// The number of actions that may put a key.

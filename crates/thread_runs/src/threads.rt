@@ -1,5 +1,6 @@
-//! The workers' threads: started, each with its caller, and joined in the order of their numbers.
-//! If one cannot be started, those that were started finish before the run answers.
+//! The workers' threads: started, each with its pass, and joined in the order of their numbers.
+//! Only this module starts and joins threads; what a thread does is the worker's. If one cannot be
+//! started, those that were started finish before the run answers. Each has a stack of 256 KiB.
 ghost use Rattle.std.specs.Prelude.{◌≡◌, IfOk, IfErr, length, map};
 ghost use Rattle.core_tokens.specs.Tokens.{AreTickets};
 ghost use Rattle.thread_runs.specs.Each.{Each};

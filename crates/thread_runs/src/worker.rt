@@ -1,5 +1,6 @@
-//! The course of one worker through its scripts. Room for an outcome is made before its script
-//! runs, so no outcome is lost.
+//! The course of one worker through its scripts, which is all that its thread does. It knows no
+//! other worker: it takes its scripts by their numbers, and shares only the map and the gate with
+//! the rest. Room for an outcome is made before its script runs, so no outcome is lost.
 ghost use Rattle.std.specs.Prelude.{◌≡◌, ◌<◌, ◌^◌, [], IfOk, map};
 ghost use Rattle.core_tokens.specs.Tokens.{IsSameCaller};
 ghost use Rattle.thread_runs.specs.Runs.{HasReported, HasRunAll, told_of};
@@ -9,7 +10,7 @@ use crate::growth::Growth;
 use crate::outcome::Outcome;
 use crate::run_script::run_script;
 use crate::terms::Terms;
-use locked_map::{Caller, NoSide, Pass, SharedMap};
+use locked_map::{Caller, NoSide, Pass, Room, SharedMap};
 use std::alloc::{AllocError, Global};
 use std::marker::PhantomData;
 use std::sync::Wait;
@@ -34,8 +35,8 @@ pub(crate) struct Orders<'a, L: Ledger, G: Gate, T: Terms> {
     pub(crate) scripts: &'a [Script],
     /// The number of workers.
     pub(crate) workers: usize,
-    /// About how many entries each worker sees.
-    pub(crate) entries: usize,
+    /// The room for what all workers add.
+    pub(crate) room: Room,
     /// How often a script that found a stripe held is tried again.
     pub(crate) tries: u64,
     /// The observer of the run.
@@ -63,7 +64,7 @@ impl<L: Ledger, G: Gate, T: Terms> Orders<'_, L, G, T> {
     {
         let mut caller = pass.caller(alloc, NoSide);
         // If room for all entries is refused, each call makes its own.
-        let _room = caller.reserve(self.entries);
+        let _room = caller.reserve(self.room.entries / self.workers, self.room.is_written);
         let outcomes = self.outcomes(rt, alloc, &mut caller)?;
         Ok(WorkerReport { caller, outcomes })
     }

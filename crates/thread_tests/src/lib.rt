@@ -1,9 +1,9 @@
 //! Tests of the values that callers in threads share: the map under its lock, the scripts that
 //! threads run on it, and the locks and the words of its stripes.
 //!
-//! They are a separate crate, since a crate with tests is proved twice. Each call of a library is
-//! made once, in a small function without a contract: a test that uses these has only its own
-//! safety to prove.
+//! They are not in the crates that they test, which would then be proved twice. Small functions
+//! without a contract make the calls of the libraries, so that a test has only its own safety to
+//! prove.
 #![tactic(auto)]
 
 #[cfg(test)]

@@ -1,5 +1,6 @@
 //! Runs of scripts on threads: in an order that a gate forces, with any number of workers, and with
-//! memory refused.
+//! memory refused. The contract of `run_scripts` lets each script be busy or refused; here those
+//! that meet no other must commit. If the order depends on the threads, the history is only judged.
 use crate::devices::{is_refused, is_settled, judge};
 use history_check::Verdict;
 use std::alloc::{AllocError, Global};

@@ -1,7 +1,6 @@
 //! Tests of transactions as values on a map of threads: its table grows, a key is looked for, a try
-//! is made again, and a new map begins with the pairs of a closed one, with works in threads. Each
-//! test is also run with each allocation refused in turn, and with all allocations from one on
-//! refused.
+//! is made again, and a new map begins with the pairs of a closed one, with works in threads. All
+//! are also run while memory is refused: each allocation in turn, and all from one on.
 ghost use Rattle.std.specs.Prelude.{◌≡◌};
 ghost use Rattle.shared_transactions.specs.Keeps.{Keeps};
 

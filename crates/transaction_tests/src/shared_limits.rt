@@ -1,6 +1,6 @@
-//! Tests of transactions on a map of threads at the limits of keys, values and savepoints. No
-//! contract says that a call at a limit does not give up. The tables are those of `lines`. The last
-//! caller plays them on the thread of the test, in a session that also closes the map.
+//! Tests of transactions on a map of threads at the limits of keys, values and savepoints, where
+//! the contracts would let a call give up. The last caller plays the tables of `lines` on the
+//! thread of the test, in a session that also closes the map.
 ghost use Rattle.std.specs.Prelude.{◌≡◌};
 
 use crate::lines::{Call, Line, Told, a_thousand_savepoints, half_keys, whole_keys};

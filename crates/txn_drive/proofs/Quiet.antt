@@ -18,15 +18,12 @@ use Rattle.txn_drive.specs.declared.phase.Phase.TheVariants.{Seeking, Acting, Fi
 use Rattle.txn_drive.specs.declared.phase.Work.{Work}
 use Rattle.txn_drive.specs.declared.phase.Work.TheVariants.{Operation, Busy, Leaving}
 use Rattle.txn_drive.specs.Drives.{turn_in, ended_by, end_of}
-use Rattle.txn_drive.specs.Made.{undone_in, undone_by, opened_by, entered_by, made_by, made_in, made}
+use Rattle.txn_drive.specs.Made.{undone_in, undone_by, opened_by, entered_by, made_by, made_in, made, CommitNothing}
 
-abbrev CommitNothing : List Entry → Type 0
-CommitNothing es = filter is_commit es ≡ []
-
-append_quiet : (xs ys : List Entry) → CommitNothing xs → CommitNothing ys → CommitNothing (xs ++ ys)
+pub append_quiet : (xs ys : List Entry) → CommitNothing xs → CommitNothing ys → CommitNothing (xs ++ ys)
 append_quiet xs ys quiet silent = filter-append is_commit xs ys ∙ (λ i. quiet i ++ silent i)
 
-undone_quiet : (c k : ℕ) → CommitNothing (undone_by c k)
+pub undone_quiet : (c k : ℕ) → CommitNothing (undone_by c k)
 undone_quiet c zero = refl
 undone_quiet c (suc k) = undone_quiet c k
 

@@ -1,5 +1,5 @@
 -- The entries that a drive has added to the history.
-use Rattle.std.specs.Prelude.{◌≡◌, ℕ, List, [], ◌∷◌, ◌++◌, Some, None, replicate}
+use Rattle.std.specs.Prelude.{◌≡◌, ℕ, List, [], ◌∷◌, ◌++◌, Some, None, filter, replicate}
 use Rattle.txn_words.specs.declared.answer.Answer.{Answer}
 use Rattle.txn_words.specs.declared.answer.Answer.TheVariants as answers
 use Rattle.txn_words.specs.declared.entry.Entry.{Entry}
@@ -19,6 +19,7 @@ use Rattle.txn_drive.specs.declared.phase.Work.TheVariants.{Operation, Busy, Lea
 use Rattle.txn_drive.specs.declared.turn.Turn.{Turn}
 use Rattle.txn_drive.specs.declared.turn.Turn.TheVariants.{Ended}
 use Rattle.txn_words.specs.Entries.{entries_of}
+use Rattle.txn_words.specs.Kinds.{is_commit}
 
 -- How many changes are taken back.
 abbrev pub undone_in : Work → ℕ
@@ -93,3 +94,12 @@ IsMade c call outcome h = ⊥
 abbrev pub HasMade : Drive → Turn → Type 0
 HasMade drive (Ended outcome) = IsMade drive.caller drive.call outcome (made drive)
 HasMade drive turn = Unit {0}
+
+-- None of the entries commits.
+abbrev pub CommitNothing : List Entry → Type 0
+CommitNothing es = filter is_commit es ≡ []
+
+-- A call that ends out of step has committed nothing.
+abbrev pub IsQuiet : End → List Entry → Type 0
+IsQuiet (ends.Refused OutOfStep) added = CommitNothing added
+IsQuiet outcome added = Unit {0}

@@ -1,5 +1,6 @@
-//! Calls on the map, which a drive turns into steps: an operation, begin, save, back, commit, abort
-//! or help.
+//! Calls on the map: an operation, begin, save, back, commit, abort or help. A call names no caller
+//! and has no state: the drive that turns it into steps adds both. It fixes the first phase and the
+//! first step; only a help whose key the limits refuse ends before any step.
 ghost use Rattle.std.specs.Prelude.{◌≡◌};
 ghost use Rattle.txn_drive.specs.Drives.{first_phase, first_step};
 

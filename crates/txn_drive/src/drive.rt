@@ -1,5 +1,6 @@
 //! A call in progress: its phase, its next turn, and its phase after an answer. It is separate from
 //! whatever takes the steps, so that a core, a lock and a test all drive calls by the same machine.
+//! A drive tells which entries its steps have added to the history (`specs/Made.antt`).
 ghost use Rattle.std.specs.Prelude.{◌≡◌, [], ◌++◌, Some, IfSome};
 ghost use Rattle.txn_words.specs.declared.step.Step.{Step};
 ghost use Rattle.txn_drive.specs.Drives.{new_drive, sized_of, turn_of, told_of, step_of, IsTurnOf, end_of, end_first, end_last, end_helped};

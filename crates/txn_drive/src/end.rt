@@ -1,5 +1,6 @@
-//! The ends of calls: answered, busy, helped or refused. Callers, workers and the map of threads
-//! all use them.
+//! The ends of calls: answered, busy, helped or refused. Callers, workers and the map of threads go
+//! on from an end, so it is a type apart from the phases. Unless it is `OutOfStep`, call and end
+//! determine the entries that were added, but for the number of changes taken back (`IsMade`).
 use txn_words::{Answer, Refusal};
 
 /// The end of a call.

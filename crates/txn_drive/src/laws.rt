@@ -1,5 +1,6 @@
-//! The laws of drives: functions that do nothing, whose contracts are theorems about `specs/`. So a
-//! crate above can cite a theorem without naming a lemma of this crate.
+//! The law of a helper's way: a function that does nothing, whose contract is the theorem, so that
+//! a crate above can cite it without naming a lemma of this crate. The law is the reason why a
+//! drive foresees no `ParentMissing`: each bucket on the way follows its parent.
 
 ghost use Rattle.std.specs.Prelude.{◌≡◌, ◌≢◌, ℕ, ◌^◌, ◌<◌, ◌≤◌};
 ghost use Rattle.split_key.specs.Split.{parent_of, IsAncestor};

@@ -1,5 +1,6 @@
-//! The turns of a drive: one step, a seek with its act, or none. A turn has two steps after eight
-//! `again` in a row; the second step is taken only if the first was answered `placed`.
+//! The turns of a drive, which tell the taker of its steps how to go on: one step, a seek with the
+//! step that acts on it, or none. A turn has two steps only after eight `again` in a row, so that
+//! others cannot keep a call seeking; the second is taken only after `placed`.
 ghost use Rattle.std.specs.Prelude.{◌≡◌};
 ghost use Rattle.txn_drive.specs.Drives.{paired};
 ghost use Rattle.txn_drive.specs.Turns.{HasTaken, MayTake};

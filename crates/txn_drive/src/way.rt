@@ -1,5 +1,6 @@
 //! The buckets that a helper initialises on its way to a key's bucket, each after its parent. A way
-//! is its current bucket and its target; the bits of the target say which bucket is next.
+//! keeps only its current bucket and its target, and no list of ancestors: the next bucket is found
+//! from the target in up to 32 rounds, each from a bucket to its parent.
 ghost use Rattle.std.specs.Prelude.{◌≡◌};
 ghost use Rattle.split_key.specs.Split.{parent_of};
 ghost use Rattle.txn_drive.specs.Ways.{child_towards};

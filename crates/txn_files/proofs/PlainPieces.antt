@@ -9,11 +9,12 @@ use Rattle.txn_words.specs.declared.op.Op.{Op}
 use Rattle.txn_words.specs.declared.step.Step.{Step}
 use Rattle.piece_files.specs.Elements.{number_at, optional_at, word_at, one_of, two_of, end_of, optional_of}
 use Rattle.piece_files.specs.Tokens.{are_plain}
-use Rattle.piece_files.proofs.PlainElements.{bound, chosen, never, tested, pick, number_first, optional_first, word_first, one_plain, two_plain, none_left, room, end_plain, optional_all_plain, unless}
+use Rattle.piece_files.proofs.PlainElements.{bound, chosen, tested, pick, number_first, optional_first, word_first, one_plain, two_plain, none_left, room, end_plain, optional_all_plain, unless}
 use Rattle.txn_files.specs.Actions.{action_of}
 use Rattle.txn_files.specs.Entries.{busy_of, entry_named, entry_of, transaction_entry}
 use Rattle.txn_files.specs.Operations.{op_at, op_of, put_if_at}
 use Rattle.txn_files.specs.Steps.{ask_of, step_of}
+use Rattle.piece_files.proofs.ValueKinds.{never}
 
 -- ---- operations
 

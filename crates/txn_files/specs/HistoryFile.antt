@@ -5,6 +5,8 @@ use Rattle.txn_words.specs.declared.entry.Entry.{Entry}
 use Rattle.txn_words.specs.declared.entry.Entry.TheVariants.{Asked, Saved, Busy}
 use Rattle.serde_json.specs.Data.{Data}
 use Rattle.txn_words.specs.declared.op.Op.TheVariants.{PutIf}
+use Rattle.txn_words.specs.declared.holder.Holder.{Holder}
+use Rattle.txn_words.specs.declared.holder.Holder.TheVariants.{Now, Begun}
 use Rattle.txn_words.specs.Kinds.{caller_of}
 use Rattle.txn_words.specs.Packed.{is_small}
 use Rattle.txn_words.specs.Sizes.{max_callers, max_stripes}
@@ -53,6 +55,11 @@ entries_from version other entries = Err Member
 -- The history file that the bytes are: its stripes, its entries and its version.
 abbrev pub history_of : List ℕ → Result (ℕ × List Entry × ℕ) FileFault
 history_of bytes = contents history_file bytes >>= λ file. entries_from file.0 file.1 file.2
+
+-- The caller that a Busy may name in a history file of this version: in versions 1 and 2 one that
+-- holds the stripe, in later ones one that has begun a transaction.
+abbrev pub holder_in : ℕ → Holder
+holder_in version = if nat_le version 2 then Now else Begun
 
 -- The entry that is kept while a file is read: the entry itself, if it is small enough to be
 -- packed; otherwise one that is out of range as well, and that version 1 has if it has the entry.

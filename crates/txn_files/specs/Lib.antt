@@ -7,6 +7,7 @@ pub mod HistoryText
 pub mod HistoryLine
 pub mod Actions
 pub mod ScriptFile
+pub mod Reading
 -- The faults of files, and the definitions of `piece_files` that these ones use.
 pub use Rattle.piece_files.specs.declared.part.Part
 pub use Rattle.piece_files.specs.declared.file_fault.FileFault

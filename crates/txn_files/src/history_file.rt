@@ -6,7 +6,7 @@ ghost use Rattle.std.specs.List.{list_all};
 ghost use Rattle.piece_files.specs.Plain.{data_of};
 ghost use Rattle.piece_files.specs.Faults.{Gives};
 ghost use Rattle.txn_files.specs.Entries.{busy_of, entry_named, entry_of, is_old_entry, transaction_entry};
-ghost use Rattle.txn_files.specs.HistoryFile.{max_entries, is_in_range, is_history, entries_from, history_of, kept, kept_of, kept_history_of};
+ghost use Rattle.txn_files.specs.HistoryFile.{max_entries, is_in_range, is_history, entries_from, history_of, kept, kept_of, kept_history_of, holder_in};
 
 use crate::operation::{is_old_op, leading_op_in, op_in};
 use arrayvec::ArrayVec;
@@ -16,7 +16,7 @@ use piece_files::{
     plain_elements, read_file, word_in,
 };
 use std::alloc::{AllocError, Global};
-use txn_words::{Entry, Limits, Op, SmallEntry};
+use txn_words::{Entry, Holder, Limits, Op, SmallEntry};
 
 /// The largest number that a caller may have.
 const MAX_CALLER: u64 = Limits::MAX_CALLERS - 1;
@@ -27,6 +27,9 @@ const TOO_LARGE: u64 = 65_535;
 
 /// The most entries that a file may have.
 const MAX_ENTRIES: usize = 1_000_000;
+
+/// The last version of history files in which a Busy names a caller that holds the stripe.
+const LAST_OF_NOW: u64 = 2;
 
 /// The number of elements of the longest entry: `["busy",0,"put_if",1,10,12,2]`.
 const MAX_ELEMENTS: usize = 7;
@@ -319,4 +322,16 @@ fn kept_history(alloc: Global, bytes: &[u8]) -> Result<(u32, Vec<SmallEntry>, u6
         "entries",
     )?;
     entries_in(version, numbers, entries)
+}
+
+/// The caller that a Busy may name in a history file of this version: in versions 1 and 2 one that
+/// holds the stripe, in later ones one that has begun a transaction.
+pub fn holder_in(version: u64) -> Holder
+    ensures { result ≡ holder_in version }
+{
+    if version <= LAST_OF_NOW {
+        Holder::Now
+    } else {
+        Holder::Begun
+    }
 }

@@ -28,7 +28,7 @@ mod script_file;
 mod step_file;
 mod text;
 
-pub use history_file::{read_history, read_packed_history};
+pub use history_file::{holder_in, read_history, read_packed_history};
 pub use piece::Piece;
 pub use piece_files::{FileFault, Part};
 pub use pieces::HistoryPieces;

@@ -1,5 +1,6 @@
 //! An operation as elements in JSON: how it is read, and how it is written. Step files, script
-//! files and history files share it.
+//! files and history files share it, so an operation has one form in all. Reading takes constant
+//! time and no memory; what is written takes at most 80 bytes of a line.
 
 ghost use Rattle.std.specs.Prelude.{◌≡◌, ◌+◌, ◌≤◌, ◌++◌, length, map, option_map};
 ghost use Rattle.std.specs.List.{join_with_byte};

@@ -89,7 +89,7 @@ own_goes c t g (e ∷ rest) callers shape in_it quiet =
     ]
 
 -- A commit leaves a run unchanged.
-commits_so : (c p : ℕ) (o : Option Run) → is_some o ≡ true → is_some (option_and_then (λ r. act r (Committed c p)) o) ≡ true
+pub commits_so : (c p : ℕ) (o : Option Run) → is_some o ≡ true → is_some (option_and_then (λ r. act r (Committed c p)) o) ≡ true
 commits_so c p None some = some
 commits_so c p (Some r) some = refl
 

@@ -23,7 +23,7 @@ use Rattle.txn_trace.proofs.Steps.{are_listed}
 use Rattle.txn_trace.proofs.Now.{any-filter, going_open}
 
 -- A prefix of a history with one more entry is a prefix of the history, or all of it.
-prefix_push : {A : Type 0} (g h : List A) (e : A) → IsPrefix g (h ++ e ∷ []) → IsPrefix g h ⊎ (g ≡ h ++ e ∷ [])
+pub prefix_push : {A : Type 0} (g h : List A) (e : A) → IsPrefix g (h ++ e ∷ []) → IsPrefix g h ⊎ (g ≡ h ++ e ∷ [])
 prefix_push [] h e p = inl (h, refl)
 prefix_push (x ∷ []) [] e p = inr (cc (p.1))
 prefix_push (x ∷ y ∷ g) [] e p = absurd (cc (p.1))
@@ -34,7 +34,7 @@ prefix_push (x ∷ g) (y ∷ h) e p =
       | inr q ↦ inr (cc (same, q))
     ]
 
-last_same : {A : Type 0} (g h : List A) (x y : A) → g ++ x ∷ [] ≡ h ++ y ∷ [] → (g ≡ h) × (x ≡ y)
+pub last_same : {A : Type 0} (g h : List A) (x y : A) → g ++ x ∷ [] ≡ h ++ y ∷ [] → (g ≡ h) × (x ≡ y)
 last_same [] [] x y is = (refl, cc (is))
 last_same [] (z ∷ []) x y is = absurd (cc (is))
 last_same [] (z ∷ w ∷ h) x y is = absurd (cc (is))

@@ -73,11 +73,11 @@ is_quiet (Returned c n) = true
 is_quiet (Busy c op x) = true
 is_quiet _ = false
 
-quiet_reply : (r : Run) (e : Entry) → is_quiet e ≡ true → IsReply r e
+pub quiet_reply : (r : Run) (e : Entry) → is_quiet e ≡ true → IsReply r e
 quiet_reply r (Did c x) quiet = absurd (false≢true quiet)
 quiet_reply r _ quiet = tt
 
-quiet_last : (r r' : Run) (e : Entry) → is_quiet e ≡ true → act r e ≡ Some r' → r'.last ≡ r.last
+pub quiet_last : (r r' : Run) (e : Entry) → is_quiet e ≡ true → act r e ≡ Some r' → r'.last ≡ r.last
 quiet_last r r' (Asked c op) quiet goes = let same : record r { pending = Some op } ≡ r' = cc (goes) in ap (λ (q : Run). q.last) (sym same)
 quiet_last r r' (Saved c) quiet goes = let same : record r { notes = r.notes ++ number_of_maps r ∷ [] } ≡ r' = cc (goes) in ap (λ (q : Run). q.last) (sym same)
 quiet_last r r' (Leave c n) quiet goes = let same : r ≡ r' = cc (goes) in ap (λ (q : Run). q.last) (sym same)
@@ -105,7 +105,7 @@ quiet_goes (Returned c n) quiet = (refl, refl, refl)
 quiet_goes (Busy c op x) quiet = (refl, refl, refl)
 quiet_goes _ quiet = absurd (false≢true quiet)
 
-some_fits : (s : Seat) (o : Option Run) → FitsAfter (Some s) o → is_some o ≡ true
+pub some_fits : (s : Seat) (o : Option Run) → FitsAfter (Some s) o → is_some o ≡ true
 some_fits s None fits = absurd fits
 some_fits s (Some r) fits = refl
 

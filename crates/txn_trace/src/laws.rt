@@ -1,5 +1,6 @@
 //! The laws of histories: functions that do nothing, whose contracts are the laws. So a crate above
-//! can cite a law without naming a lemma of this crate.
+//! can cite a law without naming a lemma of `proofs/`. The one here holds for both rules of holders
+//! and any number of stripes: aborted transactions leave nothing behind.
 
 ghost use Rattle.std.specs.Prelude.{◌≡◌, ℕ, List};
 ghost use Rattle.txn_trace.specs.Erase.{erase};

@@ -1,5 +1,6 @@
-//! The actions of scripts. None of them begins or commits: a worker begins a transaction before the
-//! first action of a script and commits after the last.
+//! The actions of scripts. An action is a whole call, which may take many steps, so it is a type
+//! apart from `Step`. None begins or commits: a worker begins a transaction before the first action
+//! of a script and commits after the last.
 
 use crate::op::Op;
 

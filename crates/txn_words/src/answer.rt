@@ -1,5 +1,6 @@
-//! The answers to steps, and the text of an answer as a report prints it. A step and its answer
-//! together determine the history's entry of the step.
+//! The answers to steps, and the text of an answer as a report prints it. One type answers callers,
+//! helpers and the table, and only the step says who took it: so a step and its answer together
+//! determine the history's entry of the step, and neither does by itself.
 ghost use Rattle.std.specs.Prelude.{◌≡◌, ◌++◌, IfOk, string_bytes};
 ghost use Rattle.txn_words.specs.Text.{rest_text, text_of};
 

@@ -1,5 +1,6 @@
-//! The entries of a history, one for each line of a history file. The meaning of a list of them is
-//! in `specs/`.
+//! The entries of a history, which tell what happened to each transaction. They are apart from
+//! steps and answers, since many steps add none and a judge of a history sees only entries. Their
+//! meaning as a list is in `txn_trace`; long lists keep them packed, as `SmallEntry`.
 ghost use Rattle.std.specs.Prelude.{◌≡◌};
 ghost use Rattle.txn_words.specs.Kinds.{caller_of};
 

@@ -1,5 +1,6 @@
-//! The operations on one key. Each replies the value that the key had before. Here too is which of
-//! them may change the key, and how many entries one may still need to be taken back.
+//! The operations on one key; each replies the value that the key had before. Actions, steps and
+//! entries all carry one, so its rules are here: whether it may change the key, whether it did, and
+//! how many entries are owed for it. They need the operation and its reply, and no map.
 ghost use Rattle.std.specs.Prelude.{◌≡◌};
 ghost use Rattle.txn_words.specs.Map.{key_of};
 ghost use Rattle.txn_words.specs.Shape.{changes};

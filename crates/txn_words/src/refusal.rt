@@ -1,5 +1,6 @@
-//! The refusals of calls, each with a number and a sentence. The numbers are those of the files and
-//! of the statuses of the C library.
+//! The refusals of calls, each with a number and a sentence. One list serves all calls, so a number
+//! means the same in files, in reports and in the statuses of the C library. The numbers are 1 to
+//! 22, one for each refusal; numbers and sentences are constants, which take no memory.
 ghost use Rattle.std.specs.Prelude.{◌≡◌};
 ghost use Rattle.txn_words.specs.Refusals.{number_of, words_of};
 ghost use Rattle.txn_words.specs.Sentences.{sentence_of};

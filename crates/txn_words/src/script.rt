@@ -1,5 +1,6 @@
 //! Scripts, which are lists of actions, and the work of a set of workers: scripts, limits and the
-//! number of tries.
+//! number of tries. Readers of files make them and workers run them, without knowing each other.
+//! Actions are kept packed, 32 bytes each; nothing here bounds their number or the tries.
 ghost use Rattle.std.specs.Prelude.{◌≡◌, IfOk};
 
 use crate::action::Action;

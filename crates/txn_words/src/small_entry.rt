@@ -1,5 +1,6 @@
-//! An entry of a history in 32 bytes, half of an `Entry`, if its callers are below 65,536. Its model
-//! is the entry, so a contract reads a list of small entries as a history.
+//! An entry of a history in 32 bytes, half of an `Entry`, if its callers are below 65,536, as those
+//! of every map are. Its model is the entry, so a contract reads a list of small entries as a
+//! history; `Unpacked` goes through such a list. All calls take constant time and no memory.
 ghost use Rattle.std.specs.Prelude.{◌≡◌, ◌↔◌, true, IsTrue};
 ghost use Rattle.txn_words.specs.Kinds.{caller_of};
 ghost use Rattle.txn_words.specs.Packed.{holder_part, packed_entry, small_entry};

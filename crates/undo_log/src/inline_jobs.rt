@@ -1,5 +1,6 @@
-//! The store of a caller's jobs: a small vector whose first few places are in the value itself.
-//! Invariant: each place in use holds a job; `None` fills only unused inline places.
+//! The store of a transaction's jobs: a small vector whose first places are in the value itself, so
+//! that a few changes take no memory. The other store, a `Vec`, has no such places. Invariant: each
+//! place in use holds a job; `None` fills only unused inline places.
 use crate::job::UndoJob;
 use crate::store::JobStore;
 use smallvec::SmallVec;

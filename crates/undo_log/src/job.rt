@@ -1,5 +1,6 @@
 //! The trait of an inverse: what the world shows before and after the change, and the law that
-//! `run` keeps. The log uses nothing of a job but this law.
+//! `run` keeps. A log keeps jobs and runs none, so it names no world: for the map's jobs it is the
+//! table, for those of a side value the value itself. Nothing bounds the cost of a run.
 /// The inverse of one change, which is run at most once.
 ///
 /// Its law is the contract of `run`: on a world that shows what the job names as after the change,

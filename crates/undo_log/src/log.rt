@@ -1,5 +1,6 @@
-//! The log of a transaction: its jobs, oldest first, and how many of them each savepoint keeps. The
-//! same log serves both kinds of job store.
+//! The log of a transaction: its jobs, oldest first, and how many of them each savepoint keeps. It
+//! runs no job, and the same log serves both kinds of job store. Room for a job is reserved first,
+//! so to add it, to take it out and to drop savepoints takes no memory.
 ghost use Rattle.std.specs.Prelude.{◌≡◌, ◌+◌, ◌-◌, ◌<◌, ◌≤◌, ◌↔◌, [], ◌∷◌, ◌++◌, length, take, IsTrue, IsOk, IsSome, IfOk, OnOk, OnErr, option_to_list, option_copied};
 ghost use Rattle.undo_log.specs.UndoLog.{kept_at, newest_above};
 

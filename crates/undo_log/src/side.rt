@@ -1,5 +1,6 @@
 //! A value that belongs to the caller, beside a transaction, and the job that takes back one change
-//! of it. The library sees four words of the value, and those that each job names.
+//! of it. `SideJob` makes that job an `UndoJob`, so that one kind of log serves callers and the
+//! map. The library sees four words of the value, and those that each job names.
 use crate::job::UndoJob;
 
 /// A value that belongs to the caller, kept beside a transaction. Each of its changes can be taken

@@ -1,5 +1,6 @@
 //! The end of a call: the line of a fault on standard error, and the exit status. Both programs end
-//! here, whatever ran before. The status does not depend on whether standard error takes the line.
+//! here, whatever ran before, so a status means the same in both. The status does not depend on
+//! whether standard error takes the line.
 ghost use Rattle.std.specs.Prelude.{◌≡◌};
 ghost use Rattle.unthreaded_program.specs.Runs.{Tells, status_after};
 

@@ -1,16 +1,16 @@
 //! The program `boostmap` but for the engine of `run`: from the words of a call to its exit status.
 //!
 //! A program opens the file that the words name (`open`), runs the command on it (`run_command`),
-//! and ends with the line of a fault and a status (`end`). `boostmap_program` does so with an engine
-//! of `run` in threads. `run` here does so without one: it is the whole program `unthreaded`, in
-//! which the command `run` answers that no thread could be started.
+//! and ends with the line of a fault and a status (`end`). `boostmap_program` does so with an
+//! engine of `run` in threads. `run` here does so without one: it is the whole program
+//! `unthreaded`, in which the command `run` answers that no thread could be started.
 //!
 //! It is a separate crate, since none of it needs the proofs about threads: a program that only
 //! replays, mixes and judges is proved in two thirds of the time.
 //!
-//! Proved (`specs/Runs.antt`): the engine of the command that the words ask for ran on the file that
-//! they name; standard output has exactly what that engine wrote; standard error has the line of the
-//! fault, if there is one, and nothing else; and the status is that of the outcome.
+//! Proved (`specs/Runs.antt`): the engine of the command that the words ask for ran on the file
+//! that they name; standard output has exactly what that engine wrote; standard error has the line
+//! of the fault, if there is one, and nothing else; and the status is that of the outcome.
 #![tactic(auto)]
 
 mod ending;

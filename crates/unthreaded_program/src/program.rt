@@ -1,6 +1,6 @@
-//! The commands on an open file, and the whole call: words, file, engine, the line of a fault, exit
-//! status. It is generic over the system and both outputs, so that contracts and tests reach all of
-//! it.
+//! The commands on an open file, and the whole call of the program without threads: words, file,
+//! engine, the line of a fault, exit status. The system and both outputs are type parameters, so
+//! that contracts and tests reach all of it. `boostmap_program` runs all commands but `run` by it.
 ghost use Rattle.std.specs.Prelude.{◌≡◌};
 ghost use Rattle.unthreaded_program.specs.Runs.{Does, HasEnded, Runs, StartsNone, Tells};
 

@@ -276,11 +276,13 @@ fn makes_room(rt: &impl Abort, core: &mut Core) -> Result<(), Fail> {
     Ok(())
 }
 
-/// Room for no entry and for a thousand is made, and room for 2^64 - 1 is refused.
+/// Room for no entry and for a few thousand is made, written or not, and room for 2^64 - 1 is
+/// refused.
 fn has_room(rt: &impl Abort, core: &mut Core) {
-    assert!(rt; core.reserve(0).is_ok());
-    assert!(rt; core.reserve(1_000).is_ok());
-    assert!(rt; core.reserve(usize::MAX).is_err());
+    assert!(rt; core.reserve(0, true).is_ok());
+    assert!(rt; core.reserve(1_000, false).is_ok());
+    assert!(rt; core.reserve(2_000, true).is_ok());
+    assert!(rt; core.reserve(usize::MAX, true).is_err());
 }
 
 /// One put and the commit add three entries to that of the begin.

@@ -1,5 +1,6 @@
 //! Pairs of keys that share a split key, a key below 2^63 and the one with 2^63 more: two callers'
-//! steps in every order, each compared with a plain map that has its own undo.
+//! steps in every order, each compared with a plain map that has its own undo. Two lists of seven
+//! steps have 3,432 orders, too many for a table, so no answer here was worked out by hand.
 use super::plain_map::{PlainMap, Stage};
 use crate::devices::{core_with, limits_of, pairs_of, sizes_of, step_is, take_step};
 use boost_core::Core;

@@ -1,5 +1,6 @@
 //! The answers to the steps of two callers on a plain map that has stripes, and an undo for each
-//! caller.
+//! caller. It is apart from `pairs`, which compares, so that it uses nothing of the core. It has no
+//! cursors, so it never answers `Again`, and it refuses only by a caller's stage.
 use std::alloc::{AllocError, Global};
 use std::collections::BTreeMap;
 use txn_words::{Answer, Op, Refusal, Step};

@@ -1,5 +1,6 @@
 //! The state of a core after memory was refused: tests that are also run with each allocation
-//! refused in turn, and with all from one on.
+//! refused in turn, and with all from one on. The runs of `cores` fail if memory is refused; these
+//! go on. The numbers compared take no memory to read, and pairs are compared if there is some.
 use crate::devices::{
     abort, core_if_made, limits_of, owed_by, pairs_of, sizes_of, step_is, take_step, trace_of,
 };

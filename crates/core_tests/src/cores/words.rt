@@ -14,14 +14,14 @@ fn core_with_words(rt: &impl Abort, alloc: Global) -> Core {
     Core::with_words(alloc, limits_of(rt, 3, 8, 8)).expect(rt, "a core")
 }
 
-/// The same core, made with the memory for this many nodes.
-fn core_with_nodes(rt: &impl Abort, alloc: Global, nodes: usize) -> Core {
-    Core::with_capacity(alloc, limits_of(rt, 3, 8, 8), nodes).expect(rt, "a core")
+/// The same core, made with the memory for this many nodes, written or not.
+fn core_with_nodes(rt: &impl Abort, alloc: Global, nodes: usize, is_written: bool) -> Core {
+    Core::with_capacity(alloc, limits_of(rt, 3, 8, 8), nodes, is_written).expect(rt, "a core")
 }
 
 /// Whether the memory for more nodes than there can be is refused.
 fn refuses_nodes(rt: &impl Abort, alloc: Global) -> bool {
-    Core::with_capacity(alloc, limits_of(rt, 3, 8, 8), usize::MAX).is_err()
+    Core::with_capacity(alloc, limits_of(rt, 3, 8, 8), usize::MAX, true).is_err()
 }
 
 /// Whether stripes are words.
@@ -146,13 +146,14 @@ fn rights_and_words(rt: HostRuntime) -> Result<(), Fail> {
     play(&rt, alloc, &mut core_with_words(&rt, alloc))
 }
 
-/// A core that was made with the memory for fewer nodes than it needs, or for more, answers the
-/// same.
+/// A core that was made with the memory for fewer nodes than it needs, or for more, written or not,
+/// answers the same.
 #[test]
 fn room_for_nodes(rt: HostRuntime) -> Result<(), Fail> {
     let alloc = rt.alloc();
-    play(&rt, alloc, &mut core_with_nodes(&rt, alloc, 1))?;
-    play(&rt, alloc, &mut core_with_nodes(&rt, alloc, 1_000))?;
+    play(&rt, alloc, &mut core_with_nodes(&rt, alloc, 1, false))?;
+    play(&rt, alloc, &mut core_with_nodes(&rt, alloc, 1, true))?;
+    play(&rt, alloc, &mut core_with_nodes(&rt, alloc, 1_000, true))?;
     assert!(rt; refuses_nodes(&rt, alloc));
     Ok(())
 }

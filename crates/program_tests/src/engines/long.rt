@@ -1,6 +1,6 @@
 //! Histories whose text is longer than one piece, as `mix` writes it. The expected text is made by
-//! the rule: one script puts 1 at key 0, gets four keys that have no value, and then puts 1 at key 0
-//! again and again, so that each put but the first answers 1.
+//! the rule: one script puts 1 at key 0, gets four keys that have no value, and then puts 1 at key
+//! 0 again and again, so that each put but the first answers 1.
 
 use boostmap_engine::{Fault, mix};
 use std::alloc::{AllocError, Global};

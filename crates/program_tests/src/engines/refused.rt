@@ -1,5 +1,6 @@
 //! Callers whose changes are taken back in turn, if memory is refused: the state of the core, and
-//! the verdict of the checker on its history.
+//! the verdict of the checker on its history. It calls the core and not an engine, since an engine
+//! does not show the state between its steps. The state must be what the entries so far say.
 
 use boost_core::Core;
 use history_check::{Verdict, check};

@@ -1,5 +1,6 @@
 //! History files: their content, the text that is written for it, and the first fault of each that
-//! is refused.
+//! is refused. Of the three kinds only these are written too, so one table serves both directions.
+//! The files and their entries were made by hand.
 
 use super::{Files, Kind};
 use std::alloc::Global;

@@ -1,6 +1,6 @@
 //! Step files: the content of good ones and the first fault of bad ones, in tables made by hand.
 //! The contract of `read_steps` says that it answers `file_of` of the bytes, unless memory is
-//! refused. The tables test that this definition is what `docs/FORMATS.md` describes.
+//! refused; the tables test that `file_of` is what `docs/FORMATS.md` describes.
 
 use super::{Files, Kind};
 use std::alloc::Global;

@@ -1,5 +1,6 @@
 //! Buckets with their list, as one value. Its invariant is what the calls of `Buckets` require of
-//! the two, so a test that makes calls by `Home` has nothing to prove about them. No test is here.
+//! the two, so a test that makes calls by `Home` has nothing to prove about them. A contract sees
+//! nothing of a `Home`: only the tables of the tests say what its calls answer.
 ghost use Rattle.std.specs.Prelude.{◌≡◌};
 ghost use Rattle.bucket_table.specs.Home.{IsHome};
 ghost use Rattle.bucket_table.specs.Dummies.{IsKeyed};

@@ -1,5 +1,6 @@
 //! The state of a table after memory was refused: tests that are also run with each allocation
-//! refused in turn.
+//! refused in turn. A call that is refused is followed by a look at the whole table, unlike in
+//! `runs`. An operation that was prepared before keeps its spare, and a helper its cursor.
 use super::{do_at_once, figures, finish, has_pairs, small_table};
 use map_ops::{InitLink, InitSeek, Table};
 use std::alloc::{AllocError, Global};

@@ -1,5 +1,6 @@
 //! The contents of the lock of a new map, and the core of a map that is closed: no contract sees
-//! through the lock.
+//! through the lock. The calls of a map are tested elsewhere; here the core itself takes steps, to
+//! show its buckets, its helpers and what is left to sweep. All steps are on one thread.
 use super::rows::{Row, play_rows};
 use crate::devices::{Play, Shared, Told, callers_in, closed_of, play_with};
 use boost_core::{Call, Core};

@@ -1,6 +1,6 @@
 //! A side value that is rolled back with its caller's transaction. The functions take any side
-//! value that can be made of words; the test gives them a `Register`. No contract says that a call
-//! is given memory while there is some. The words were worked out by hand.
+//! value that can be made of words; the test gives them a `Register`. Each call must be given
+//! memory, which no contract says. The words were worked out by hand.
 ghost use Rattle.std.specs.Prelude.{◌≡◌, [], ◌∷◌, IfSome};
 
 use super::register::{OfWords, Register, RegisterJob};

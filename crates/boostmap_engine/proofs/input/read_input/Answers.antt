@@ -1,6 +1,6 @@
 use Rattle.std.proofs.Common.{◌-◌, ◌≤◌, arith, length}
 use Rattle.std.proofs.lemmas.List.{length-take}
-use Rattle.boostmap_engine.specs.Written.{max_read}
+use Rattle.txn_files.specs.Reading.{max_read}
 use Rattle.boostmap_engine.proofs.Known.{Consumes-nothing, read_to_end, read_most, read_more, read_within, still_whole}
 use Rattle.boostmap_engine.proofs.input.read_input.Goals as goal
 

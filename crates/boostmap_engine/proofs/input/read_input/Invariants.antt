@@ -1,6 +1,6 @@
 use Rattle.std.proofs.Common.{length, ◌-◌, ◌≤◌}
 use Rattle.std.specs.Io.KnownBytes.{Consumes}
-use Rattle.boostmap_engine.specs.Written.{max_read}
+use Rattle.txn_files.specs.Reading.{max_read}
 use Rattle.boostmap_engine.proofs.input.read_input.Given as goal
 
 abbrev pub invariant-loop-chunk : goal.invariant-loop-chunk

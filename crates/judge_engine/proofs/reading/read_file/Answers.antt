@@ -1,4 +1,4 @@
-use Rattle.judge_engine.specs.Files.{max_read}
+use Rattle.txn_files.specs.Reading.{max_read}
 use Rattle.judge_engine.proofs.Known.{first_of}
 use Rattle.judge_engine.proofs.reading.read_file.Goals as goal
 

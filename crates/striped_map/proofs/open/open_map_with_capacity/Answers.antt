@@ -16,11 +16,11 @@ pushed_new [] x d = refl
 pushed_new (y ∷ xs) x d = pushed_new xs x d
 
 pub loop-place-preserved : goal.loop-place-preserved
-loop-place-preserved c = let inv = c.loop-place.invariant in let map = c.in-Ok-new.map.value in let place = c.loop-place.place in let me = c.new-in-loop-place.result in let all = c.loop-place.all.items in
+loop-place-preserved c = let inv = c.loop-place.invariant in let map = c.in-Ok.map.value in let place = c.loop-place.place in let me = c.new-in-loop-place.result in let all = c.loop-place.all.items in
     let map_is = c.new-in-loop-place.ensures.map ∙ c.in-Ok-try_clone.ensures in
     let new : IsNew map c.args.stripes (place + 1) me = record {
       map_is = map_is;
-      stripes_are = ap stripes_of map_is ∙ ap stripes_of c.in-Ok-new.ensures.ok ∙ c.in-Ok.ensures.stripes;
+      stripes_are = ap stripes_of map_is ∙ ap stripes_of c.in-Ok.ensures.ok ∙ c.in_ok-map.ensures.stripes;
       numbered = ap (λ z. (known z).number) c.new-in-loop-place.ensures.seat ∙ c.seat-seat.ensures.seat.number_is;
       closed = c.new-in-loop-place.ensures.closed;
       unseen = ap (λ z. (known z).seen) c.new-in-loop-place.ensures.seat ∙ c.seat-seat.ensures.seat.seen;

@@ -4,8 +4,7 @@ use Rattle.txn_drive.specs.declared.drive.Drive.{Drive}
 use Rattle.txn_drive.specs.Drives.{new_drive, sized_of, step_of, told_of, end_of}
 use Rattle.boost_core.specs.State.{State}
 use Rattle.boost_core.specs.Plain.{Drives, Helps, outcome_of}
-use Rattle.boost_core.proofs.Driving.{Fits, left, fits_first}
-use Rattle.boost_core.proofs.Helped.{round, help_asks_nothing, limits_stay, within_there, most_there, ended}
+use Rattle.boost_core.proofs.Driving.{Fits, left, fits_first, round, help_asks_nothing, limits_stay, within_there, most_there, ended}
 use Rattle.boost_core.proofs.machine.Core.help.Goals as goal
 
 pub loop-step-init : goal.loop-step-init
@@ -24,7 +23,7 @@ pub step-answer-requires : goal.step-answer-requires
 step-answer-requires c = λ words.
     let so_far = c.loop-step.invariant in
     let step_is : step_of (sized_of c.loop-step.self.size c.loop-step.drive) ≡ Some c.in-Some.step = ap step_of (sym c.next_step.ensures.drive) ∙ sym c.next_step.ensures.step ∙ c.in-Some.is in
-    help_asks_nothing c.loop-step.self c.args.caller c.args.key c.loop-step.drive c.in-Some.step so_far.caller so_far.call so_far.fits step_is
+    help_asks_nothing c.args.key c.loop-step.self.size c.loop-step.drive c.in-Some.step so_far.call step_is
 
 pub loop-step-smaller : goal.loop-step-smaller
 loop-step-smaller c =

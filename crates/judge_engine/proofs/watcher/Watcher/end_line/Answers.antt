@@ -2,8 +2,9 @@ use Rattle.std.proofs.Common.{◌≡◌, ◌+◌, [], ◌∷◌, ◌++◌, ◌�
 use Rattle.std.specs.Prelude.{is_some}
 use Rattle.judge_engine.specs.LineReads.{those}
 use Rattle.judge_engine.proofs.LineLemmas.{stands_read, stands_wrong}
-use Rattle.judge_engine.proofs.Taking.{none_yet, line_done, next_is}
+use Rattle.judge_engine.proofs.Taking.{none_yet, line_done}
 use Rattle.judge_engine.proofs.watcher.Watcher.end_line.Goals as goal
+use Rattle.history_check.proofs.FirstBad.{next_is}
 
 pub returns-in-Some-clause-line : goal.returns-in-Some-clause-line
 returns-in-Some-clause-line c = λ basis bytes t.

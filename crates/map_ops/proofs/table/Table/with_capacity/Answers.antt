@@ -2,8 +2,8 @@ use Rattle.std.proofs.Common.{arith}
 use Rattle.map_ops.proofs.NewLemmas.{first_belongs, is_new}
 use Rattle.map_ops.proofs.table.Table.with_capacity.Goals as goal
 
-pub new-requires-clause-power : goal.new-requires-clause-power
-new-requires-clause-power c = record { exponent = c.requires.power.0; is = c.requires.power.1 }
+pub with_capacity-requires-2-clause-power : goal.with_capacity-requires-2-clause-power
+with_capacity-requires-2-clause-power c = record { exponent = c.requires.power.0; is = c.requires.power.1 }
 
 pub invariant_of-result : goal.invariant_of-result
 invariant_of-result c = record { sound = c.in_ok-list.ensures.sound; home = c.in_ok-buckets.ensures.home; belong = first_belongs c.in_ok-list.list _ c.in_ok-list.ensures.nodes }

@@ -3,7 +3,7 @@ use Rattle.bucket_table.specs.Directory.{Directory}
 use Rattle.bucket_table.specs.Home.{IsHome}
 use Rattle.bucket_table.proofs.HomeLemmas.{home_beginning, first_dummy_at}
 use Rattle.bucket_table.proofs.DirectoryLemmas.{sound_beginning}
-use Rattle.bucket_table.proofs.buckets.Buckets.new.Goals as goal
+use Rattle.bucket_table.proofs.buckets.Buckets.with_capacity.Goals as goal
 
 pub invariant_of-result : goal.invariant_of-result
 invariant_of-result c = rw (c.in_ok-new.ensures, c.in_ok-vec_of.ensures) (sound_beginning c.args.max c.args.helpers _ c.requires.power c.requires.least c.ranges.max.fits)

@@ -1,0 +1,38 @@
+-- The phases of a call for help that suit the core, whoever else takes steps on it.
+use Rattle.std.specs.Prelude.{◌≡◌, ◌<◌, ℕ, true}
+use Rattle.split_key.specs.Split.{parent_of, IsAncestor}
+use Rattle.txn_words.specs.declared.refusal.Refusal.{Refusal}
+use Rattle.txn_words.specs.declared.refusal.Refusal.TheVariants.{NoMemory, StampsUsedUp}
+use Rattle.txn_drive.specs.declared.phase.Phase.{Phase}
+use Rattle.txn_drive.specs.declared.phase.Phase.TheVariants.{Doubling, Initialising, Linking}
+use Rattle.txn_drive.specs.declared.phase.Phase.TheVariants.{Storing, Helped, Refused}
+use Rattle.txn_drive.specs.declared.way.Way.{Way}
+use Rattle.boost_core.specs.State.{State, help_in, is_set, bucket_at}
+use Rattle.boost_core.specs.Refusals.{has_cursor, has_dummy}
+
+-- The bucket on the way may be initialised.
+pub record IsOnWay (m : State) (way : Way) : Type 0 where
+  pub ancestor : IsAncestor way.bucket way.target
+  pub target : way.target < m.size
+  pub bucket : way.bucket < m.size
+  pub parent : is_set m.stored (parent_of way.bucket) ≡ true
+
+-- The refusals with which a call for help may end after its first step.
+abbrev pub MayEndHelp : Refusal → Type 0
+MayEndHelp NoMemory = Unit {0}
+MayEndHelp StampsUsedUp = Unit {0}
+MayEndHelp refusal = ⊥
+
+-- The buckets and the helper of this number are as its call for help was told last.
+abbrev pub HelpSuits : State → ℕ → Phase → Type 0
+HelpSuits m c (Doubling seen) = Unit {0}
+HelpSuits m c (Initialising way again) = IsOnWay m way
+HelpSuits m c (Linking way again) =
+    IsOnWay m way × (has_cursor (help_in m.helpers c) ≡ true)
+    × (bucket_at (help_in m.helpers c) ≡ way.bucket)
+HelpSuits m c (Storing way) =
+    IsOnWay m way × (has_dummy (help_in m.helpers c) ≡ true)
+    × (bucket_at (help_in m.helpers c) ≡ way.bucket)
+HelpSuits m c Helped = Unit {0}
+HelpSuits m c (Refused refusal) = MayEndHelp refusal
+HelpSuits m c phase = ⊥
