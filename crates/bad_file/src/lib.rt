@@ -9,9 +9,9 @@
 //! some entry begins with the elements before it, and none with it too; allowed there are exactly
 //! the elements with which some entry goes on.
 //!
-//! Proved: `flaw_in` finds no flaw exactly in a file that `read_history` takes, and else a flaw that
-//! is the cause of the refusal. It keeps the whole value that the file is, which takes much more
-//! memory than `read_history`; it is called only for files that are refused.
+//! Proved: `flaw_in` finds no flaw exactly in a file that `read_history` takes, and else a flaw
+//! that is the cause of the refusal. It keeps the whole value that the file is, which takes much
+//! more memory than `read_history`; it is called only for files that are refused.
 #![tactic(auto)]
 
 mod elements;
