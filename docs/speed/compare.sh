@@ -9,11 +9,11 @@ build_proved bench nodes 1000
 build_twin twin
 
 for _ in $(seq "$rounds"); do
-  for program in proved plain; do
+  for program in $(shuffled proved plain); do
     words=("$keys")
-    [ $program = proved ] && words=(nodes "$keys")
+    [ "$program" = proved ] && words=(nodes "$keys")
     "$work/$program" "${words[@]}" 2>&1 |
-      awk -v program=$program '{ print NR, $2, program, $5, $7, $11 }' >>"$work/times"
+      awk -v program="$program" '{ print NR, $2, program, $5, $7, $11 }' >>"$work/times"
   done
 done
 

@@ -23,8 +23,8 @@ run_core() {
 
 for _ in $(seq "$rounds"); do
   for place in "${!names[@]}"; do
-    for program in proved plain; do
-      run_core $program "$work/${names[$place]}.json" |
+    for program in $(shuffled proved plain); do
+      run_core "$program" "$work/${names[$place]}.json" |
         awk -v row="$place ${names[$place]} $program" -v work="$work" '
           { print row, $5, $7, $11 >> (work "/" $2 ".times") }'
     done

@@ -9,9 +9,9 @@ build_twin maps_twin
 
 for _ in $(seq "$rounds"); do
   for keys in 1000 10000 100000 1000000; do
-    for program in proved plain; do
+    for program in $(shuffled proved plain); do
       words=("$keys")
-      [ $program = proved ] && words=(maps "$keys")
+      [ "$program" = proved ] && words=(maps "$keys")
       "$work/$program" "${words[@]}" 2>&1 |
         awk -v keys=$keys '{ print keys, $2, $1, $7, $11 }' >>"$work/$program.times"
     done

@@ -4,7 +4,7 @@
 # ratio of small to large in processor time: 1 is as fast. Then the same of the striped map that grows and of one that was opened with
 # room for all keys (roomy): only the puts, and the whole from before the map is opened to the last put. Last, the map that was used
 # before beside one that grows into memory that another map has used and given back (again): malloc returns none of it to the system.
-# All run alternately.
+# All run in turn, in random order in each round.
 # Usage: docs/speed/rising.sh [PUTS [ROUNDS]]
 source "$(dirname "${BASH_SOURCE[0]}")/common.sh"
 puts=${1:-100000}
@@ -17,16 +17,14 @@ run_one() {
   "$work/rising" "$1" "$2" "$puts" ${3:+"$3"} | sed "s/[:,]//g; s/$/ ${3:-puts}/"
 }
 
+turns=({owned,threads,striped}:{small,large} striped:{roomy,again} striped:{small,roomy}:whole)
 for _ in $(seq "$rounds"); do
-  for map in owned threads striped; do
-    for table in small large; do
-      run_one $map $table
-    done
+  for turn in $(shuffled "${turns[@]}"); do
+    if [ "$turn" = striped:again ]; then export MALLOC_TRIM_THRESHOLD_=1000000000; else unset MALLOC_TRIM_THRESHOLD_; fi
+    # A turn is a map, a table, and maybe `whole`.
+    # shellcheck disable=SC2086
+    run_one ${turn//:/ }
   done
-  run_one striped roomy
-  MALLOC_TRIM_THRESHOLD_=1000000000 run_one striped again
-  run_one striped small whole
-  run_one striped roomy whole
 done >"$work/runs"
 
 # The median of a column of the runs of a map and a table, of the puts or of the whole.

@@ -48,12 +48,14 @@ for keys in 1000 100000; do
     write_run_file "$workers" "$keys"
     rm -f "$work"/seconds.*
     for _ in $(seq "$rounds"); do
-      run_once proved run
-      run_once plain run
-      run_once plain run_kept
-      time_once shared shared 1
-      time_once plain time_run
-      time_once plain time_run_kept
+      for turn in $(shuffled proved:run plain:run plain:run_kept); do
+        run_once "${turn%:*}" "${turn#*:}"
+      done
+      for turn in $(shuffled shared:shared:1 plain:time_run plain:time_run_kept); do
+        # A turn is a program and its words.
+        # shellcheck disable=SC2086
+        time_once ${turn//:/ }
+      done
     done
     if [ "$workers" = 1 ]; then
       cmp "$work/proved.run" "$work/plain.run"

@@ -25,8 +25,8 @@ run_one() {
 for keys in 1000 100000; do
   for threads in 1 2 4; do
     for _ in $(seq "$rounds"); do
-      for name in striped mutexes numbered one; do
-        run_one $name $threads $keys
+      for name in $(shuffled striped mutexes numbered one); do
+        run_one "$name" $threads $keys
       done
     done
   done

@@ -47,7 +47,7 @@ for puts in 1 4 8 9 12; do
   write_transactions $puts
   rm -f "$work/times"
   for _ in $(seq "$rounds"); do
-    for program in "${programs[@]}"; do
+    for program in $(shuffled "${programs[@]}"); do
       run_core "$program" | awk -v program="$program" '{ print program, $5 * 1e6 / $3, $11 }' >>"$work/times"
     done
   done

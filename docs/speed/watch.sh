@@ -66,8 +66,8 @@ row() {
   local program middle=$(((rounds + 1) / 2))
   rm -f "$work"/*.costs
   for _ in $(seq "$rounds"); do
-    for program in proved plain; do
-      costs $program "$work/long" "$@" >>"$work/$program.costs"
+    for program in $(shuffled proved plain); do
+      costs "$program" "$work/long" "$@" >>"$work/$program.costs"
     done
     compare
   done

@@ -37,7 +37,7 @@ for size in ${SIZES:-1000 10000 100000 0}; do
     file=$work/${command%_*}.json
     rm -f "$work"/*.costs
     for _ in $(seq "$rounds"); do
-      for program in "${programs[@]}"; do
+      for program in $(shuffled "${programs[@]}"); do
         words=("${command%_*}")
         [ "$program" != plain ] || words=("$command")
         [ $command != mix ] || words+=(--seed 7)
