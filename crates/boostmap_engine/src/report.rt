@@ -84,6 +84,8 @@ fn text_of_run(alloc: Global, limits: Limits, steps: Vec<PackedStep>) -> Result<
     let Ok(mut core) = Core::new(alloc, limits) else {
         return Err(AllocError);
     };
+    // If room for an entry of each step is refused, the history grows as they are added.
+    let _room = core.reserve(steps.len(), false);
     let mut text = String::with_capacity(alloc, steps.len().saturating_mul(ANSWER))?;
     put_answers(&mut text, &mut core, steps)?;
     put_last(&mut text, alloc, &core)?;
