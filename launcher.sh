@@ -11,17 +11,18 @@
 # says whether a call is one that `part` does not answer, and `usage`, which prints the usage.
 #
 # If the program is not built yet, or one of its sources is newer, its crates are proved and it is built
-# first. A call that `part` answers waits only for that one. What `part` stands on is then kept beside it,
-# until the whole program is built; otherwise nothing is kept but the program. If `rt run` has built the
-# program before, as it is told to people who change sources, then `rt run` builds it again, over what it
+# first. A call that `part` answers waits only for `part`, whose libraries are then kept beside it until
+# the whole program is built. Otherwise nothing is kept but the program. If `rt run` has built the program
+# before, as CONTRIBUTING.md tells people who change sources, then `rt run` builds it again, over what it
 # has kept. Standard error shows the progress. If the build fails, the status is 125, which no other call
 # returns. RT names a command to run instead of rt.
 #
-# A crate is proved as soon as those below it are, by the prover that `rt` calls: the crate for which the
-# most others wait by most of the processors, and beside it others that are ready by one process each.
-# All have the same priority. With a lower one the others would take only what the first leaves, and at
-# the end the last crates would wait for them. `rt ci` would prove the same with the same words, but gives
-# the last crates, each of which waits for the one before, one process.
+# A crate is proved as soon as those below it are, by the prover that `rt` calls. Of the crates that are
+# ready, the one that begins the longest chain of waiting crates gets all processors but one, and others
+# run beside it with one process each. All have the same priority. With a lower one the others would take
+# only what the first leaves, and at the end the last crates would wait for them. `rt ci` would call the
+# prover with the same arguments, but gives one process to each of the last crates, each of which waits
+# for the one before.
 # shellcheck shell=bash disable=SC2154
 
 whole=$program
@@ -168,8 +169,8 @@ is_ready() {
     done
 }
 
-# Begins the crates that are ready, as many as may run. The first of the order gets all processors but
-# one, or all of them if no other crate can run beside it. Each other gets one process.
+# Begins to prove the crates that are ready, as many as may run. The first of the order gets all
+# processors but one, or all of them if no other crate can run beside it. Each other gets one process.
 begin_ready() {
     local name jobs beside first=''
     local -i ready=0
@@ -195,7 +196,8 @@ begin_ready() {
     done
 }
 
-# Waits for a crate that runs, and says on standard error how many of them are proved, or why it is not.
+# Waits for a crate that is being proved, and says on standard error how many crates are proved, or why
+# this one is not.
 await_one() {
     local process status=0 name
     wait -n -p process "${!running[@]}" || status=$?

@@ -8,9 +8,9 @@
     docs/judge/sqlite.py --bug cut                            a COMMIT in the middle of a transaction
     docs/judge/sqlite.py --seed 3 --transactions 2000
 
-The database decides the order of the commits: each transaction raises a counter before it commits, and
-the counter's value is its place. A transaction is written down as a whole, once those at all places
-before it are: only the order of commits matters to this judge, not how entries interleave.
+The database decides the order of the commits: each transaction raises a counter before it commits,
+and the counter's value is its place. A transaction is written down as a whole, once those at all
+earlier places are: only the order of commits matters to this judge, not how entries interleave.
 """
 import argparse
 import json
@@ -31,12 +31,12 @@ class Recorder:
     def __init__(self, write):
         self.write, self.guard = write, threading.Lock()
         self.begun, self.next_place = 0, 1
-        # The transactions whose turn has not come, by their places; of each caller those that
-        # aborted since its last commit.
+        # The committed transactions that are not written yet, by their places; and for each caller
+        # the transactions that aborted since its last commit.
         self.waiting, self.aborted = {}, {}
 
     def transaction(self, caller, entries):
-        """Writes a transaction down: the number of its begin is drawn here."""
+        """Writes a transaction down, and gives it the next number."""
         self.begun += 1
         self.write(["began", caller, self.begun])
         for entry in entries:
@@ -49,7 +49,7 @@ class Recorder:
             self.aborted.setdefault(caller, []).append(entries + undoing)
 
     def commit(self, caller, entries, place):
-        """Notes a transaction that committed at a place, after those of this caller that aborted."""
+        """Notes a transaction that committed at a place. The caller's aborted ones precede it."""
         with self.guard:
             last = entries + [["committed", caller, place]]
             self.waiting[place] = caller, self.aborted.pop(caller, []) + [last]
@@ -60,7 +60,7 @@ class Recorder:
                     self.transaction(of, each)
 
     def end(self):
-        """Writes down what aborted after the last commit of its caller."""
+        """Writes down the transactions that aborted after their caller's last commit."""
         for caller, found in self.aborted.items():
             for each in found:
                 self.transaction(caller, each)
@@ -97,7 +97,7 @@ class Transaction:
 
 
 def run(caller, connect, recorder, count, bug, seed):
-    """The transactions of a caller, of which one in five gives up by itself."""
+    """Runs the transactions of a caller. One in five gives up by itself."""
     draw = random.Random(f"{seed} {caller}")
     database = connect()
     for number in range(count):
@@ -117,7 +117,8 @@ def run(caller, connect, recorder, count, bug, seed):
                 raise sqlite3.OperationalError
             place = transaction.commit()
         except sqlite3.OperationalError:
-            # It is busy, or locked, or read what is not the newest any more, or gives up.
+            # The database is busy or locked, or the transaction read an old snapshot, or it gives
+            # up.
             if database.in_transaction:
                 database.execute("ROLLBACK")
             if transaction:

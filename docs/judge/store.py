@@ -6,8 +6,8 @@
     docs/judge/store.py --bugs          lists the bugs that can be planted
 
 Threads run random transactions on a dictionary with a lock for each key modulo STRIPES. A
-transaction that finds a lock held gives up. Every entry is noted under one guard, at the moment when
-its event happens: that is all that recording needs.
+transaction that finds a lock held gives up. Every entry is noted under one guard, at the moment
+when its event happens: that is all that recording needs.
 """
 import argparse
 import json
@@ -78,8 +78,8 @@ class Transaction:
 
     def __init__(self, store, caller):
         self.store, self.caller = store, caller
-        # The inverse of each change, a key and the value that it had, and how many there were at
-        # each savepoint.
+        # The inverse of each change (a key and the value that it had), and the number of inverses
+        # at each savepoint.
         self.inverses, self.savepoints, self.stripes = [], [], set()
         with store.guard:
             if not store.is_due("same_number_twice", 0.1):
@@ -149,7 +149,7 @@ class Transaction:
         with store.guard:
             store.note("leave", self.caller, level)
             to = level - 1 if store.bug == "savepoint_below" and level else level
-            # Without its savepoint, a level is the begin.
+            # A level that has no savepoint is taken as the begin.
             self.undo(self.savepoints[to - 1] if 0 < to <= len(self.savepoints) else 0)
             del self.savepoints[level - (store.bug == "savepoint_dropped" and level > 0):]
             if store.bug == "release_at_return":
@@ -188,7 +188,7 @@ class Transaction:
         self.release(list(self.stripes))
 
     def undo(self, kept):
-        """Runs the inverses above the first `kept`, newest first, and notes one "undone" for each."""
+        """Runs the inverses above the first `kept`, newest first; notes "undone" for each."""
         store = self.store
         above = self.inverses[kept:]
         del self.inverses[kept:]

@@ -1,8 +1,9 @@
 #!/usr/bin/env bash
-# Lays out a new repository in the folder NAME, with one caller of the map of threads: the folders that it needs, their
-# lines of crates.txt, HANDLES, and a crate that counts in a map from two threads. docs/LIBRARY.md describes it. `rt check`
-# in NAME/crates/counter proves it, in some 14 processor minutes the first time, less than two of them for the crate itself, which has
-# no proof file.
+# Lays out a new repository in the folder NAME, with one caller of the map for threads: the folders
+# that it needs, their lines of crates.txt, HANDLES, and the crate `counter`, in which two threads
+# count in one map. docs/LIBRARY.md describes it. `rt check` in NAME/crates/counter proves it. The
+# first time this takes some 14 processor minutes, less than two of them for `counter` itself, which
+# has no proof file.
 # Usage: docs/library/new.sh NAME
 set -eu
 [ $# = 1 ] || { echo "usage: docs/library/new.sh NAME" >&2; exit 2; }
@@ -22,8 +23,8 @@ for crate in $below; do
   done
   grep "^$crate\b" "$here/crates.txt" >>"$there/crates.txt"
 done
-# may_wait is the number of the crate's functions that may wait: the last line of its check prints it, and `rt verdict`
-# compares it.
+# may_wait is the number of the crate's functions that may wait: the last line of its check prints
+# it, and `rt verdict` compares it.
 echo "counter may_wait=4: txn_trace boost_core locked_map shared_transactions anyhow" >>"$there/crates.txt"
 echo "Handles allowed: Threads, Wait." >"$there/HANDLES"
 printf 'out/\n' >"$there/.gitignore"

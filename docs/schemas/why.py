@@ -3,10 +3,10 @@
 
     docs/schemas/why.py FILE
 
-For a history file use `judge why FILE`. The schema is chosen by the file's members: steps or scripts.
-It needs python3 with jsonschema, of version 4 or later. It prints nothing for a file that keeps to its
-schema. It does not notice a number written as 1.0, which a schema accepts as 1, nor a file that is too
-long.
+For a history file use `judge why FILE`. The schema is chosen by the file's members: steps or
+scripts. It needs python3 with jsonschema, of version 4 or later. It prints nothing for a file that
+keeps to its schema. It does not notice a number written as 1.0, which a schema accepts as 1, nor a
+file that is too long.
 """
 import json
 import pathlib

@@ -1,7 +1,7 @@
 #!/usr/bin/env bash
-# Measures the figures of ../SPEED.md again, except those of striped_memory.sh, bounds.sh and c.sh: runs the other scripts of this
-# folder one after the other, each with the rounds below, and prints a heading and the output of each. That takes some two hours once all is proved; nothing else should
-# run meanwhile. To run only some of them: docs/speed/all.sh whole run
+# Measures the figures of ../SPEED.md again, except those of striped_memory.sh, bounds.sh and c.sh. It runs the scripts that are listed
+# below one after the other, each with the rounds given there, and prints a heading and the output of each. That takes some two hours
+# once all is proved; nothing else should run meanwhile. To run only some of them: docs/speed/all.sh whole run
 # Usage: docs/speed/all.sh [SCRIPT..]
 set -euo pipefail
 cd "$(dirname "${BASH_SOURCE[0]}")/../.."

@@ -6,8 +6,8 @@
 //   crossing, refusal  calls that do next to nothing: of boostmap_count, and of a begin that is refused
 // A transaction is four operations, half of them puts, a quarter takes and a quarter gets, and every
 // tenth aborts; one that finds a stripe held aborts and is run again. Each thread has its own keys,
-// so that replies do not depend on the turns, and share stripes. It prints nanoseconds of processor
-// time a transaction or call, and the sum of all replies.
+// so that replies do not depend on the turns; the threads share stripes. It prints nanoseconds of
+// processor time a transaction or call, and the sum of all replies.
 #include "boostmap.h"
 
 #include <atomic>

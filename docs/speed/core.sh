@@ -10,7 +10,7 @@ build_proved bench core 1000
 build_twin core_twin
 
 write_step_files <docs/speed/core_files.txt
-# The C library gives no memory back to the system, and takes none apart for what is large.
+# The C library gives no memory back to the system, and maps no large allocation separately.
 export MALLOC_MMAP_MAX_=0 MALLOC_TRIM_THRESHOLD_=4294967296
 
 run_core() {

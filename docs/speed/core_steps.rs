@@ -33,7 +33,7 @@ const MAX_BYTES: usize = 16_777_216;
 
 // ---- chance ----
 
-/// Numbers by chance (xorshift64*).
+/// Random numbers (xorshift64*).
 struct Chance(u64);
 
 impl Chance {

@@ -45,7 +45,7 @@ exec awk -v kind="$1" -v entries="$2" '
   }
   function change(c, key, value) { asked(c, "put", key, value); did(c) }
 
-  # With a different key for each change, a file has no room for more entries than these with all taken back.
+  # If each change has a different key and all are taken back, a file has no room for more entries than these.
   function one_undone(many,    i, changes) {
     if (many > 10000 && entries > 885000) entries = 885000
     changes = int(entries / 3) - 1

@@ -7,7 +7,7 @@ build_proved bench core 1000
 build_twin core_twin
 write_step_files <docs/speed/core_files.txt
 
-# The instructions of the function named first, with those that it calls, but without those of the others that are named.
+# The instructions of the function that is named first and of those that it calls, without those of the other functions named.
 count() {
   local words=("${@:3}")
   valgrind --tool=callgrind --callgrind-out-file="$work/counts" "${words[@]}" >/dev/null 2>&1

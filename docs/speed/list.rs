@@ -1,5 +1,5 @@
 //! The list of nodes, which lie in one vector, 32 bytes each, and the steps at cursors. Places that are given back are kept in a
-//! list of their own.
+//! separate list.
 use crate::split::SortKey;
 use crate::tally::Tally;
 

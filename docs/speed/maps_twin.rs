@@ -73,7 +73,7 @@ impl AnyMap for HashMap<u64, u64> {
     }
 }
 
-/// A half of the operations looks a key up, a quarter puts one and a quarter takes one.
+/// Half of the operations look up a key, a quarter put one and a quarter take one.
 fn mixed_op(position: u64, keys: u64) -> Op {
     let drawn = key_at(position + (1 << 40));
     let key = key_at((drawn >> 8) % (2 * keys));

@@ -1,5 +1,5 @@
-//! What the part `words` of crates/bench times, with a mutex a stripe of plain Rust: each of so many threads locks a stripe that
-//! nobody has, and unlocks it, over and over.
+//! What the part `words` of crates/bench times, with a mutex a stripe in plain Rust: each thread locks a stripe that no other has,
+//! and unlocks it, over and over.
 
 use std::sync::Mutex;
 use std::thread;

@@ -4,9 +4,9 @@
     docs/tests/forged.py PROGRAM COUNT SEED
 
 Scripts are drawn from the seed, and `mix` records short histories of them. In each history each
-entry in turn is left out, doubled, swapped with the next one, and changed in one part in CHANGES
-drawn ways, until COUNT files have been judged. Each has the shape of a history file, and some are
-still legal. Verdict, entry, rule and exit status must be the same, and standard error empty. It
+entry in turn is left out, doubled, swapped with the next one, and changed in one part, in CHANGES
+drawn ways, until COUNT files have been judged. Each file has the shape of a history file, and some
+are still legal. Verdict, entry, rule and exit status must be the same, and standard error empty. It
 prints how many files had each verdict; the last line is 'forged: N passed, M failed', and the status
 is 1 if M is not 0.
 """
@@ -56,7 +56,7 @@ def returning(keys):
 
 
 def drawn_scripts(draws):
-    """A script file whose workers share a few keys; the last scripts get each of these."""
+    """A script file whose workers share a few keys; the last two scripts get each of these keys."""
     version, most = draws.choice([1, 2]), draws.choice([3, 9])
     keys = draws.sample(KEYS if version == 2 else KEYS[:6], draws.randint(2, 3))
     scripts = draws.choice([crossing(keys), returning(keys), []])

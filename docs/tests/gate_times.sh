@@ -35,7 +35,7 @@ wait $command
 status=$?
 printf 'processor seconds\n%-16s %8s %8s %8s %8s\n' crate proofs tests bodies all
 awk '
-  # If a process has another crate or kind than before, or fewer seconds, its number was used again.
+  # A process number with another crate or kind than before, or with fewer seconds, was used again.
   { key = $1 " " $3 " " $4
     if (key in last && $2 < last[key]) sum[$3, $4] += last[key]
     last[key] = $2

@@ -1,6 +1,6 @@
 #!/bin/sh
 # Prints each link of the documents that leads to no file, or to no heading of one, and each wrong body
-# that docs/PROMISES.md names and its crate does not have. Fails if there is any.
+# that docs/PROMISES.md names but its crate lacks. Fails if there is any.
 cd "$(dirname "$0")/../.." || exit 1
 
 # The headings of a page, in the form in which links name them.

@@ -59,7 +59,7 @@ thread_tests run_tests::refused_memory_for_crossing_scripts
 program_tests engines::refused::five_callers_undone_is_legal
 program_tests engines::refused::a_cursor_stands_beside_a_refusal
 """
-# Tests that pass whichever single allocation is refused; more are not refused to them.
+# Tests that pass whichever single allocation is refused. They are not run with more refused.
 ALONE = """
 program_tests files::memory_refused
 program_tests engines::failing::refused_allocations
@@ -68,10 +68,10 @@ program_tests engines::failing::mix_without_memory
 program_tests engines::failing::run_without_memory
 program_tests commands::refused_allocations
 """
-# The largest allocation of a test, in bytes: the list's counts of marked nodes, 4,096 of 8 bytes, are
-# the largest of a small core, and more than what a token of the map of threads takes for what it has
-# seen; 16 jobs of 16 bytes are the room of a log of nine, whose ninth is not inline; 64 slots of 24
-# bytes are the largest array of a map of eleven keys: at least four times as many slots as keys.
+# The largest allocation of a test, in bytes. In a small core it is the list's counts of marked nodes,
+# 4,096 of 8 bytes, which take more than the entries that a token of the map of threads has seen. A log
+# of nine jobs takes room for 16 jobs of 16 bytes, since the ninth is not inline. The largest array of a
+# map of eleven keys has 64 slots of 24 bytes: at least four times as many slots as keys.
 LARGEST = """
 core_tests cores::nine_undone_newest_first 32768
 thread_tests map_tests::rows::help_grows 32768
@@ -159,7 +159,7 @@ class Runner:
     def run(self, words, first=0, last=0, larger=0):
         """How a call with these words ends if these allocations are refused, and whether one was met.
 
-        `larger` refuses each allocation of more bytes than that, where it is not 0.
+        If `larger` is not 0, each allocation of more bytes than that is refused too.
         """
         os.ftruncate(self.told, 0)
         given = {"REFUSE_FIRST": first, "REFUSE_LAST": last, "REFUSE_LARGER": larger}
@@ -189,9 +189,9 @@ class Runner:
     def refuse_in_turn(self, name, words, lengths, kind_of):
         """Refuses one allocation after the other until a run meets none, and prints a line.
 
-        `kind_of` says what an end is, by the end with all memory and the end; None where it is
-        wrong. The answer is whether none was, and one allocation was met: a test that is not there
-        meets none.
+        `kind_of` names the kind of an end, from the end with all memory and that end; None if it is
+        wrong. The answer is whether no end was wrong and an allocation was refused: a test that does
+        not exist asks for none.
         """
         calm, _ = self.run(words)
         kinds, count = collections.Counter(), 0
@@ -285,7 +285,7 @@ class Commands:
 def kind_of_test(kinds):
     """How a test ended: it passed, or in one of these ways.
 
-    It gave up by an error that it gives back, or stopped at an assertion that says that memory was
+    It gave up by an error that it returns, or stopped at an assertion that says that memory was
     refused.
     """
 

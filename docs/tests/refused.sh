@@ -8,12 +8,12 @@
 # `no thread`). If steps are answered `refused 14`, the rest must be as if these steps were not there,
 # and a history that `mix` or `run` wrote must be legal. A test must pass; if more than one allocation is
 # refused, some may give up. None may crash, or take ten seconds. If the largest allocation of a test
-# is known, it may ask for no larger one.
+# is known, the test must ask for one of that size, and for no larger one.
 #
 # `rt ci` builds everything that is needed, and `rt test` the tests of one crate. It needs a C compiler
 # (CC) and python3. It prints a line for each command and test; the last is 'refused: N passed, M
 # failed', and the status is 1 if M is not 0.
-# Usage: docs/tests/refused.sh [PART..]; a PART is `commands` or a crate with such tests, like map_ops
+# Usage: docs/tests/refused.sh [PART..]; a PART is `commands` or a crate with such tests, like table_tests
 set -euo pipefail
 cd "$(dirname "${BASH_SOURCE[0]}")/../.."
 work=$(mktemp -d)

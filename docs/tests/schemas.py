@@ -3,7 +3,7 @@
 
 The files are every example, and those of files.tsv, which has on each line a command, what the program
 says of the file (`taken`, or the line on standard error), and the file. No schema reads a file that is
-not JSON. After some commands stands `1.0`: the file has a number that a schema cannot tell from a whole
+not JSON. If `1.0` follows the command, the file has a number that a schema cannot tell from a whole
 one. It needs python3 with jsonschema, of version 4 or later. The last line is 'schemas: N passed, M
 failed', and the status is 1 if M is not 0.
 """

@@ -42,7 +42,7 @@ pub record HasTransferred (from to sum : ℕ) (moved : Bool) (a b : Caller) : Ty
   pub place_is : place ≡ how_many is_commit before + 1
   pub makes : Makes from to sum moved (serial before) (serial (seen b))
 
--- The caller has added just these entries, others' between.
+-- The caller has added exactly these entries; other callers' entries may be between them.
 pub record HasAdded (a : Caller) (es : List Entry) (b : Caller) : Type 0 where
   pub map_is : b.map ≡ a.map
   pub number_is : number b ≡ number a
@@ -81,7 +81,7 @@ Works from to sum a (Ok moved) b = HasWorked from to sum moved a b
 Works from to sum a (Err stop) b = Unit {0}
 
 -- The transfer was tried, and given up: each try before the last was busy, and the last failed. If
--- that one was busy too, there could be no more.
+-- that one was busy too, no further try was allowed.
 pub record GivesUp (from to sum tries : ℕ) (stop : Stop) (a b : Caller) : Type 0 where
   pub busy : ℕ
   pub within : busy ≤ tries

@@ -24,7 +24,7 @@ pub struct Change {
     pub txn: Option<u64>,
 }
 
-/// The fate of a change by the end of a history.
+/// The fate of a change at the end of a history.
 #[derive(Clone, Copy, Debug, PartialEq, Eq)]
 pub enum Fate {
     /// It stands, and its transaction is open.
@@ -153,7 +153,7 @@ fn fate_in(after: &[SmallEntry], caller: u64) -> Fate
     Fate::Open
 }
 
-/// The fate of a change of a history by its end.
+/// The fate of a change at the end of its history.
 ///
 /// # Cost
 ///

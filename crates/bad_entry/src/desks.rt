@@ -1,6 +1,6 @@
 //! The state of each caller of a history: the operation that it waits for, and its transaction.
-//!
-//! It follows any entries, legal or not. Constant time an entry.
+//! `change`, `held` and `reason` keep it while they go through the entries, legal or not. An entry
+//! takes constant time.
 ghost use Rattle.std.specs.Prelude.{◌≡◌, ℕ, ◌<◌, ◌++◌, [], ◌∷◌, List, Option, None, IfOk, vec_len};
 ghost use Rattle.txn_trace.specs.History.{txn_after};
 ghost use Rattle.txn_words.specs.Kinds.{caller_of};
@@ -23,7 +23,7 @@ pub(crate) struct Desk {
 }
 
 impl Desk {
-    /// Goes on by an entry of its caller.
+    /// Updates the state by an entry of its caller.
     pub(crate) fn enter(&mut self, entry: Entry)
         ensures waiting { (log : Log) → log.pending ≡ self.old.waiting →
             (log_step log entry).pending ≡ self.new.waiting }
@@ -77,7 +77,7 @@ impl Desks {
         self.table[caller as usize]
     }
 
-    /// Goes on by an entry.
+    /// Updates the state of an entry's caller by the entry.
     pub(crate) fn enter(&mut self, entry: Entry)
         requires { caller_of entry < 64 }
         ensures { (h : List Entry) → HaveNoted h self.old → HaveNoted (h ++ entry ∷ []) self.new }

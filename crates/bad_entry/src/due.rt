@@ -136,15 +136,15 @@ pub fn torn_since(
     Ok(since)
 }
 
-/// Since which entry replies contradict one another, after one more entry, of this index.
+/// The entry since which replies contradict one another, after one more entry, of this index.
 fn since_after(is_torn: bool, index: u64, since: Option<u64>) -> Option<u64>
     ensures { result ≡ (if is_torn then option_or since (Some index) else None) }
 {
     if is_torn { since.or(Some(index)) } else { None }
 }
 
-/// The commit that an entry is, at this index, if a key has this before it and that after it, which
-/// differ.
+/// The index and the caller of an entry, if it is a commit that changes the value of a key. The
+/// value is `before` before it and `after` after it.
 fn settled(index: u64, entry: Entry, before: Reply, after: Reply) -> Option<(u64, u64)>
     ensures { result ≡ settled index entry before after }
 {

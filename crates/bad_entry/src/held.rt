@@ -50,7 +50,8 @@ fn holder_in(entries: &[SmallEntry], stripes: u64, stripe: u64) -> Option<u64>
     held
 }
 
-/// Whether an entry of this transaction asks for a key of the stripe, at this index: the index.
+/// The index of an entry of the transaction `txn`, if that is `wanted` and the entry asks for a key
+/// of the stripe.
 fn asked_in(
     txn: Option<u64>,
     wanted: Option<u64>,

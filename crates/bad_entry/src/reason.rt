@@ -1,6 +1,6 @@
 //! The reason of a verdict of illegal, chosen by the rule that the bad entry breaks. Only this
-//! module knows the rules; `change`, `due` and `held` answer single questions. Each question goes
-//! through the entries anew, so a reason costs a few passes over them.
+//! module knows the rules; `change`, `due` and `held` answer single questions. Each question is a
+//! separate pass over the entries, so a reason costs a few passes.
 ghost use Rattle.std.specs.Prelude.{◌≡◌, ℕ, ◌<◌, ◌%◌, List, Option, IfOk};
 ghost use Rattle.std.specs.List.{All};
 ghost use Rattle.txn_words.specs.Kinds.{caller_of};
@@ -126,7 +126,7 @@ fn reply_reason(
     Ok(Reason::Reply { op, due, last })
 }
 
-/// The reason of the rule of locks: a lock that is held, or is not.
+/// The reason if the rule of locks is broken: the stripe of the operation's key, and its holder.
 fn lock_reason(
     alloc: Global,
     entries: &[SmallEntry],
@@ -151,7 +151,7 @@ fn began_in(entries: &[SmallEntry]) -> u64 {
         .count() as u64
 }
 
-/// The reason of the rule of shape: the entries that the caller may have instead.
+/// The reason if the rule of shape is broken: what says which entries the caller may have instead.
 fn shape_reason(callers: &Callers, began: u64, caller: u64) -> Reason
     requires { caller < 64 }
     ensures { (h : List Entry) → HaveEntered h callers.now → IsShapeReason h caller result }

@@ -1,4 +1,4 @@
--- `entry_of` reads just the elements that are expected, one after the other.
+-- `entry_of` reads exactly the elements that are expected, one after the other.
 use Rattle.std.proofs.Common.{◌≡◌, ℕ, suc, List, [], ◌∷◌, ◌++◌, length, Bool, true, false, not, ◌==◌, ◌&&◌, ◌||◌, Option, Some, None, option_map, if◌then◌else◌, refl, ap, sym, ◌∙◌, arith}
 use Rattle.std.specs.Prelude.{option_and_then, is_some, nat_le, codes}
 use Rattle.std.specs.Str.{bytes_eq}
@@ -19,7 +19,7 @@ use Rattle.bad_file.specs.Meets.{in_range, is_entry_name, is_named, is_of, is_ol
 use Rattle.bad_file.specs.declared.expected.Expected.{Expected}
 use Rattle.bad_file.specs.declared.expected.Expected.TheVariants.{EntryName, Caller, Number, NumberOrNull}
 
--- Whether elements are just what is expected, in version 1 or not, with ranges or not.
+-- Whether elements are exactly what is expected, in version 1 or not, with ranges or not.
 abbrev pub accepts : Bool → Bool → List Data → List Expected → Bool
 accepts o r [] [] = true
 accepts o r [] (e ∷ es) = false

@@ -48,14 +48,14 @@ expected_text expected.Number = codes "a whole number from 0 to 1844674407370955
 expected_text expected.NumberOrNull =
     codes "a whole number from 0 to 18446744073709551615, or null"
 
--- Whether one of some words is expected.
+-- Whether a word is expected, and no other kind of value.
 abbrev pub is_a_word : Expected → Bool
 is_a_word expected.EntryName = true
 is_a_word expected.OpName = true
 is_a_word expected.OldOpName = true
 is_a_word wanted = false
 
--- Whether a text is found where one of some words is expected.
+-- Whether a word is expected and a text is found.
 abbrev pub is_unknown : Found → Expected → Bool
 is_unknown found.Text wanted = is_a_word wanted
 is_unknown other wanted = false

@@ -21,7 +21,8 @@ fn op_name(is_old: bool) -> Expected
     }
 }
 
-/// Adds what is expected after the word of an entry to a stack, whose last is expected next.
+/// Pushes the elements that are expected after the word of an entry. The last of the stack is
+/// expected next.
 fn push_after_entry_name(
     stack: &mut Vec<Expected>,
     is_old: bool,
@@ -43,7 +44,7 @@ fn push_after_entry_name(
     }
 }
 
-/// Adds what is expected after the word of an operation to a stack.
+/// Pushes the elements that are expected after the word of an operation.
 fn push_after_op_name(stack: &mut Vec<Expected>, word: &str) -> Result<(), AllocError>
     ensures { OnOk result (reverse stack.new.items
         ≡ after_op_name word.now ++ reverse stack.old.items) }
@@ -60,7 +61,7 @@ fn push_after_op_name(stack: &mut Vec<Expected>, word: &str) -> Result<(), Alloc
     }
 }
 
-/// Adds what is expected after an element because of it to a stack.
+/// Pushes the elements that are expected because of this one, after it.
 fn push_after(
     stack: &mut Vec<Expected>,
     is_old: bool,

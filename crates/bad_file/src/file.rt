@@ -189,7 +189,7 @@ fn flaw_in_value(alloc: Global, file: &Value) -> Result<Option<Flaw>, AllocError
 ///
 /// The flaw is the cause of the refusal, and the first of its kind: a file that is too long or no
 /// JSON; a member that is missing or of the wrong kind; the first element at fault of the first
-/// entry with a wrong shape; a member that is out of range; the first caller that is.
+/// entry with a wrong shape; a member that is out of range; the first caller that is out of range.
 ///
 /// # Errors
 ///
@@ -197,8 +197,8 @@ fn flaw_in_value(alloc: Global, file: &Value) -> Result<Option<Flaw>, AllocError
 ///
 /// # Cost
 ///
-/// Time and memory in proportion to the bytes: the value that they are is kept as a whole. Small
-/// objects take the most, about 110 bytes for each of the file's.
+/// Time and memory in proportion to the bytes: the JSON value of the whole file is kept. Small
+/// objects take the most, about 110 bytes for each byte of the file.
 pub fn flaw_in(alloc: Global, bytes: &[u8]) -> Result<Option<Flaw>, AllocError>
     ensures { IfOk result (Tells bytes.now) }
 {

@@ -32,7 +32,7 @@ pub enum Flaw {
     },
 }
 
-/// Whether one of some words is expected. Constant time.
+/// Whether a word is expected, and no other kind of value. Constant time.
 fn is_a_word(expected: Expected) -> bool
     ensures { result ≡ is_a_word expected }
 {

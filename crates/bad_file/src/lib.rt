@@ -1,16 +1,17 @@
 //! The flaw of a history file that is refused: the first place at fault, the value there, and the
 //! values that are allowed instead.
 //!
-//! `txn_files` names the first entry that is none, or only says that some number is out of range.
+//! `txn_files` names the first element of `entries` that is no entry, or only says that some number
+//! is out of range.
 //! This crate answers the writer's next question: which element of the entry is wrong, which words
 //! and numbers are allowed there, or which member is missing.
 //!
 //! The format is that of `txn_files`, in its own definitions. An element of an entry is at fault if
-//! some entry begins with the elements before it, and none with it too; allowed there are exactly
-//! the elements with which some entry goes on.
+//! some entry begins with the elements before it, but no entry begins with these and the element.
+//! Allowed in its place are exactly the elements with which some entry goes on.
 //!
 //! Proved: `flaw_in` finds no flaw exactly in a file that `read_history` takes, and else a flaw
-//! that is the cause of the refusal. It keeps the whole value that the file is, which takes much
+//! that is the cause of the refusal. It keeps the JSON value of the whole file, which takes much
 //! more memory than `read_history`; it is called only for files that are refused.
 #![tactic(auto)]
 

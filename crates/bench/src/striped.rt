@@ -205,8 +205,8 @@ fn time_workers<R: Threads + Wait + Sync + Clock + CpuClock + Eprint>(
     Ok(())
 }
 
-/// Writes one line on standard error: how many transactions a second this number of threads does,
-/// each of them this number, the processor time of one, and the outcomes.
+/// Has each of `threads` threads do `transactions` transactions, and writes one line on standard
+/// error: how many they do a second, the processor time of one, and the outcomes.
 pub(crate) fn time_striped<R: Threads + Wait + Sync + AllocGlobal + Clock + CpuClock + Eprint>(
     rt: &R,
     threads: u64,

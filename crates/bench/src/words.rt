@@ -98,8 +98,8 @@ fn run_all<R: Threads + Wait + Sync>(rt: &R, takers: &mut [Taker], takes: u64) {
     });
 }
 
-/// Writes one line on standard error: the time of a take and a give together, with this number of
-/// threads, up to 64, of this number of takes each, and how many takes were granted.
+/// Has each of `threads` threads, 1 to 64, do `takes` takes, and writes one line on standard error:
+/// the time of a take and a give together, and how many takes were granted.
 pub(crate) fn time_words<R: Threads + Wait + Sync + AllocGlobal + Clock + Eprint>(
     rt: &R,
     threads: u64,

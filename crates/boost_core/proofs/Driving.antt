@@ -1,5 +1,5 @@
--- A caller's call for help while nobody else takes steps on the core: what is so of each phase of
--- its drive besides, the number of steps left, a round of the call's loop, and its outcome.
+-- A caller's call for help while nobody else takes steps on the core: the invariant of each phase
+-- of its drive, the number of steps left, a round of the call's loop, and its outcome.
 use Rattle.std.proofs.Common.{◌≡◌, ℕ, ◌+◌, ◌*◌, ◌-◌, ◌^◌, ◌%◌, ◌<◌, ◌≤◌, ◌==◌, ◌&&◌, Bool, true, false, if◌then◌else◌, Option, Some, None, refl, sym, ap, subst, ◌∙◌, arith}
 use Rattle.std.specs.Prelude.{nat_le, nat_lt, not}
 use Rattle.std.proofs.lemmas.Bool.{false≢true, eq-eqb}

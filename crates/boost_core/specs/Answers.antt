@@ -33,8 +33,8 @@ abbrev pub owner_changes : State → Owner → Option ℕ
 owner_changes state (Caller c) = caller_changes state.cursors c
 owner_changes state (Helper h) = helper_changes (help_in state.helpers h)
 
--- Whether a cursor may turn out not to fit: it fits if the last move placed it, and if the list's
--- change number is still the one that it noted, unless that is the greatest number.
+-- Whether a cursor may turn out not to fit. It is sure to fit if the last move placed it, or if the
+-- list's change number is still the one that it noted and is not the greatest number.
 abbrev pub may_be_stale : State → Owner → Bool
 may_be_stale state owner = elim (owner_changes state owner) [
   | None ↦ false
@@ -48,7 +48,7 @@ abbrev pub IsReply : Phase → Map → Option ℕ → Type 0
 IsReply (Waiting op) m reply = reply ≡ reply_of m op
 IsReply phase m reply = ⊥
 
--- Whether a caller that has taken back all changes above the level is back at this level.
+-- Whether the phase is that of going back to this level.
 abbrev pub is_back_at : ℕ → Phase → Bool
 is_back_at n (LeavingTo m) = n == m
 is_back_at n phase = false

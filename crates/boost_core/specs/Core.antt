@@ -54,7 +54,7 @@ world_of limits history counts table sessions locks placed words = record {
 abbrev pub session_changes : Session → Option ℕ
 session_changes s = option_map cursor_changes s.cursor
 
--- The linked nodes.
+-- A linked node, and all of them.
 abbrev pub node_at : NodeAt → Node
 node_at n = record { at = n.at; marked = n.marked }
 
@@ -111,7 +111,7 @@ pub record IsSeated (history : List Entry) (c : ℕ) (side : Side) (room : ℕ) 
   pub due : AreDue (now history) (reverse side.jobs)
   pub agrees : Agrees side room
 
--- How often all callers keep a spare.
+-- How often all callers together keep a spare.
 abbrev pub all_times : List Session → ℕ → ℕ → ℕ
 all_times sessions place stamp = sum_by (λ s. times_kept (side_of s) place stamp) sessions
 

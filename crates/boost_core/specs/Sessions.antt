@@ -30,8 +30,8 @@ use Rattle.boost_core.specs.State.{Caller}
 use Rattle.boost_core.specs.Refusals.{owner_of, lacks_in}
 use Rattle.boost_core.specs.Spares.{times_of, times_in, IsCovered}
 
--- A caller's side without its room: the seat, the operation that waits, the cursor, and the jobs and
--- savepoints of the log.
+-- A caller's side without its room: the seat, the operation that waits, the cursor, and the jobs
+-- and savepoints of the log.
 pub record Side : Type 0 where
   pub seat : Seat
   pub pending : Option PendingAt
@@ -111,8 +111,7 @@ change_of job = (key_of_job job, value_before job)
 abbrev pub changes_of : List MapJob → List (ℕ × Option ℕ)
 changes_of jobs = map change_of (reverse jobs)
 
--- A map shows what each job names as after its change, after the newer ones, which are before it in
--- the list, have run.
+-- Each of these jobs, newest first, is due on the map that is left once the newer ones have run.
 abbrev pub AreDue : Map → List MapJob → Type 0
 AreDue m [] = Unit {0}
 AreDue m (job ∷ jobs) = IsDue m job × AreDue (set_at m (key_of_job job) (value_before job)) jobs
@@ -320,7 +319,7 @@ abbrev pub unless_busy : Answer → Answer
 unless_busy (answers.Busy x) = answers.Refused StaleWord
 unless_busy answer = answer
 
--- The answer to asking by a claim, and its effect; a word has none.
+-- The answer to asking by a claim, and its effect. To ask by a word has no effect.
 abbrev pub AsksBy : Claim → ℕ → ℕ → Op → Session → TableAt → List (Option ℕ) → Answer → Session
     → TableAt → List (Option ℕ) → Type 0
 AsksBy Lock c stripe op s t locks answer s' t' locks' =

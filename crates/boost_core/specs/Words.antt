@@ -29,14 +29,14 @@ is_ask step = false
 abbrev pub is_taken : State → ℕ → Op → Bool
 is_taken state c op = not (is_locked Now state.limits.stripes state.history (entries.Asked c op))
 
--- The claim of a caller whose word names this caller: that it holds the stripe, unless it is the
--- caller itself or has never begun a transaction.
+-- The claim of caller `c` if the word names caller `named`: that `named` holds the stripe. If that
+-- is `c` itself, or has never begun a transaction, the word is stale.
 abbrev pub claim_of : State → ℕ → ℕ → Claim
 claim_of state c named =
     if not (named == c) && has_begun named state.history then Held named else Stale
 
--- Whether a claim is refused as stale, if nothing else refuses the step: a right is if another
--- caller holds the stripe, and a word if it names no caller that may hold it.
+-- Whether a claim is refused as stale, if nothing else refuses the step: a right if another caller
+-- holds the stripe, and a word if it names no caller that may hold it.
 abbrev pub is_stale : Claim → State → Step → Bool
 is_stale Right state (Ask c op) = has_stamp_for state op && is_taken state c op
 is_stale Stale state (Ask c op) = true
@@ -99,8 +99,8 @@ pub record ListsAsk (claim : Claim) (old : State) (step : Step) (answer : Answer
   pub nodes : Touches old step answer new
   pub stamp : new.stamp ≡ stamp_by claim old.stamp step answer
 
--- The requirement on a claim: if stripes are words it is no lock, and if not it is one; and a
--- holder that it names may be named.
+-- The requirement on a claim. An operation is asked for by a lock exactly if stripes are not words;
+-- any other step claims a lock. A holder that the claim names may be named.
 abbrev pub IsClaim : Claim → State → Step → Type 0
 IsClaim Lock state step = state.words ≡ true → is_ask step ≡ false
 IsClaim Right state (Ask c op) = state.words ≡ true

@@ -7,7 +7,7 @@ ghost use Rattle.boost_core.specs.Begun.{begun_with};
 use std::alloc::{AllocError, Global};
 use txn_trace::Entry;
 
-/// The marks of this many callers; none has begun.
+/// The flags of this many callers, none of which has begun.
 pub(crate) fn none_begun(alloc: Global, callers: usize) -> Result<Vec<bool>, AllocError>
     ensures { IfOk result (λ begun. begun.items ≡ replicate callers false) }
 {

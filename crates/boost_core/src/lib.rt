@@ -16,7 +16,7 @@
 //! `Nodes` says what a step does to the linked nodes, and which cursors it leaves fitting. The
 //! plain calls are moves of one caller in a row (`Plain`). If callers take the rights to their
 //! stripes elsewhere, as atomic words, an operation is asked for by such a right or by the word
-//! (`Words`). A `Drive` takes the steps of a caller between which others act.
+//! (`Words`). A `Drive` names the steps of a caller's call, between which others may act.
 //!
 //! A step costs the time of its work on the table. Memory is taken only to begin, to ask, to save,
 //! to go back, to link a bucket and to store the first bucket of a segment: all that an operation

@@ -1,6 +1,7 @@
-//! The core: its fields, its invariant, and the common course of every step. A step is tested for a
-//! refusal, room is reserved, the session or the table takes it, and its entry is added at the end.
-//! The steps themselves are in `operations.rt`, `transactions.rt` and `buckets.rt`.
+//! The core: its fields, its invariant, and the common course of a caller's step (`call`): the
+//! refusals are tested, room is reserved, the session takes the step, and its entry is added. A
+//! step that is no caller's (`serve`) goes straight to the table, and adds no entry. The steps
+//! themselves are in `session.rt`, `operations.rt`, `transactions.rt` and `buckets.rt`.
 ghost use Rattle.std.specs.Prelude.{◌≡◌, ℕ, ◌<◌, true, false, is_some, Some, IfOk, IfErr, OnErr, length};
 ghost use Rattle.std.specs.List.{All};
 ghost use Rattle.txn_words.specs.Map.{count_of};
@@ -97,8 +98,8 @@ impl Core {
         Core::make(alloc, limits, false, 0, false)
     }
 
-    /// A new core, whose stripes are words or not, with the memory for this many nodes, written or
-    /// not.
+    /// A new core. `words` says whether its stripes are words. The memory for `nodes` nodes is
+    /// taken at once, and is written if `is_written`.
     pub(crate) fn make(
         alloc: Global,
         limits: Limits,
@@ -138,11 +139,11 @@ impl Core {
     /// If a test refuses the step, the first that does is the answer, and the state is unchanged.
     /// Only `Begin`, `Ask`, `Save`, `Back`, `InitLink` and `InitStore` may be refused with
     /// `NoMemory`, after all tests; so no caller needs memory to seek, to act, to commit or to
-    /// abort. `InitStore` may be refused so only if no bucket of its segment of 64 is stored.
+    /// abort. `InitStore` is refused memory only if no bucket of its segment of 64 is stored.
     ///
     /// `Again` means that the cursor of the caller or helper no longer fits; it is dropped. That is
-    /// never the answer as long as the cursor's two nodes stay neighbours, whatever happens
-    /// elsewhere in the list.
+    /// never the answer as long as the cursor's two nodes stay neighbours and unmarked, whatever
+    /// happens elsewhere in the list.
     ///
     /// If stripes are words, no step may be an `Ask`: use `ask_with` and `ask_held`.
     ///

@@ -123,18 +123,18 @@ impl Core {
         }
     }
 
-    /// Helps the table to grow, as a call `Help` of a drive does, in a row: doubles it if it has
-    /// more than two keys for each bucket, and then initialises the bucket of a key at the size
-    /// that the table then has, after the buckets above it. It needs no transaction, and the map
-    /// and the history are unchanged. Nothing else doubles a table: call it beside `put`, or each
+    /// Helps the table to grow, by the steps of a drive's call `Help`, taken in a row: doubles it
+    /// if it has more than two keys for each bucket, and then initialises the bucket that the key
+    /// has at the new size, its ancestors first. It needs no transaction, and the map and the
+    /// history are unchanged. No other plain call doubles a table: call it beside `put`, or each
     /// seek walks one long list.
     ///
     /// # Errors
     ///
-    /// Buckets that are initialised stay so:
+    /// Buckets that were initialised before the refusal stay initialised.
     /// - `NoSuchHelper` if there is no caller of this number: nothing is done.
     /// - `BadKey` if the limits have half keys and the key is 2^63 or more: nothing is done.
-    /// - `StampsUsedUp` if none is left, and `NoMemory` if memory is refused.
+    /// - `StampsUsedUp` if no stamp is left, and `NoMemory` if memory is refused.
     ///
     /// # Cost
     ///

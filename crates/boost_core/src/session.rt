@@ -67,8 +67,8 @@ impl Session {
         }
     }
 
-    /// Takes a step of this caller that nothing refuses. The seat is unchanged: it enters the entry
-    /// afterwards.
+    /// Takes a step of this caller that nothing refuses. The seat is unchanged except for room: it
+    /// enters the entry afterwards.
     #[inline(always)]
     pub(crate) fn answer(
         &mut self,

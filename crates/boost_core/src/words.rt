@@ -35,10 +35,10 @@ impl Core {
         Core::with_capacity(alloc, limits, 0, false)
     }
 
-    /// `with_words`, and takes the memory for this many nodes of the table at once, so that its list
-    /// need not grow while they come. If that memory is to be written, the memory for the entries of
-    /// as many buckets is taken too, and no later node or bucket is the first to touch a page of
-    /// memory. `reserve` makes room for the history.
+    /// A new core like that of `with_words`. Takes the memory for this many nodes of the table at
+    /// once, so that the list need not grow before it has more. If `is_written`, that memory is
+    /// written, and the memory for the entries of as many buckets is taken too: none of these nodes
+    /// and buckets is then the first to touch a page. `reserve` makes room for the history.
     ///
     /// # Errors
     ///
@@ -116,7 +116,7 @@ impl Core {
         self.call(caller, Step::Ask(caller, op), claim)
     }
 
-    /// The claim of a caller whose word names this caller.
+    /// The claim of `caller` if the word of its key's stripe names `named`.
     fn claim_of(&self, caller: u64, named: u64) -> Claim
         ensures { result ≡ claim_of self.now caller named }
     {

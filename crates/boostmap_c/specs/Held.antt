@@ -1,4 +1,4 @@
--- The property of a handle: a core, a referee or a member on the heap, or nothing.
+-- Ownership of a handle's pointer: of a core, a referee or a member on the heap, or of nothing.
 use Rattle.std.specs.Prelude.{Bool, false, not, Option, Some, None}
 use Rattle.boost_core.specs.State.{State}
 use Rattle.boost_core.specs.contracts.machine.Core.{the_row}

@@ -10,7 +10,8 @@ use Rattle.boostmap_c.specs.contracts.member_pointer.MemberPointer.{the_row}
 abbrev pub with_member : MemberPointer → Member → MemberPointer
 with_member pointer member = record { at = pointer.at; member = Some member }
 
--- The member at the pointer ends as the last that the reference has; the address stays.
+-- When the reference ends, the member at the pointer is the one that the reference has last. The
+-- address is unchanged.
 abbrev pub LendsMember : MutBor MemberPointer → MutBor Member → Fml
 LendsMember pointer reference =
     Lends the_row member_row pointer reference (with_member pointer.now)

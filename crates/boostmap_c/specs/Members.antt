@@ -1,4 +1,4 @@
--- The effects of the calls on a striped map on a handle, from the members that it owns before and
+-- The effect of a striped map's call on a handle, from the members that the handle owns before and
 -- after. An empty handle stays empty, and C is told so.
 use Rattle.std.specs.Prelude.{◌≡◌, ℕ, ◌+◌, ◌<◌, ◌&&◌, nat_le, Bool, true, [], ◌∷◌, ◌++◌, length, Option, Some, None, Result, if◌then◌else◌}
 use Rattle.std.specs.List.{HoldsAt}

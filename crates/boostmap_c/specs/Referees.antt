@@ -33,7 +33,7 @@ TakesIn entry old new =
     (way : Way) (stripes : ℕ) (h : List Entry)
     → IsFedBy way stripes h old → IsFedBy way stripes (h ++ entry ∷ []) new
 
--- Whatever the referee was fed, it is fed no more.
+-- Whatever the referee was fed, it is fed nothing in addition.
 abbrev pub Stays : Referee → Referee → Type 0
 Stays old new =
     (way : Way) (stripes : ℕ) (h : List Entry)

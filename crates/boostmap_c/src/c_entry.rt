@@ -1,6 +1,6 @@
 //! An entry of a history as C writes it, and the entry that it stands for. C passes numbers, not an
-//! enum: a number that stands for no kind has its own status and is never used. Only this module
-//! reads the numbers, so a checker is fed only entries of callers below 64, as it requires.
+//! enum: numbers that stand for no entry are never used, and have their own status. Only this
+//! module reads the numbers, so a checker is fed only entries of callers below 64, as it requires.
 ghost use Rattle.std.specs.Prelude.{◌≡◌, ◌<◌, Some, IfSome};
 ghost use Rattle.txn_words.specs.Kinds.{caller_of};
 ghost use Rattle.boostmap_c.specs.Entries.{asked_of, busy_of, entry_of, judged_entry, op_of, optional, taken};

@@ -158,6 +158,11 @@ fn feed_front(referee: &mut Referee, entries: &[CEntry]) -> (usize, u32)
 ///
 /// The handle is unchanged: 4 if it has a checker, 38 (`Limit`) if there is no such rule, or it is
 /// by locks and there are no stripes, 30 (`NoMemory`) if memory is refused.
+///
+/// # Cost
+///
+/// That of the `new` of `history_check::Checker` or `serial_check::Checker`, and memory for the
+/// checker.
 #[unsafe(no_mangle)]
 pub extern "C" fn boostmap_judge_new(
     alloc: Global,

@@ -20,8 +20,8 @@
 //! ```
 //!
 //! A call takes the object out of the handle, makes the library's call and puts the object back; a
-//! call of a striped map's caller borrows the member through the pointer instead. It tells C the
-//! answer by a status and at most one word:
+//! call of a striped map's caller borrows the member through the pointer instead. Each call tells C
+//! the answer by a status and at most one word:
 //!
 //! | Status | Meaning | The transaction then |
 //! |---|---|---|
@@ -45,8 +45,8 @@
 //! call except a `free`. The judge's verdict is that of the checker's definition on the entries
 //! that it was fed, which are those that C's numbers stand for.
 //!
-//! A crossing takes no memory: `boostmap_count`, with its caller's loop, is 23 instructions. Calls
-//! take constant time and no memory unless they say otherwise.
+//! Crossing from C to Rattle and back takes no memory: `boostmap_count`, with its caller's loop, is
+//! 23 instructions. Calls take constant time and no memory unless they say otherwise.
 #![tactic(auto)]
 
 mod c_entry;

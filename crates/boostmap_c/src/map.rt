@@ -93,11 +93,12 @@ pub extern "C" fn boostmap_count(alloc: Global, map: &mut Handle, word: &mut u64
 /// # Errors
 ///
 /// 3 if the handle has no map, else as `Core::help`: 28 (`NoSuchHelper`), 32 (`StampsUsedUp`), 30
-/// (`NoMemory`). Buckets that are initialised stay so.
+/// (`NoMemory`). Buckets that were initialised before the refusal stay initialised.
 ///
 /// # Cost
 ///
-/// At most 16 buckets, each with time in proportion to the nodes that are passed to its place.
+/// At most 16 buckets, each with time in proportion to the nodes that are passed to its position;
+/// may take memory for each bucket's dummy and segment.
 #[unsafe(no_mangle)]
 pub extern "C" fn boostmap_help(alloc: Global, map: &mut Handle, caller: u64, key: u64) -> u32
     ensures { HelpsWith map.old.held.core caller key result map.new.held.core }

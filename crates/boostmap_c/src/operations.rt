@@ -20,7 +20,8 @@ use txn_trace::Op;
 ///
 /// # Cost
 ///
-/// Time in proportion to the nodes from the nearest initialised bucket to the key's position.
+/// Time in proportion to the nodes from the nearest initialised bucket to the key's position; may
+/// take memory for the history, the log and a node.
 #[unsafe(no_mangle)]
 pub extern "C" fn boostmap_put(
     alloc: Global,
@@ -52,7 +53,8 @@ pub extern "C" fn boostmap_put(
 ///
 /// # Cost
 ///
-/// Time in proportion to the nodes from the nearest initialised bucket to the key's position.
+/// Time in proportion to the nodes from the nearest initialised bucket to the key's position; may
+/// take memory for the history, the log and a node.
 #[unsafe(no_mangle)]
 pub extern "C" fn boostmap_put_if_absent(
     alloc: Global,
@@ -84,7 +86,8 @@ pub extern "C" fn boostmap_put_if_absent(
 ///
 /// # Cost
 ///
-/// Time in proportion to the nodes from the nearest initialised bucket to the key's position.
+/// Time in proportion to the nodes from the nearest initialised bucket to the key's position; may
+/// take memory for the history, the log and a node.
 #[unsafe(no_mangle)]
 pub extern "C" fn boostmap_put_if_equal(
     alloc: Global,
@@ -116,7 +119,8 @@ pub extern "C" fn boostmap_put_if_equal(
 ///
 /// # Cost
 ///
-/// Time in proportion to the nodes from the nearest initialised bucket to the key's position.
+/// Time in proportion to the nodes from the nearest initialised bucket to the key's position; may
+/// take memory for the history, the log and a node.
 #[unsafe(no_mangle)]
 pub extern "C" fn boostmap_take(
     alloc: Global,
@@ -146,7 +150,8 @@ pub extern "C" fn boostmap_take(
 ///
 /// # Cost
 ///
-/// Time in proportion to the nodes from the nearest initialised bucket to the key's position.
+/// Time in proportion to the nodes from the nearest initialised bucket to the key's position; may
+/// take memory for the history and the log.
 #[unsafe(no_mangle)]
 pub extern "C" fn boostmap_get(
     alloc: Global,

@@ -1,6 +1,6 @@
 //! A checker of either rule, as the handle of a judge owns it. It is one type, since the pointer of
 //! a handle names one. It takes entries and not C's numbers, so its contracts speak only of
-//! checkers. The rule is chosen when it is made, and stays; a call costs that of the checker.
+//! checkers. The rule is chosen when it is made, and stays. A call costs what the checker's costs.
 ghost use Rattle.std.specs.Prelude.{◌≡◌, ◌<◌, [], IfOk, OnOk, OnErr};
 ghost use Rattle.txn_words.specs.Kinds.{caller_of};
 ghost use Rattle.boostmap_c.specs.Referees.{IsFedBy, IsVerdictOf, Stays, TakesIn, has_stripes};

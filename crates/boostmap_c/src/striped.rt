@@ -103,7 +103,7 @@ pub extern "C" fn boostmap_striped_open(
 }
 
 /// Gives a handle to the next caller that waits; the word is its number, one less than that of the
-/// last caller which got a handle. Only the first caller of a map has callers that wait.
+/// caller that got a handle last. Only the first caller of a map has callers that wait.
 ///
 /// # Errors
 ///

@@ -1,6 +1,6 @@
 //! The calls of a striped map's caller. Each goes straight to the map: it takes no lock and never
 //! waits, so callers of one map may be in calls at the same time, each with its own handle. None
-//! fills, empties or moves a handle, and the way through it takes constant time and no memory.
+//! fills, empties or moves a handle. To pass through a handle takes constant time and no memory.
 ghost use Rattle.std.specs.Prelude.{Some, None};
 ghost use Rattle.boostmap_c.specs.Members.{Ends, Numbers, Replies};
 ghost use Rattle.boostmap_c.specs.Striped.{Aborts, Begins, Commits, Operates, Returns, Saves};

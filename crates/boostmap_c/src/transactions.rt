@@ -1,6 +1,6 @@
 //! The beginning and the ends of a transaction, and its savepoints. These calls name no key and ask
-//! for no stripe, so none of them is busy. A commit and an abort take no memory, so a transaction
-//! can be ended when memory is refused.
+//! for no stripe, so none of them is busy. By their contracts a commit and an abort are never
+//! refused with `NoMemory`, so a transaction can be ended when other calls are refused memory.
 ghost use Rattle.boost_core.specs.Machine.{Event};
 ghost use Rattle.boost_core.specs.Plain.{Aborts, Returns};
 ghost use Rattle.boostmap_c.specs.Calls.{Answers};
@@ -14,8 +14,8 @@ use txn_trace::Step;
 ///
 /// # Errors
 ///
-/// 3 if the handle has no map. A refusal changes nothing: 18 (`NoSuchCaller`), 20 (`AlreadyOpen`), 22
-/// (`Leaving`), 30 (`NoMemory`).
+/// 3 if the handle has no map. A refusal changes nothing: 18 (`NoSuchCaller`), 20 (`AlreadyOpen`),
+/// 22 (`Leaving`), 30 (`NoMemory`).
 ///
 /// # Cost
 ///

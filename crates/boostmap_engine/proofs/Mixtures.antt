@@ -1,4 +1,4 @@
--- The line of a core's history is a line of the scripts that its workers played.
+-- The line of a mixed core's history is a mixture of the file's scripts.
 use Rattle.std.proofs.Common.{◌≡◌, ℕ, ◌<◌, List, Ok, ap, subst, ◌∙◌}
 use Rattle.std.specs.List.{All}
 use Rattle.txn_words.specs.declared.holder.Holder.TheVariants.{Now}

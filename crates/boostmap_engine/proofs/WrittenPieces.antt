@@ -13,12 +13,12 @@ use Rattle.boostmap_engine.proofs.Known.{Appends-then}
 take-past : (xs ys : List ℕ) (n : ℕ) → take (length xs + n) (xs ++ ys) ≡ xs ++ take n ys
 take-past xs ys n = rw (take-add, take_at xs ys (length xs) refl, drop_at xs ys (length xs) refl) refl
 
--- A piece was written behind what was written.
+-- The text written so far, with one more piece.
 pub piece_written : (whole done left piece rest : List ℕ) → whole ≡ done ++ left → left ≡ piece ++ rest → whole ≡ (done ++ piece) ++ rest
 piece_written whole done left piece rest is is_left =
     is ∙ ap (λ (xs : List ℕ). done ++ xs) is_left ∙ sym (append_assoc done piece rest)
 
--- A proper beginning of a piece was written, and so of the whole.
+-- If a proper beginning of the next piece was written, a proper beginning of the whole text was.
 pub part_written : (a b c : Option (List ℕ)) (whole done left piece rest : List ℕ) → whole ≡ done ++ left → left ≡ piece ++ rest → Appends a b done → AppendsPart b c piece → AppendsPart a c whole
 part_written a b c whole done left piece rest is is_left before part =
     let split : whole ≡ done ++ (piece ++ rest) = is ∙ ap (λ (xs : List ℕ). done ++ xs) is_left in

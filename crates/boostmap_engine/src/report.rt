@@ -13,13 +13,14 @@ use std::alloc::{AllocError, Global};
 use txn_files::read_packed_steps;
 use txn_trace::{Limits, PackedStep};
 
-/// About how many bytes the line of an answer has. Room for all lines is made at once.
+/// The estimated length of an answer's line, in bytes, by which room for all lines is made at once.
 const ANSWER: usize = 8;
 
-/// After this many steps the memory of those that were taken is given back.
+/// Each time this many steps have been taken, their memory is given back.
 const BLOCK: usize = 16_384;
 
-/// Gives back the memory of steps that were taken, if a block of them was.
+/// Gives back the memory of the steps that were taken, if the number of those left is a multiple of
+/// a block.
 fn give_back(steps: &mut Vec<PackedStep>)
     ensures { steps.new.items ≡ steps.old.items }
 {

@@ -2,14 +2,14 @@
 //!
 //! `boostmap replay FILE` runs the steps of a file on a transactional map and prints a report;
 //! `boostmap run FILE` runs the scripts of a file, each worker in its own thread, and prints the
-//! history; `boostmap mix --seed N FILE` does the same with the workers' turns mixed as the seed
-//! says; `boostmap check FILE` says whether the recorded history of a file is legal.
+//! history; `boostmap mix --seed N FILE` runs them in one thread, with the workers' turns mixed as
+//! the seed says; `boostmap check FILE` says whether the recorded history of a file is legal.
 //!
 //! `run` does all that the program does, over any system that has words and opens files, and over
 //! any two writers. It promises (`Runs` of `unthreaded_program`): the engine of the command that
 //! the words ask for ran on the file that they name; standard output has exactly what that engine
-//! wrote; standard error has the line of the fault, if there is one, and nothing else; and the
-//! status is that of the outcome.
+//! wrote; standard error has the line of the fault, if there is one, and nothing else, unless a
+//! write of it fails; and the status is that of the outcome.
 //!
 //! `threaded::run` is the engine of the command `run` (`specs/Threaded.antt`): it writes a legal
 //! history of a run of the scripts in threads (`HasRunScripts`). All else is in

@@ -1,6 +1,6 @@
-//! The whole call, with the engine of `run` in threads. The commands but for `run`, and the
-//! beginning and the end of a call, are those of `unthreaded_program`. It is generic over the
-//! system and both outputs, so that contracts and tests reach all of it.
+//! The whole call, with the engine of `run` in threads. All other commands, and the beginning and
+//! the end of a call, are those of `unthreaded_program`. The system and both outputs are type
+//! parameters, so that contracts and tests reach the whole call.
 ghost use Rattle.std.specs.Prelude.{◌≡◌};
 ghost use Rattle.boostmap_program.specs.Threaded.{RunsThreads};
 ghost use Rattle.unthreaded_program.specs.Runs.{Does, HasEnded, Runs, Tells};

@@ -84,16 +84,15 @@ fn fault_of(refusal: Refusal) -> Fault
 
 /// Reads a script file to its end, runs its scripts on one map, each worker in its own thread, and
 /// writes the history as one line of compact JSON, which ends with a line feed, and nothing else.
-/// The order between workers is open, so two runs of a file may write different histories; each is
-/// legal.
+/// The order of the workers' steps is not fixed, so two runs of a file may write different
+/// histories; each is legal.
 ///
 /// At most 16,777,217 bytes are read, and no call of the reader or the writer is repeated after it
 /// failed.
 ///
 /// # Errors
 ///
-/// Only `Write` can follow after a part of the line was written; before each other error nothing is
-/// written.
+/// Nothing is written, except before `Write`.
 ///
 /// - `Read` if a read fails.
 /// - `Input` if the file is refused.
@@ -101,7 +100,7 @@ fn fault_of(refusal: Refusal) -> Fault
 ///   script as refused.
 /// - `NoThread` if a thread could not be started; the workers that were started finish.
 /// - `OutOfStep` if the history is not what the workers saw.
-/// - `Write` if a write fails or takes nothing: a proper prefix of the line is written.
+/// - `Write` if a write fails or takes nothing: a proper beginning of the line is written.
 ///
 /// # Cost
 ///

@@ -1,4 +1,4 @@
--- The answer to each call. The table above answers the same.
+-- The answer to each call. A `Table` of `map_ops` answers the same.
 use Rattle.std.specs.Prelude.{ℕ, ◌*◌, ◌-◌, ◌^◌, Bool, Option, Some, None, Result, Ok, Err, ◌==◌, not, nat_le, if◌then◌else◌}
 use Rattle.node_list.specs.Nodes.{Listing}
 use Rattle.split_key.specs.Split.{parent_of}

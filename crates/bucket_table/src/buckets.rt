@@ -71,7 +71,8 @@ impl Buckets {
         Buckets::with_capacity(alloc, max, helpers, list, 0)
     }
 
-    /// `new`, and takes the memory for the entries of the first `buckets` buckets at once.
+    /// Buckets as `new` makes them, with memory for the entries of the first `buckets` buckets
+    /// taken at once.
     ///
     /// # Errors
     ///

@@ -11,10 +11,10 @@
 //!
 //! Beside the list the buckets are a row of segments, each with the entries of 64 buckets. A
 //! segment is there exactly if one of its buckets is stored: the first from the beginning, and each
-//! other one from the first store of one of its buckets on, which takes the memory for it. A
-//! contract sees the row as the flat array of its entries. In this example the size is 4, the keys
-//! are 1 to 5, and all buckets but bucket 2 are stored. The list is in the order that `split_key`
-//! draws:
+//! other one from the first store of one of its buckets on. That store takes the memory for the
+//! segment, unless some is left that `Buckets::with_capacity` took before. A contract sees the row
+//! as the flat array of its entries. In this example the size is 4, the keys are 1 to 5, and all
+//! buckets but bucket 2 are stored. The list is in the order that `split_key` draws:
 //!
 //! ```text
 //!     buckets            list         bucket of the key
@@ -41,10 +41,10 @@
 //! before it (`Answers`), a refused call changes nothing, and no call changes the content of the
 //! list. A doubling changes only the size: no node moves.
 //!
-//! Calls take constant time and no memory unless they say otherwise. `Buckets::new` takes memory,
-//! `Buckets::init_link` for a new dummy, and `Buckets::init_store` for a new segment. `nearest`
-//! walks up the ancestors of a bucket, which are as many as it has 1 bits; `init_seek` walks the
-//! list from the parent's dummy.
+//! Calls take constant time and no memory unless they say otherwise. `Buckets::new` and
+//! `Buckets::with_capacity` take memory, and so may `Buckets::init_link`, for a new dummy, and
+//! `Buckets::init_store`, for a new segment. `nearest` walks up the ancestors of a bucket, which
+//! are as many as it has 1 bits; `init_seek` walks the list from the parent's dummy.
 #![tactic(auto)]
 
 mod answer;

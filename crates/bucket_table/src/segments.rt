@@ -100,8 +100,8 @@ impl Segments {
         Ok(entries)
     }
 
-    /// The entries of this number of buckets, none of them stored. Takes memory for the row, and for
-    /// the segments of the first `room` buckets.
+    /// The entries of this number of buckets, none of them stored. Takes memory for the row, and
+    /// for the segments of the first `room` buckets.
     fn empty(alloc: Global, limit: u32, room: usize) -> Result<Self, AllocError>
         ensures { IfOk result (λ entries. entries ≡ replicate limit None) }
     {
@@ -153,8 +153,8 @@ impl Segments {
     }
 }
 
-/// Stores a dummy at a place of a segment. A missing segment is made first, in memory that was taken
-/// before if there is some.
+/// Stores a dummy at a place of a segment. A missing segment is made first, in memory that was
+/// taken before if there is some.
 fn put(
     alloc: Global,
     spares: &mut Vec<Vec<PackedRef>>,

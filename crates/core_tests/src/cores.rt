@@ -433,8 +433,7 @@ fn large_core(rt: &impl Abort, alloc: Global) -> Core {
     core_with(rt, alloc, limits_of(rt, 1, 64, 65_536))
 }
 
-/// Caller 0 takes back the newest of this number of changes, each of a key of its number: those
-/// before it are left.
+/// Caller 0 takes back its newest change, the put of `key`: the lower keys are left.
 fn undo_newest(rt: &impl Abort, alloc: Global, core: &mut Core, key: u64) -> Result<(), Fail> {
     step_is(rt, core, Step::Seek(0), Answer::Placed)?;
     step_is(rt, core, Step::Act(0), Answer::Undone)?;

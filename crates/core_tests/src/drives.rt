@@ -330,7 +330,7 @@ const TO_BUCKET_3: &[Turns] = &[
     Turns::One(Step::InitSeek(0, 3), Answer::Ready),
 ];
 
-/// No parent is missing on a helper's way.
+/// A helper initialises parents first, so "parent missing" is no answer to its seek.
 const LOST_HELP: &[Turns] = &[
     Turns::One(Step::Double(4), Answer::Light),
     Turns::One(

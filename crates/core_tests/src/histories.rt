@@ -254,7 +254,7 @@ const WITH_SAVEPOINTS: [Entry; 16] = [
     Entry::Leave(0, Some(2)),
 ];
 
-/// A history, an entry that replaces one of it, the number of stripes, and the verdict.
+/// A history, an entry that replaces one of its entries, the number of stripes, and the verdict.
 type Row = (&'static [Entry], Option<(usize, Entry)>, u64, Verdict);
 
 /// The verdicts if a Busy must name a holder of now.
@@ -583,9 +583,9 @@ fn is_fed(rt: &impl Abort, checker: &mut Checker, entry: &Entry) -> bool {
     false
 }
 
-/// Ends with a checker that has taken this number of entries and was refused memory for the next
-/// one: another entry in its place, which no caller may add and which needs no memory, is judged as
-/// the one after them.
+/// Ends with a checker that has taken `taken` entries and was refused memory for the next one. In
+/// its place the checker is fed an entry that no caller may add, which needs no memory: the verdict
+/// must name it as the entry after those taken.
 fn end_refused(rt: &impl Abort, alloc: Global, checker: &mut Checker, taken: usize) {
     assert!(rt; is_refused(alloc));
     assert!(rt; feed(rt, checker, &Entry::Undone(63)).is_ok());

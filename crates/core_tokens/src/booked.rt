@@ -60,8 +60,8 @@ impl<L: Ledger> Booked<L> {
         Booked::with_room(alloc, blank, limits, Room::default())
     }
 
-    /// `new`, and takes this room at once; if the memory for it is refused, history and table grow
-    /// as they are used.
+    /// Makes what `new` makes, and takes this room at once. If the memory for the room is refused,
+    /// history and table grow as they are used.
     ///
     /// # Errors
     ///
@@ -69,8 +69,8 @@ impl<L: Ledger> Booked<L> {
     ///
     /// # Cost
     ///
-    /// That of `new`, and the memory for the room: 32 bytes for an entry, 40 for a node. If the room
-    /// is written, time in proportion to it, and 4 bytes more for a node.
+    /// That of `new`, and the memory for the room: 32 bytes for an entry, 40 for a node. If the
+    /// room is written, time in proportion to it, and 4 bytes more for a node.
     pub fn with_room(
         alloc: Global,
         blank: Blank,

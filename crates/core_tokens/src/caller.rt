@@ -347,8 +347,8 @@ impl<L: Ledger, S: Side> Caller<L, S> {
     /// has ended its transaction. `seen` is unchanged, and so is the side value after any other end
     /// than that of a begin, a commit, an abort, a save, a return or an operation that was busy.
     ///
-    /// It is for the end that the last hold of a call has answered. After another end side value
-    /// and rights are not what the token's entries say.
+    /// Pass the end that the last hold of the call has answered: after any other end, side value
+    /// and rights do not agree with the token's entries.
     ///
     /// # Cost
     ///

@@ -66,7 +66,7 @@ impl Claims {
         }
     }
 
-    /// Tries the word of the stripe of an operation's key, unless its right is here.
+    /// Tries the word of a stripe, unless the caller has the stripe's right.
     ///
     /// # Errors
     ///

@@ -1,7 +1,8 @@
 //! The laws of holds: a function that does nothing, whose contract is about the holds of a call for
-//! help. Each clause is about one hold, so it serves those who take holds by hand too; from one to
-//! the next they carry a key's bucket, which the contract of `Caller::hold` cannot. They rely on
-//! `Held`, which that contract ensures, and in the last hold on a core that is `IsWhole`.
+//! help. Each clause is about one hold, so it also serves those who call `hold` themselves. From
+//! one hold to the next the clauses carry a key's bucket, which the contract of `Caller::hold`
+//! cannot do. They assume `Held`, which that contract ensures, and for the last hold that the core
+//! is `IsWhole`.
 ghost use Rattle.std.specs.Prelude.{◌≡◌, ◌%◌, ℕ, true, Some, None};
 ghost use Rattle.txn_drive.specs.declared.drive.Drive.{Drive};
 ghost use Rattle.txn_drive.specs.declared.«end».End.TheVariants.{Helped};
@@ -15,10 +16,11 @@ use undo_log::Side;
 
 /// A call for help ends well only after the bucket of its key is initialised.
 ///
-/// Its first hold, after which the core has some size, heads for the bucket that the key has at
-/// this size (`heads`), and each hold that does not end the call keeps to that (`stays`). If core
-/// and token are in step before the hold that ends it, the core has this bucket after it (`stored`,
-/// and `at_once` if that is the first hold).
+/// After its first hold the call heads for the bucket that the key has at the size that the core
+/// then has (`heads`), and each further hold that does not end the call keeps to this bucket
+/// (`stays`). If core and token are in step before the hold that ends the call, the bucket is
+/// stored after it (`stored`). If the first hold ends the call, the bucket is stored in any case
+/// (`at_once`).
 ///
 /// The contract is the law; the function does nothing.
 pub fn helped<S: Side>()

@@ -1,5 +1,5 @@
 //! A side value for callers that keep none, so that the calls of a caller are written once, for
-//! callers with and without one. It is of the tokens: `undo_log` has only the trait that it
+//! callers with and without one. It stands here, since `undo_log` has only the trait that it
 //! implements. Invariant: its four words are 0 before and after each job, so no return changes it.
 use undo_log::Side;
 

@@ -1,5 +1,5 @@
 //! Calls `visits`: four visitors put different values at the same key, all at once, and each gets
-//! the value that it put, which that crate proves. It also has the threads; here is only the call.
+//! the value that it put, as `visits` proves. The threads too are in that crate; here is the call.
 //! The answers are in the order of the visits, so the output is the same in each run.
 use boost_core::Core;
 use std::io;

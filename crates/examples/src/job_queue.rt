@@ -158,7 +158,7 @@ fn do_all<R: Threads + Wait + Sync>(rt: &R, alloc: Global) -> Result<Core, Refus
     }
 }
 
-/// The number of jobs that are finished, and how often a job was done.
+/// The number of jobs that are finished, and the count of jobs that were done.
 fn finished(alloc: Global, core: &Core) -> Result<(u64, u64), AllocError> {
     let mut jobs = 0u64;
     let mut count = 0u64;
@@ -172,7 +172,7 @@ fn finished(alloc: Global, core: &Core) -> Result<(u64, u64), AllocError> {
     Ok((jobs, count))
 }
 
-/// Prints how many jobs are finished and how often one was done.
+/// Prints how many jobs are finished, and whether as many were done.
 fn say<R: Print + AllocGlobal>(rt: &R, core: &Core) -> io::Result<()> {
     let (jobs, count) = finished(rt.alloc(), core)?;
     println!(rt;
@@ -181,7 +181,7 @@ fn say<R: Print + AllocGlobal>(rt: &R, core: &Core) -> io::Result<()> {
     )
 }
 
-/// Does all jobs, and prints how many are finished and how often one was done.
+/// Does all jobs, and prints how many are finished and whether as many were done.
 pub(crate) fn show<R: Threads + Wait + Sync + Print + AllocGlobal>(rt: &R) -> io::Result<()> {
     match do_all(rt, rt.alloc()) {
         Ok(core) => say(rt, &core),

@@ -2,8 +2,8 @@
 //! one map and take jobs from another, and runs the files of the folder `examples`. Before the
 //! output of each it prints a line with its name, or with the words of the call.
 //!
-//! The gate compares the output with the file `stdout`, which was written by hand. So the documents
-//! stay true of their examples. Nothing is promised of this program.
+//! The gate compares the output with the file `stdout`, which was written by hand. So what the
+//! pages say of the examples stays true. Nothing is promised of this program.
 #![tactic(auto)]
 
 mod call_audit;

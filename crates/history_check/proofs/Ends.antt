@@ -1,4 +1,5 @@
--- The judge of legal histories as one of those by any rule.
+-- The first bad entry and the verdict by the rules of legal histories are a case of those by any
+-- rule (`FirstBad`).
 use Rattle.std.proofs.Common.{◌≡◌, ℕ, ◌+◌, List, [], ◌∷◌, ◌++◌, length, refl, ap, sym, ◌∙◌, Some, None, Option}
 use Rattle.std.specs.Prelude.{◌↔◌}
 use Rattle.txn_words.specs.declared.entry.Entry.{Entry}

@@ -14,7 +14,7 @@ use Rattle.history_check.specs.declared.caller.Caller.{Caller}
 use Rattle.history_check.specs.declared.callers.Callers.{Callers}
 use Rattle.history_check.specs.Logs.{is_did, log_entered}
 
--- The phase of a caller that goes back to a level, or to none.
+-- The phase of a caller that goes back to a level, or, if there is none, to the end.
 abbrev pub goal_of : Option ℕ → Phase
 goal_of None = LeavingToEnd
 goal_of (Some level) = LeavingTo level
@@ -45,8 +45,8 @@ pub record Sits (h : List Entry) (c : ℕ) (caller : Caller) : Type 0 where
   pub log : log_of c h ≡ log_in caller
   pub begun : has_begun c h ≡ caller.has_begun
 
--- The callers have entered these entries, which have the right shape: each sits as its own make
--- it, and the counts are theirs.
+-- The callers have entered these entries, which have the right shape: each caller sits as its own
+-- entries make it, and the counts are those of all entries.
 pub record HaveEntered (h : List Entry) (callers : Callers) : Type 0 where
   pub shape : IsShaped h
   pub below : All (λ e. caller_of e < 64) h

@@ -148,7 +148,7 @@ impl Callers {
     ///
     /// # Cost
     ///
-    /// Constant time, spread over many calls.
+    /// Amortized constant time; may take memory.
     #[inline(always)]
     pub fn reserve(&mut self, entry: &Entry) -> Result<(), AllocError>
         requires { caller_of entry.now < 64 }

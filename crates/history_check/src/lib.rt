@@ -5,7 +5,7 @@
 //! transaction at a time, and each caller's entries follow the state table: `IsLegal` of
 //! `txn_trace`. In the usual terms these are serializability in the order of commits (which open
 //! transactions must have too), strict two-phase locking of stripes, and well-formed callers. The
-//! checker says which histories are legal, and of any other names the first entry that breaks a
+//! checker says whether a history is legal, and if it is not, names the first entry that breaks a
 //! rule. Whom a Busy may name is a parameter (`Holder`): a caller that holds the stripe now, or one
 //! that has begun a transaction before.
 //!

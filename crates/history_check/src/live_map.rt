@@ -17,7 +17,7 @@ use txn_trace::{Entry, Holder, Op, Phase};
 pub(crate) struct LiveMap {
     /// Whom a Busy may name.
     pub(crate) holder: Holder,
-    /// How many stripes the keys are shared out to.
+    /// The number of stripes.
     pub(crate) stripes: u64,
     /// The values of the keys.
     pub(crate) values: Values,

@@ -1,4 +1,4 @@
--- The lines that bytes are, and what they are as entries.
+-- The lines that bytes consist of, and the entries that the lines are.
 use Rattle.std.proofs.Common.{◌≡◌, ℕ, suc, ◌+◌, ◌-◌, ◌<◌, Bool, true, false, cond, nat_le, List, [], ◌∷◌, ◌++◌, length, take, drop, get_or, Option, Some, None, Result, Ok, Err, refl, sym, ap, ◌∙◌, append_assoc, append-nil, add-one, arith, take-append-drop, length-take-le, get_or-take, drop-cons, length-append, length-drop}
 use Rattle.std.specs.List.{position, position_or_len, onto_first}
 use Rattle.std.proofs.lemmas.Bool.{eqb-true, ltb-false}

@@ -15,8 +15,8 @@ abbrev pub basis_of : Bool → ℕ → ℕ → Basis
 basis_of true stripes version = Commits
 basis_of false stripes version = Locks stripes (holder_in version)
 
--- The verdict on the history that the bytes are: in the order of its commits, or by the locks of
--- the file's stripes.
+-- The verdict on the history that the bytes are: by the order of commits, or by the locks of the
+-- file's stripes.
 pub record IsJudgedFile (by_commits : Bool) (bytes : List ℕ) (outcome : Verdict) : Type 0 where
   pub stripes : ℕ
   pub history : List Entry
@@ -32,8 +32,7 @@ IsUnjudgedFile bytes Read = Unit {0}
 IsUnjudgedFile bytes (Line number fault) = ⊥
 IsUnjudgedFile bytes Write = ⊥
 
--- A property of the bytes that a reader had left, or of the first of them, one more than a file may
--- have.
+-- A property of the bytes that a reader had left, but at most one more than a file may have.
 abbrev pub OfFile : Option (List ℕ) → (List ℕ → Type 0) → Type 0
 OfFile remaining P = (bytes : List ℕ) × IfSome remaining (λ all. bytes ≡ take max_read all) × P bytes
 

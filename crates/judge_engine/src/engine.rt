@@ -1,7 +1,6 @@
 //! The commands of `judge` that answer a verdict, over a reader and a writer; the modules beside
-//! read, judge and write. Each makes the text of a verdict as a whole before it writes: so a fault
-//! before that leaves the output unchanged. `watch` has only a checker in memory, the others a
-//! file.
+//! read, judge and write. Each makes the whole text of a verdict before it writes, so an earlier
+//! fault leaves the output unchanged. `watch` has only a checker in memory, the others a file.
 ghost use Rattle.std.specs.Prelude.{IfOk, IfErr};
 ghost use Rattle.judge_engine.specs.Bases.{HasStripes};
 ghost use Rattle.judge_engine.specs.Files.{Checks, FailsToCheck, FailsToExplain};
@@ -22,8 +21,8 @@ use std::io::{Read, Write};
 ///
 /// A line is the array that an entry is in a history file of the newest version. Blank lines are
 /// passed over, and a last line without its line feed is read as a line. There may be any number of
-/// lines. Nothing is read after the bytes with the first bad entry, and no read is tried again after
-/// it failed. A write is tried again only if it was interrupted.
+/// lines. Nothing is read after the bytes with the first bad entry. A read that failed is not tried
+/// again. A write is tried again only if it was interrupted.
 ///
 /// # Errors
 ///
@@ -38,7 +37,7 @@ use std::io::{Read, Write};
 /// # Cost
 ///
 /// That of the checker for each entry, and time in proportion to the bytes; memory for the checker,
-/// and 64 kB.
+/// and 64 KB.
 pub fn watch<R: Read, W: Write>(
     alloc: Global,
     basis: Basis,
@@ -56,9 +55,9 @@ pub fn watch<R: Read, W: Write>(
     write_verdict(alloc, verdict, output)
 }
 
-/// Reads a history file to its end, judges the history, and writes the verdict as `watch` does: in
-/// the order of commits, or by the locks of the file's stripes. The answer is whether the history
-/// is legal.
+/// Reads a history file to its end, judges the history by the order of commits or by the locks of
+/// the file's stripes, and writes the verdict as `watch` does. The answer is whether the history is
+/// legal.
 ///
 /// At most 16,777,217 bytes are read. A read or a write is tried again only if it was interrupted.
 ///
@@ -106,8 +105,8 @@ pub fn check<R: Read + Drop, W: Write>(
 ///
 /// # Cost
 ///
-/// That of the checker for each entry, some times over, and time and memory in proportion to the
-/// file; for a file that is refused, that of `bad_file`.
+/// That of the checker for each entry, a few times, and time and memory in proportion to the file;
+/// for a file that is refused, that of `bad_file`.
 pub fn why<R: Read + Drop, W: Write>(
     alloc: Global,
     by_commits: bool,

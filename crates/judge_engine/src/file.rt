@@ -25,7 +25,7 @@ fn history_in(alloc: Global, bytes: Vec<u8>) -> Result<(u32, Vec<SmallEntry>, u6
     read_packed_history(alloc, &bytes)
 }
 
-/// The verdict on entries in the order of their commits.
+/// The verdict on entries by the order of commits.
 fn in_order_of_commits(alloc: Global, entries: &[SmallEntry]) -> Result<Verdict, AllocError>
     requires { All (λ entry. caller_of entry < 64) entries.now }
     ensures { IfOk result (IsVerdictBy bases.Commits entries.now) }
@@ -47,7 +47,7 @@ fn by_locks(
     history_check::check_packed(alloc, entries, stripes, holder)
 }
 
-/// The verdict on the history file that bytes are: in the order of commits, or by the locks of the
+/// The verdict on the history file that bytes are: by the order of commits, or by the locks of the
 /// file.
 ///
 /// # Errors
@@ -79,8 +79,7 @@ pub(crate) fn judge_file(alloc: Global, by_commits: bool, bytes: Vec<u8>) -> Res
 ///
 /// # Cost
 ///
-/// That of the checker for each entry, some times over, and time and memory in proportion to the
-/// bytes.
+/// That of the checker for each entry, a few times, and time and memory in proportion to the bytes.
 pub(crate) fn explain_file(
     alloc: Global,
     by_commits: bool,

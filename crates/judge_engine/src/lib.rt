@@ -7,9 +7,10 @@
 //!
 //! Proved: the verdict is that of the definitions (`specs/Files.antt`, `specs/Watching.antt`), and
 //! the outcomes are those of `script_outcomes` (`specs/Outcomes.antt`). At any fault but a failed
-//! write, `check`, `watch` and `tell_outcomes` write nothing. Other output of `why` is only tested.
+//! write, `check`, `watch` and `tell_outcomes` write nothing. What `why` writes beside the verdict
+//! is only tested.
 //!
-//! `watch` keeps a checker and a part of the input in memory; the others read whole files into it.
+//! `watch` keeps a checker and a part of the input in memory, and the others keep whole files.
 #![tactic(auto)]
 
 mod basis;

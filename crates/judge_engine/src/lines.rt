@@ -1,6 +1,6 @@
-//! The lines that lead to a bad entry: each part of a reason in words.
-//!
-//! The wording is tested and not proved. What the words say is the reason of `bad_entry`.
+//! The lines that lead to a bad entry: each part of a reason of `bad_entry`, in words. They are
+//! apart from `file`, since their wording is tested and not proved. A reason that lists entries
+//! takes a pass or two more over the history.
 ghost use Rattle.std.specs.Prelude.{◌<◌, IfSome};
 ghost use Rattle.std.specs.List.{All};
 ghost use Rattle.txn_words.specs.Kinds.{caller_of};
@@ -58,7 +58,7 @@ fn put_entry(
     write!(text, "  {index} {line}")
 }
 
-/// Whether an entry asks for a key, answers that, or takes a change of the key back.
+/// Whether an entry asks for a key, answers such a request, or takes back a change of the key.
 fn is_on(callers: &Callers, entry: Entry, key: u64) -> bool
     requires { caller_of entry < 64 }
 {

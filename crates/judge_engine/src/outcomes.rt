@@ -1,6 +1,6 @@
-//! The outcomes of a script file's scripts in a history file. Separate from the judges, since no
-//! rule of histories is checked here: the history need not be legal. All lines are made before the
-//! first is written, so memory is taken for both files and for the text.
+//! The outcomes of a script file's scripts in a history file. They are apart from the judges, since
+//! no rule of histories is checked here: the history need not be legal. All lines are made before
+//! the first is written, so memory is taken for both files and for the text.
 ghost use Rattle.std.specs.Prelude.{◌≡◌, ◌↔◌, ◌++◌, ◌<◌, true, Ok, IfOk, IfErr, OnOk, length, string_bytes};
 ghost use Rattle.txn_files.specs.HistoryFile.{history_of};
 ghost use Rattle.txn_files.specs.ScriptFile.{scripts_of};

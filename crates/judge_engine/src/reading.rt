@@ -16,13 +16,13 @@ use history_check::Verdict;
 use std::alloc::{AllocError, Global};
 use std::io::{ErrorKind, Read};
 
-/// How many bytes a read is asked for at most.
+/// The most bytes that one read asks for.
 const CHUNK: usize = 65_536;
 
 /// One byte more than a file may have.
 const MAX_READ: u64 = 16_777_217;
 
-/// The bytes that a reader has left, or the first of them, one more than a file may have.
+/// The bytes that a reader has left, but at most one more than a file may have.
 ///
 /// # Errors
 ///
@@ -53,8 +53,8 @@ fn buffer(alloc: Global) -> Result<Vec<u8>, AllocError>
     vec![in alloc; 0u8; CHUNK]
 }
 
-/// Hands a new watcher all that a reader gives, until there is a verdict. The buffer is that of the
-/// reads.
+/// Hands a new watcher all that a reader gives, until there is a verdict. `chunk` is the buffer of
+/// the reads.
 fn read_on<R: Read>(
     input: &mut R,
     watcher: &mut Watcher,
@@ -93,7 +93,7 @@ fn read_on<R: Read>(
 /// # Cost
 ///
 /// That of the judge for each entry, and time in proportion to the bytes; memory for the judge, and
-/// 64 kB.
+/// 64 KB.
 pub(crate) fn watch_lines<R: Read>(
     alloc: Global,
     basis: Basis,

@@ -142,7 +142,7 @@ impl Watcher {
     ///
     /// # Errors
     ///
-    /// `NoMemory` if memory is refused. Then it is of no use any more.
+    /// `NoMemory` if memory is refused. The watcher is of no use after that.
     ///
     /// # Cost
     ///
@@ -161,8 +161,8 @@ impl Watcher {
         self.hold(rest)
     }
 
-    /// The verdict so far, if no further byte can change it: an entry is bad. None if no
-    /// entry is bad, and no line is refused.
+    /// The verdict, if an entry is bad: no further byte can change it then. None if no entry is bad
+    /// and no line is refused.
     ///
     /// # Errors
     ///

@@ -1,6 +1,6 @@
 //! The reasons why a call of the program has no verdict or no outcomes, and the usage, which is
-//! printed for words that are no call. The engines have a fault type each and know no words; here
-//! the three are one type, with one line and one exit status for each value.
+//! printed for words that are no call. The engines have two fault types and know no words. Here
+//! both types and the usage error are one type, with one line and one exit status for each value.
 ghost use Rattle.std.specs.Prelude.{◌≡◌};
 ghost use Rattle.judge_line.specs.Failures.{message_of, status_of};
 ghost use Rattle.judge_line.specs.declared.failure.Failure.TheVariants as failures;
@@ -35,7 +35,7 @@ Example: judge check examples/checked.json";
 /// Why a call has no verdict, and no outcomes.
 #[derive(Clone, Copy, Debug, PartialEq, Eq)]
 pub enum Failure {
-    /// The words of the call are none that the program has.
+    /// The words are no call of the program.
     Usage,
     /// There is no verdict, for a fault of the input, of memory or of an output.
     Fault(Fault),

@@ -28,7 +28,7 @@ pub struct Ending {
     /// The exit status: 0 if all is well, 1 for an illegal history or a script that was given up,
     /// else that of the failure.
     pub status: u8,
-    /// Whether standard error took the whole message.
+    /// Whether standard error took the whole message; true if there is none.
     pub is_told: bool,
 }
 

@@ -1,6 +1,7 @@
 //! The command line of `judge`, by the rules of `clap`: the call that the words ask for, or that
 //! they ask for none. Numbers are tested here, so an engine can run each call (`IsReady`): `watch`
-//! has 1 to 4,096 locks. Each command is made and added by itself: the proof of `command` is short.
+//! has 1 to 4,096 locks. Each command is made and added separately, which keeps the proof of
+//! `command` short.
 ghost use Rattle.std.specs.Prelude.{◌≡◌, ◌⊎◌, false, Some, None, IfOk, IfErr, IfSome, codes, map, option_map};
 ghost use Rattle.std.specs.String.{string_bytes};
 ghost use Rattle.clap.specs.Words.{first_of, found_of, rows_of, rule_of};

@@ -12,7 +12,7 @@ abbrev pub packed : ℕ → Option ℕ → ℕ
 packed none None = none
 packed none (Some number) = number
 
--- To unpack a number and pack it again answers the number.
+-- A number that is unpacked and packed again is unchanged.
 pub packed_unpacked : (none number : ℕ) → packed none (unpacked none number) ≡ number
 packed_unpacked none number = elim (cases_eq number none) [
   | inl same ↦ rw (eq-eqb number none same) (sym same)

@@ -1,11 +1,12 @@
 //! The shared calls of a caller of a shared map.
 //!
 //! Each takes the turns of its call, each turn under one hold of the lock, and adds to the token's
-//! `seen` exactly the entries that it states. Before it takes the lock its token tests it:
-//! `refused_by` is the refusal that the token's entries determine, in the order that each call
+//! `seen` exactly the entries that its contract states. Before it takes the lock its token tests
+//! it: `refused_by` is the refusal that the token's entries determine, in the order that each call
 //! lists. A call that the token refuses leaves the token unchanged. If the core's answer is
 //! impossible by the token's state, the call ends with `OutOfStep`: the token is broken, `seen`
-//! keeps the entries that it had added, and `close` compares. Each call has the clauses
+//! keeps the entries that the call had added, and `close` compares them with the history. Each call
+//! has the clauses
 //! - `ok`: the entries that it has added, if it did what it was asked to do (`level` of `save`: its
 //!   answer);
 //! - `side`: its effect on the side value in that case;
@@ -144,7 +145,7 @@ impl<L: Ledger> SharedMap<L> {
     }
 
     /// Puts a value at a key if the value before is the one expected, `None` for a key that is not
-    /// there, and answers the value before. It is a change exactly if they are equal.
+    /// there, and answers the value before. The value is put exactly if these two are equal.
     ///
     /// # Errors
     ///
@@ -195,9 +196,8 @@ impl<L: Ledger> SharedMap<L> {
     ///   - `NotOpen`, `Leaving`, `OperationUnfinished` and `BadKey` (a key of 2^63 or more, if the
     ///     limits have half keys), the first that applies.
     ///   - Then `NoMemory` if memory is refused, for one more right, before any word is tried, or
-    ///     for the operation; `StampsUsedUp` if no stamp is left; `StaleWord` if by the core's
-    ///     record the word of the key's stripe does not say who holds it; and `OutOfStep`, which
-    ///     breaks the token.
+    ///     for the operation; `StaleWord` if by the core's record the word of the key's stripe does
+    ///     not say who holds it; and `OutOfStep`, which breaks the token.
     /// - `Busy` if the word of the key's stripe names another caller: the transaction is aborted,
     ///   with all its changes taken back and all its rights given back, and the side value has the
     ///   words that it had when the transaction began.
@@ -259,8 +259,8 @@ impl<L: Ledger> SharedMap<L> {
     /// - `OutOfStep` if the token is broken.
     /// - `NotOpen`, `Leaving`, `OperationUnfinished` and `NoSuchLevel`, the first that applies.
     /// - Then `NoMemory` if memory is refused, before anything is taken back, and `OutOfStep`,
-    ///   which breaks the token. The latter also if the side value has no such level, because a
-    ///   save was made by `hold`.
+    ///   which breaks the token. `OutOfStep` is also the answer if the side value has no such
+    ///   level, because a save was made by `hold`.
     ///
     /// # Cost
     ///
@@ -349,8 +349,8 @@ impl<L: Ledger> SharedMap<L> {
     ///
     /// # Errors
     ///
-    /// `Refused`, and the transaction, if there is one, is unchanged; buckets that are initialised
-    /// stay so:
+    /// `Refused`, and the transaction, if there is one, is unchanged; buckets that were initialised
+    /// before the refusal stay initialised:
     /// - `OutOfStep` if the token is broken.
     /// - `BadKey` for a key of 2^63 or more, if the limits have half keys.
     /// - Then `NoMemory` if memory is refused, `StampsUsedUp` if no stamp is left, and `OutOfStep`,

@@ -3,13 +3,13 @@
 //! - A *token*, `Caller` of `core_tokens`, is one caller. `SharedMap::new` makes a `Pass` for each
 //!   number, and a pass makes the token of its number, once. The calls are made on a `&SharedMap`
 //!   with a `&mut Caller`: `begin`, `put`, `put_if`, `take`, `get`, `save`, `back`, `commit`,
-//!   `abort` and `help`, any of which `run` takes by its value; and `side`.
+//!   `abort` and `help`; `run`, which makes any of these from a value of `Call`; and `side`.
 //! - Each *hold* of a token, one turn of a call, is one hold of the lock. So other callers take
 //!   their steps between any two turns, also while changes are taken back. The words of stripes are
 //!   tried, and rights given back, outside the lock.
-//! - Between two holds only the invariants of the core's type are known: what a token knows is
-//!   what `core_tokens` says. If the core's answer is impossible by that, the call ends with
-//!   `OutOfStep`, and so does every later call of the token.
+//! - Between two holds only the invariants of the core's type are known, and what a token knows by
+//!   `core_tokens`. If these exclude the core's answer, the call ends with `OutOfStep`, and so does
+//!   every later call of the token.
 //! - `SharedMap::close` takes all tokens back and compares: the history is legal, each caller's own
 //!   entries in it are its `seen`, and there are no others, since a ledger counts them. The lock's
 //!   value, `Booked`, holds the ledger's book, each token a share.

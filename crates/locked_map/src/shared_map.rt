@@ -71,8 +71,8 @@ impl<L: Ledger> SharedMap<L> {
         SharedMap::with_room(alloc, blank, limits, Room::default())
     }
 
-    /// `new`, and takes this room at once; if the memory for it is refused, history and table grow
-    /// as they are used.
+    /// Makes what `new` makes, and takes this room at once. If the memory for the room is refused,
+    /// history and table grow as they are used.
     ///
     /// # Errors
     ///
@@ -80,8 +80,8 @@ impl<L: Ledger> SharedMap<L> {
     ///
     /// # Cost
     ///
-    /// That of `new`, and the memory for the room: 32 bytes for an entry, 40 for a node. If the room
-    /// is written, time in proportion to it, and 4 bytes more for a node.
+    /// That of `new`, and the memory for the room: 32 bytes for an entry, 40 for a node. If the
+    /// room is written, time in proportion to it, and 4 bytes more for a node.
     pub fn with_room(
         alloc: Global,
         blank: Blank,
@@ -151,16 +151,16 @@ impl<L: Ledger> SharedMap<L> {
         unreachable!()
     }
 
-    /// Takes a call by its value, as `begin`, `put` and the others do by name, and tells `hears` of
-    /// each hold of the lock when it is over. Answers the end of the call.
+    /// Makes the call that `call` names, as the method of that name does, and tells `hears` of each
+    /// hold of the lock when it is over. Answers the end of the call.
     ///
     /// # Errors
     ///
-    /// The end is `Refused` or `Busy` if the call of that name answers so.
+    /// The end is `Refused` or `Busy` if the method of that name answers so.
     ///
     /// # Cost
     ///
-    /// That of the call of that name, and one `on_release` for each hold.
+    /// That of the method of that name, and one `on_release` for each hold.
     pub fn run<S: Side, H: OnRelease, R: Wait>(
         &self,
         rt: &R,
@@ -178,7 +178,7 @@ impl<L: Ledger> SharedMap<L> {
         end
     }
 
-    /// Takes a call by its value, and answers its end as the public calls do.
+    /// Makes a call, and answers its end as the public calls do.
     pub(crate) fn call<S: Side, R: Wait>(
         &self,
         rt: &R,

@@ -44,7 +44,7 @@ map_of rows = fold (λ m pair. insert m pair.0 pair.1) empty rows
 abbrev pub regular : TableAt → List (ℕ × ℕ)
 regular t = pairs t.list.nodes
 
--- The map of these pairs.
+-- The content: the map of the pairs of `regular`.
 abbrev pub content : TableAt → Map
 content t = map_of (regular t)
 

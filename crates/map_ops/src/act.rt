@@ -1,6 +1,6 @@
 //! The answers of `act` and `undo`: done, or the cursor no longer fits, with the argument returned.
 //! Both are enums, so that a value that owns a spare cannot be lost when the cursor does not fit.
-//! None can be copied: until a spare is used it has one owner, an operation or a job.
+//! Neither can be copied: until a spare is used it has one owner, an operation or a job.
 use crate::job::MapJob;
 use crate::pending::Pending;
 use txn_words::Reply;

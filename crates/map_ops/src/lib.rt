@@ -20,8 +20,8 @@
 //! - All other calls leave the content and the list of pairs unchanged.
 //!
 //! A prepared operation owns the node that it may need, and a take passes it on to its job. So only
-//! `new`, `prepare`, `apply`, `init_link`, `init_store`, `content` and `regular_list` take memory,
-//! and taking a change back needs none.
+//! `new`, `with_capacity`, `prepare`, `apply`, `init_link`, `init_store`, `content` and
+//! `regular_list` take memory, and taking a change back needs none.
 //!
 //! `place` and `place_job` walk from the nearest initialised dummy to the key's position, and so do
 //! `apply` and `take_back`, which contain them; `init_seek` walks from the dummy of the bucket's

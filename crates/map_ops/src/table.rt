@@ -73,10 +73,11 @@ impl Table {
         Table::with_capacity(alloc, max, callers, 0, false)
     }
 
-    /// `new`, and takes the memory for this many nodes at once, so that the list need not grow while
-    /// they come. There is a node for each key, for each key that is taken and not yet swept, and
-    /// for each stored bucket. If that memory is to be written, the memory for the entries of as
-    /// many buckets is taken too, and no later node or bucket is the first to touch a page.
+    /// A table as `new` makes it, with memory for this many nodes taken at once, so that the list
+    /// need not grow while they are added. There is a node for each key, for each key that is taken
+    /// and not yet swept, and for each stored bucket. If that memory is to be written, the memory
+    /// for the entries of as many buckets is taken too, and no later node or bucket is the first to
+    /// touch a page.
     ///
     /// # Errors
     ///
@@ -149,9 +150,9 @@ impl Table {
     /// that takes the change back. A put that is made links one node or writes one value, a take
     /// marks one node, and an operation that is no change writes nothing. No node is unlinked.
     ///
-    /// The answer is `Again` exactly if the cursor no longer fits; it always fits while the change
-    /// number is still the cursor's and below 2^64 - 1. Then nothing has changed, and the operation
-    /// is returned.
+    /// The answer is `Again` exactly if the cursor no longer fits. Then nothing has changed, and
+    /// the operation is returned. The cursor always fits while the change number is still the one
+    /// that it noted, and below 2^64 - 1.
     #[inline(always)]
     pub fn act(&mut self, pending: Pending, cursor: Cursor) -> Act
         requires placed { IsPlaced self.old cursor (key_of pending.op) }
@@ -347,8 +348,8 @@ impl Table {
     ///
     /// # Cost
     ///
-    /// Time in proportion to the nodes from there to the first marked one, and constant time if none
-    /// is marked.
+    /// Time in proportion to the nodes from there to the first marked one; constant time if none is
+    /// marked.
     pub fn sweep(&mut self) -> SweepOutcome
         ensures clean { (result ≡ SweepOutcome.Clean) ↔ IsClean self.old }
         ensures sweeps { Sweeps self.old self.new result }

@@ -12,7 +12,7 @@ abbrev pub packed : Option ℕ → ℕ
 packed None = 2 ^ 32 - 1
 packed (Some place) = place
 
--- To unpack a number and pack it again answers the number.
+-- A number that is unpacked and packed again is unchanged.
 pub packed_unpacked : (number : ℕ) → packed (unpacked number) ≡ number
 packed_unpacked number = elim (cases_eq number (2 ^ 32 - 1)) [
   | inl same ↦ rw (eq-eqb number (2 ^ 32 - 1) same) (sym same)

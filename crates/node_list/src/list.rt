@@ -75,8 +75,9 @@ impl NodeList {
         NodeList::with_capacity(alloc, first_stamp, 0, false)
     }
 
-    /// `new`, and takes the memory for this many nodes at once, so that the list need not grow while
-    /// they come. If that memory is to be written, no later node is the first to touch a page of it.
+    /// A list as `new` makes it, with memory for this many nodes taken at once, so that it need not
+    /// grow while they are added. If that memory is to be written, no later node is the first to
+    /// touch a page of it.
     ///
     /// # Errors
     ///
@@ -122,7 +123,7 @@ impl NodeList {
     /// # Errors
     ///
     /// `Worn` exactly if the last stamp was 2^64 - 2; else `NoMemory` if memory is refused, or all
-    /// of 2^32 - 1 places are in use. Either leaves the list unchanged.
+    /// 2^32 - 1 places are in use. Either leaves the list unchanged.
     ///
     /// # Cost
     ///

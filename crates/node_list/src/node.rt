@@ -15,12 +15,12 @@ use std::mem::size_of;
 pub enum Kind {
     /// The beginning of a bucket.
     Dummy,
-    /// An entry of the table.
+    /// A key with its value.
     Regular,
 }
 
 impl Kind {
-    /// The count of a new node of this kind.
+    /// What a new node of this kind adds to the list's count: 1 if it is regular, else 0.
     pub(crate) fn weight(self) -> u64
         ensures { result ≡ (if is_regular self then 1 else 0) }
     {

@@ -68,7 +68,7 @@ impl Model for Unfilled {
 pub enum SpareFault {
     /// The last stamp that was given is 2^64 - 2: the stamps are used up.
     Worn,
-    /// A growth of the slab was refused, or all of 2^32 - 1 places are in use.
+    /// Memory for the slab to grow was refused, or all 2^32 - 1 places are in use.
     NoMemory,
 }
 

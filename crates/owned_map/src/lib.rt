@@ -19,24 +19,24 @@
 //!
 //! Proved, each by the contract of a public call:
 //!
-//! - An operation of a transaction answers what the map has and leaves the map that it makes
-//!   (`HasDone`), or is stopped and leaves the map unchanged.
-//! - `transact` answers `Ok` if one run of the work stays, with one Committed entry more, the
-//!   caller's (`IsRun`). If it answers `Err`, the map is unchanged and nothing was committed
-//!   (`IsSameMap`). Either way no other caller's entries change.
+//! - An operation of a transaction has the map's reply and its effect on the map (`HasDone`), or is
+//!   stopped and leaves the map unchanged.
+//! - If `transact` answers `Ok`, one run of the work was committed: there is one Committed entry
+//!   more, the caller's (`IsRun`). If it answers `Err`, the map is unchanged and nothing was
+//!   committed (`IsSameMap`). Either way no other caller's entries change.
 //! - A transaction that is dropped is aborted: at every `?` and every early return its changes are
 //!   taken back and its stripes given back (`IsTakenBack`). `commit` and `abort` take it by value,
 //!   so it cannot be used afterwards.
-//! - The table grows by itself, by at most a bucket with each new key, and no growth changes the
-//! history. If memory is refused to it, the table is unchanged.
+//! - The table grows by itself, by at most a bucket with each operation whose key was absent. No
+//!   growth changes the history (`IsGrown`). One that is refused memory initialises no bucket.
 //!
 //! One definition, `Keeps`, says what every call of a work keeps: it is still the same transaction,
 //! and it went on. `proofs/Calls.antt` has `keeps_stay` and `keeps_on`, by which the check joins
 //! the calls of a work.
 //!
-//! An operation costs what it costs on the core; a put of a new key adds at most four steps of the
-//! table. The boosted transactions are those of Herlihy and Koskinen (PPoPP 2008), the growing
-//! table that of Shalev and Shavit (Journal of the ACM 53(3), 2006).
+//! An operation costs what it costs on the core; if its key was absent, growth adds at most four
+//! steps of the table. The boosted transactions are those of Herlihy and Koskinen (PPoPP 2008), the
+//! growing table that of Shalev and Shavit (Journal of the ACM 53(3), 2006).
 #![tactic(auto)]
 
 mod owned_map;

@@ -1,8 +1,8 @@
 //! The map: a core, how far its table has grown, and the calls that need both.
 //!
 //! The calls of a transaction are made here for a caller, with contracts about states; those of
-//! `Transaction` are over them. Every bucket below `grown` is initialised, unless memory was
-//! refused.
+//! `Transaction` are over them. `grown` rises only when the bucket of that number was stored, so
+//! every bucket below it is initialised; no contract says so.
 ghost use Rattle.std.specs.Prelude.{◌≡◌, ◌==◌, true, false, ℕ, ◌⊎◌, IfOk, IfErr, OnOk, OnErr, Ok, Err};
 ghost use Rattle.txn_words.specs.Map.{count_of};
 ghost use Rattle.txn_trace.specs.Now.{now};
@@ -115,7 +115,7 @@ impl OwnedMap {
         }
     }
 
-    /// Does an operation, and grows the table if the key was not there and that is due.
+    /// Does an operation, and then grows the table if the key was absent and growth is due.
     #[tactic(auto, using(crate::proofs::Savepoints::keeps_operated, crate::proofs::Savepoints::keeps_grown))]
     pub(crate) fn operate(&mut self, caller: u64, op: Op) -> Result<Reply, Stop>
         ensures goes_on { GoesOn caller self.old.core self.new.core }
@@ -271,8 +271,8 @@ impl OwnedMap {
     }
 
     /// Runs the work in a transaction of a caller, and commits it. If the work answers an error,
-    /// the transaction is aborted and the error is returned. So the work takes everything back by
-    /// an error of its own type.
+    /// the transaction is aborted and the error is returned. So, to take everything back, the work
+    /// answers an error of its own type.
     ///
     /// # Errors
     ///

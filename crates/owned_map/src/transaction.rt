@@ -37,12 +37,14 @@ impl Transaction<'_> {
     /// - `Busy` if another caller's open transaction holds the key's stripe. This transaction can
     ///   then only be aborted: every further operation is refused as `Leaving`.
     /// - `Refused` with `BadKey` if the limits have half keys and the key is 2^63 or more, with
-    ///   `NoMemory`, or with `Leaving` after a `Busy`. Otherwise the transaction can go on.
+    ///   `NoMemory`, or with `Leaving` after a `Busy`. After `BadKey` or `NoMemory` the transaction
+    ///   can go on.
     ///
     /// # Cost
     ///
-    /// Time in proportion to the nodes from the nearest initialised bucket to the key's place; may
-    /// take memory for the history.
+    /// Time in proportion to the nodes from the nearest initialised bucket to the key's position,
+    /// and up to four steps of the table if the key is absent and growth is due; may take memory
+    /// for the history and for the growth.
     pub fn get(&mut self, key: u64) -> Result<Reply, Stop>
         ensures keeps { Keeps self.old self.new }
         ensures savepoints { KeepsSavepoints self.old.caller
@@ -84,8 +86,8 @@ impl Transaction<'_> {
         Ok(self.get(key)?.is_some())
     }
 
-    /// Puts a value at a key, and answers the value before. If the key is new, the table grows by a
-    /// bucket, if that is due.
+    /// Puts a value at a key, and answers the value before. If the key is new and growth is due,
+    /// the table grows by a bucket.
     ///
     /// # Errors
     ///
@@ -93,8 +95,7 @@ impl Transaction<'_> {
     ///
     /// # Cost
     ///
-    /// That of `get`, and up to four steps of the table for a new key; may also take memory for a
-    /// node and for the log.
+    /// That of `get`; may also take memory for a node and for the log.
     pub fn put(&mut self, key: u64, value: u64) -> Result<Reply, Stop>
         ensures keeps { Keeps self.old self.new }
         ensures savepoints { KeepsSavepoints self.old.caller

@@ -1,4 +1,5 @@
--- Bytes in plain form, as the reader of JSON reads them: white space, commas and brackets, elements, keys, and what they make together.
+-- Bytes in plain form, as the reader of JSON reads them: white space, commas and brackets, elements
+-- and keys, and the arrays and objects that they make together.
 use Rattle.std.proofs.Common.{◌≡◌, ℕ, suc, ◌+◌, ◌-◌, ◌^◌, ◌<◌, ◌≤◌, Bool, true, false, cond, List, [], ◌∷◌, ◌++◌, length, take, drop, get_or, map, Some, None, option_map, inl, inr, refl, sym, ap, ap₂, subst, ◌∙◌, add-one, append_assoc, append-nil, arith, drop-cons, take-append-drop}
 use Rattle.std.specs.Prelude.{Option, IfSome, option_and_then, ◌==◌, ◌||◌}
 use Rattle.std.specs.Char.{is_ascii_digit}

@@ -39,7 +39,7 @@ one_of ds = do
   n ← number_at ds
   if length n.1 == 0 then Some n.0 else None
 
--- Nothing else.
+-- No element is left.
 unfoldable pub end_of : List Data → Option ⊤
 end_of ds = if length ds == 0 then Some tt else None
 

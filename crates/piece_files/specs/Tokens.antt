@@ -50,7 +50,8 @@ abbrev pub IsPlain : Option Plain → Data → Type 0
 IsPlain (Some v) d = (data_of v ≡ d) × (is_plain d ≡ true)
 IsPlain None d = is_plain d ≡ false
 
--- Whether the elements are no more than the number and all plain; these are they then.
+-- Whether the elements are no more than the number and all plain; if so, the values are the
+-- elements.
 abbrev pub AreElements : ℕ → Bool → List Plain → List Data → Type 0
 AreElements most true vs ds = (map data_of vs ≡ ds) × (are_plain most ds ≡ true)
 AreElements most false vs ds = are_plain most ds ≡ false

@@ -71,8 +71,8 @@ pub fn end_in(values: &[Plain<'_>]) -> Option<()>
     if values.is_empty() { Some(()) } else { None }
 }
 
-/// The first element, which is a whole number below 2^64, or `null`, which is none within; and the
-/// elements after it. None if there is no element, or the first is another.
+/// The first element, which is a whole number below 2^64, or `null`, which is read as `None`; and
+/// the elements after it. None if there is no element, or the first is another.
 ///
 /// # Cost
 ///
@@ -92,8 +92,8 @@ pub fn leading_optional_in<'v, 'a>(
     }
 }
 
-/// The one element: a whole number below 2^64, or `null`, which is none within. None if there is no
-/// element, another one, or more than one.
+/// The one element: a whole number below 2^64, or `null`, which is `Some(None)`. None if there is
+/// no element, another one, or more than one.
 ///
 /// # Cost
 ///
@@ -106,8 +106,8 @@ pub fn optional_in(values: &[Plain<'_>]) -> Option<Option<u64>>
     if rest.is_empty() { Some(value) } else { None }
 }
 
-/// The two elements, which are whole numbers below 2^64, in their order. None if there are not
-/// two of these, and nothing else.
+/// The two elements, which are whole numbers below 2^64, in their order. None if the elements are
+/// not exactly two such numbers.
 ///
 /// # Cost
 ///

@@ -108,8 +108,9 @@ fn contents_found<K: PieceKind, const N: usize>(
 ///
 /// # Cost
 ///
-/// Time in proportion to the bytes, if that of `K::read` and `K::is_old` is so; memory for the
-/// pieces, and for the longest text in the file that is written with escapes.
+/// Time in proportion to the bytes, if that of `K::read`, `K::read_plain` and `K::is_old` is so;
+/// memory for the pieces. A file that is not in plain form also takes scratch memory of its whole
+/// length.
 pub fn read_file<'n, K: PieceKind, const N: usize>(
     alloc: Global,
     bytes: &[u8],

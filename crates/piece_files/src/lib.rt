@@ -10,15 +10,16 @@
 //! they begin with. What bytes, tokens and numbers mean as JSON is what `json` and `serde_json`
 //! say.
 //!
-//! A file in plain form, as most are written, is read straight from its bytes: no escapes, numbers
-//! of at most 19 digits, only pieces that the kind has, and white space anywhere between. The
-//! reader of JSON makes an index of the text as it goes, so it reads only what has another form,
-//! from the start (`members.rt`). `specs/PlainBytes.antt` says what tokens bytes in plain form are.
+//! A file in plain form, as most are written, is read straight from its bytes. Plain form has no
+//! escapes, numbers of at most 19 digits, only pieces that the kind has, and white space anywhere
+//! between. A file in any other form is read from its start by the reader of JSON, which makes an
+//! index of the text as it goes, and takes scratch memory of the text's length (`members.rt`).
+//! `specs/PlainBytes.antt` says what tokens bytes in plain form are.
 //!
 //! Promised: `read_file` computes that function, or says that memory was refused. A text is read
 //! once, or twice if it has no plain form, in time proportional to its length. What is passed over
-//! is tested to be JSON, and nothing of it is kept; of the pieces no more are kept than a file may
-//! have, and the others counted.
+//! is tested to be JSON, and nothing of it is kept; no more pieces are kept than a file may have,
+//! and the others are only counted.
 #![tactic(auto)]
 
 mod elements;

@@ -34,7 +34,7 @@ fn few_digits_in(bytes: &[u8]) -> Option<u64>
     Some(number)
 }
 
-/// A number that is no whole number below 2^64, if it is in range: no number within.
+/// `Some(None)` if a number that is no whole number below 2^64 is in range of a float, else `None`.
 #[cold]
 #[inline(never)]
 fn float_in(is_negative: bool, bytes: &[u8]) -> Option<Option<u64>>
@@ -72,8 +72,8 @@ fn negative_in(bytes: &[u8]) -> Option<Option<u64>>
     float_in(true, bytes)
 }
 
-/// The number that a number's text is: none if no number in range, and none within if it has
-/// a sign, a fraction or an exponent, or is 2^64 or more.
+/// The number that a number's text is: `None` if it is out of range of a float, `Some(None)` if it
+/// has a sign, a fraction or an exponent, or is 2^64 or more.
 #[inline(always)]
 pub(crate) fn number_in_text(text: &str) -> Option<Option<u64>>
     ensures { result ≡ option_map as_u64 (number_of text.now) }

@@ -53,7 +53,8 @@ pub trait PieceKind {
     fn is_old(piece: &Self::Piece) -> bool
         ensures { result ≡ is_old piece.now };
 
-    /// How many pieces a file may have. No more are kept, the others only counted. Constant time.
+    /// How many pieces a file may have. No more are kept; the others are only counted. Constant
+    /// time.
     fn most() -> usize
         ensures { result ≡ most };
 
@@ -158,7 +159,7 @@ fn piece_in<K: PieceKind>(
     }
 }
 
-/// One more. Memory gives out long before the numbers do.
+/// The count plus one, or `NoMemory` if that is 2^64: memory is used up long before.
 fn next_count(count: usize) -> Result<usize, Stop>
     ensures { MatchResult result
         (λ next. (next ≡ count + 1) × (next < 2 ^ 64))

@@ -1,7 +1,8 @@
 //! JSON in plain form, read straight from its bytes: white space, commas and brackets, keys, and
-//! plain values; a text has no escapes, and a number at most 19 digits. The reader of JSON makes an
-//! index of the whole text first, which costs more than all else. It reads what has another form:
-//! each function here answers none, or that nothing is there, if it meets any.
+//! plain values; a text has no escapes, and a number at most 19 digits. No index is made; the
+//! reader of JSON makes one, of 4,096 bytes of the text at a time. If a function here meets any
+//! other form, it answers none, or that nothing is there; such a text is left to the reader of
+//! JSON.
 ghost use Rattle.std.specs.Prelude.{◌≡◌, ◌+◌, ◌∷◌, ◌<◌, ◌≤◌, [], ℕ, true, length, take, drop, get_or, IfSome};
 ghost use Rattle.std.specs.List.{All};
 ghost use Rattle.std.specs.Str.Parse.{AllDigits, digits_value};

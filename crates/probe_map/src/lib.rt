@@ -6,9 +6,9 @@
 //!
 //! A probe for a key begins at the key's home, which is a hash of the key. It goes over the slots
 //! one by one, with the first slot after the last, and stops at a slot that is empty or has the
-//! key. A key that is removed keeps its slot, without a value. So no probe is cut short, and the
-//! key can be put again without room. If there is no room, `reserve` lays the keys with values into
-//! a new array, and drops the removed ones.
+//! key. A key that is removed keeps its slot, without a value. So no probe is cut short. An
+//! `insert` needs room for its key, also for one that was removed. If there is no room, `reserve`
+//! lays the keys with values into a new array, and drops the removed ones.
 //!
 //! A contract sees a map as its `content`, a finite map, and `spare`, the number of new keys that
 //! it has room for. The invariant is `IsTable` in `specs/Slots.antt`.

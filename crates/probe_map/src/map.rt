@@ -12,9 +12,9 @@ use crate::slot::Slot;
 use std::alloc::{AllocError, Global};
 use std::marker::Model;
 
-/// A map of fewer keys than this grows by four, which moves a third as many keys as growth by two.
-/// A larger one grows by two, since an array of four times the size would leave too much memory
-/// unused.
+/// A map of fewer keys than this grows to four times its size, which moves a third as many keys as
+/// doubling. A larger one doubles, since an array of four times the size would leave too much
+/// memory unused.
 const FEW: usize = 1024;
 
 /// A map from whole numbers to whole numbers.
@@ -61,8 +61,8 @@ fn count_for(keys: usize) -> Option<usize>
         .checked_next_power_of_two()
 }
 
-/// The number of keys for which a map that grows is made again, so that at most half of its slots
-/// have a key at first, and of a map of few keys at most a quarter.
+/// The number of keys for which the new array of a map that grows is made, so that at most half of
+/// its slots have a key at first, and of a map of few keys at most a quarter.
 fn grown(len: usize, more: usize) -> Option<usize>
     ensures { IfSome result (λ keys. len + more ≤ keys) }
 {

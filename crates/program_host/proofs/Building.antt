@@ -13,7 +13,7 @@ added old sub new a b had has adds = (
   adds.globals ∙ or_from _ _ had.1 has.1,
 )
 
--- A command with one argument more, which is its own.
+-- A command with one argument more, which is not global.
 pub with_word : (old : Command) (arg : Arg) (new : Command) (app : App) (rule : Rule) → Has old app → rule_of arg ≡ rule → arg.global ≡ false → AddsArg old arg new → Has new (with_rule app rule)
 with_word old arg new app rule had is local adds = (
   adds.shape local ∙ ap₂ with_rule had.0 is,

@@ -87,8 +87,9 @@ fn faults_of_files(rt: HostRuntime) -> Result<(), Fail> {
     Ok(())
 }
 
-/// A file that grows: its kind and its frame, and the content of the gap `#` of that: a number of
-/// times the first text, then the second, and then as many times the third. And its fault.
+/// A file that grows: its kind, its frame, what fills the gap `#` of the frame, and its fault. The
+/// gap has the first text this number of times, then the second text, and then the third as often
+/// as the first.
 type Grown = (
     Kind,
     &'static str,

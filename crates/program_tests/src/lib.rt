@@ -4,7 +4,7 @@
 //!
 //! They are a separate crate, since a crate with tests is proved twice. Each call of a tested crate
 //! is in a small function without a contract, and the tests go over tables only through those
-//! functions: so their proofs are short.
+//! functions, which keeps their proofs short.
 #![tactic(auto)]
 
 #[cfg(test)]

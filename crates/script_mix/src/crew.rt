@@ -44,9 +44,8 @@ pub(crate) fn live_numbers(alloc: Global, workers: &[Worker]) -> Result<Vec<usiz
     Ok(numbers)
 }
 
-/// Draws a place in the list of live workers, or answers `None` if it is empty.
-///
-/// Draws a number below the number of such workers, even if there is only one.
+/// Draws a place in the list of live workers, even if it has only one. Answers `None` if the list
+/// is empty.
 pub(crate) fn draw_place(generator: &mut Pcg32, live: &[usize]) -> Option<usize>
     ensures below { IfSome result (λ place. place < length live.now) }
     ensures drawn { IfSome result (λ place.

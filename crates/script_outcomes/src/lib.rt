@@ -20,8 +20,8 @@
 //!
 //! Only tested: each script of a run that aborts itself is called aborted.
 //!
-//! Takes one pass over the history and one over the scripts: a transaction that has ended is
-//! compared with scripts until one fits, and no script is compared again.
+//! Takes one pass over the history. A transaction that has ended is compared with scripts until one
+//! fits; no script is compared with two commits or with two aborts, but no contract promises that.
 #![tactic(auto)]
 
 mod assigning;

@@ -19,8 +19,8 @@ use Rattle.script_worker.proofs.Accounts.{account_more}
 use Rattle.script_worker.proofs.Chunks.{chunk_quiet}
 use Rattle.script_worker.proofs.Every.{get-every}
 
--- The entries of a worker are the accounts of its scripts. Those of a script that is not over commit
--- nothing, as if it had aborted.
+-- The entries of a worker are the accounts of its scripts. Those of a script that is not over
+-- commit nothing, as if it had aborted.
 module _ (tries workers : ℕ) (scripts : List (List Action)) (w : ℕ) (below : w < workers) where
   open_quiet : (task : Task) (o : Option Step) → step_of task.drive ≡ o → is_some o ≡ true → CommitNothing (made task.drive)
   open_quiet task None is some = absurd (cc some)

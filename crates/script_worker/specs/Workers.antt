@@ -73,13 +73,13 @@ abbrev pub finish_of : Progress → Option Finish
 finish_of (Next attempt) = None
 finish_of (Over finish) = Some finish
 
--- How the script of a task is over, if it is with this end of the call.
+-- How the script of a task is over, if this end of the call ends it.
 abbrev pub finish_at : List (List Action) → ℕ → Task → End → Option Finish
 finish_at scripts tries task outcome =
     option_and_then (λ script. finish_of (progress_of script tries task.attempt outcome))
     (slice_get scripts task.script)
 
--- How the task's script is over, if it is with the end of its call.
+-- How the task's script is over, if the end of its call ends it.
 abbrev pub finish_by : List (List Action) → ℕ → Option Task → Option Finish
 finish_by scripts tries None = None
 finish_by scripts tries (Some task) =

@@ -93,8 +93,9 @@ impl Attempt {
     /// The progress after the call that `call` names, by its end.
     ///
     /// A script that found a stripe held is attempted again if fewer than `tries` attempts were
-    /// repeated. After a refusal of an operation, a savepoint, a return or help the transaction is
-    /// aborted; every other refusal, and `OutOfStep` of any call, ends the script at once.
+    /// made before this one. After a refusal of an operation, a savepoint, a return or help the
+    /// transaction is aborted; every other refusal, and `OutOfStep` of any call, ends the script at
+    /// once.
     pub fn progress(self, script: &[PackedAction], tries: u64, end: End) -> Progress
         ensures { result ≡ progress_of script.now tries self end }
     {

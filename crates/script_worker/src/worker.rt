@@ -76,7 +76,7 @@ impl Worker {
         self.task
     }
 
-    /// Whether the worker has a step to take: it has until the last step of its last script.
+    /// Whether the worker has a step to take: it has one until the last step of its last script.
     pub fn is_live(&self) -> bool
         ensures step { result ≡ is_some (step_by self.now) }
         ensures script { result ≡ is_some self.now.task }

@@ -40,8 +40,8 @@ pub record Keeps (h : List Entry) (commits : Commits) : Type 0 where
 abbrev pub Stays : Commits → Commits → Type 0
 Stays old new = (h : List Entry) → Keeps h old → Keeps h new
 
--- After a history the answer says whether the transaction that an entry commits, if it commits one,
--- has right replies; if it does, or commits none, the new ones keep one more entry.
+-- After a history: the answer says whether an entry commits no transaction or one with right
+-- replies; if so, the new commits keep one more entry.
 pub record JudgesAt (h : List Entry) (e : Entry) (right : Bool) (new : Commits) : Type 0 where
   pub right_is : commits_right h e ≡ right
   pub keeps : right ≡ true → Keeps (h ++ e ∷ []) new

@@ -126,12 +126,12 @@ impl Checker {
         self.state.commits.values.get(&key).copied()
     }
 
-    /// A key at which the open transaction of a caller, which is below 64, read a value that is not
-    /// the committed one, as long as no entry is bad. If its Committed were next, it would be bad
-    /// for that.
+    /// A key at which the open transaction of a caller read a value that is not the committed one.
+    /// If the transaction's Committed were next, that entry would be bad for this reason. The
+    /// caller is below 64; nothing is said if an entry is bad.
     ///
-    /// `None` if it could commit; or if its replies contradict one another, so that it could commit
-    /// on no map.
+    /// `None` if the transaction could commit; or if its replies contradict one another, so that it
+    /// could commit on no map.
     ///
     /// # Cost
     ///
@@ -146,9 +146,9 @@ impl Checker {
         self.state.commits.misread(caller)
     }
 
-    /// Whether the replies of the open transaction of a caller, which is below 64, contradict one
-    /// another, as long as no entry is bad. If so, no map gives it all of them, and it may only
-    /// abort.
+    /// Whether the replies of the open transaction of a caller contradict one another. If so, no
+    /// map gives it all of them, and it may only abort. The caller is below 64; nothing is said if
+    /// an entry is bad.
     ///
     /// # Cost
     ///

@@ -1,5 +1,5 @@
-//! Worked histories, judged by locks and by the order of commits. The verdicts were found by hand.
-//! They differ for each history but the last. The checker of `serial_check` is also fed entry by
+//! Worked histories, judged by locks and by the order of commits. Both verdicts were found by hand;
+//! they differ for each history but the last. The checker of `serial_check` is also fed entry by
 //! entry: its verdict is legal up to the first bad entry, and names that entry from there on.
 
 use history_check::{Rule, Verdict};

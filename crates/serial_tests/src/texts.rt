@@ -1,5 +1,5 @@
-//! The texts of a verdict and of a rule, and both as errors; and as errors also the reasons why a
-//! call on a map stopped. No history is judged here: each value is made by hand beside its text.
+//! The texts of a verdict and of a rule, also as errors, and those of the reasons why a call on a
+//! map stopped, as errors. No history is judged here: each value is made by hand beside its text.
 //! Contracts fix these texts by definitions, and the rows are the words that the programs print.
 
 use anyhow::Result;

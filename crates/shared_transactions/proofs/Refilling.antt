@@ -1,4 +1,4 @@
--- The entries of a caller that puts the pairs of a core; and that a refill is never refused with
+-- The entries of a caller that puts the pairs of a core. A refill is never refused with
 -- `CallersMissing`.
 use Rattle.std.proofs.Common.{◌≡◌, ℕ, ◌+◌, ◌<◌, ◌≤◌, suc, if◌then◌else◌, Bool, true, false, List, [], ◌∷◌, ◌++◌, length, take, slice_index_or, append_assoc, Option, Some, None, refl, sym, ap, subst, ◌∙◌, inl, inr, arith}
 use Rattle.std.specs.Prelude.{not}

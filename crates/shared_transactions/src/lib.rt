@@ -31,7 +31,8 @@
 //!
 //! The model is the caller's token: the entries that its calls have added to the history. Promised:
 //! - If `transact` answers `Ok`, the token's last entries are one transaction: the begin of a token
-//!   that had none, one run of the work, and the commit. The receipt has its numbers (`IsRun`).
+//!   that had none, one run of the work, and the commit. The receipt has that transaction's numbers
+//!   (`IsRun`).
 //! - If it answers `Err`, no transaction is open if none was before, and no added entry commits
 //!   (`IsUndone`). A drop leaves no transaction open and commits nothing (`IsTakenBack`).
 //! - Each try before the last began one transaction, ran the work, which found a stripe held, and

@@ -118,7 +118,8 @@ impl<'a, L: Ledger, R: Wait> Transaction<'a, L, R> {
 
     /// Puts a value at a key, and answers the value before. If the key is new, the table grows by a
     /// step, if that is due: it is doubled if it is full, and the key's bucket is initialised. If
-    /// memory is refused for the growth, the table stays smaller and nothing else changes.
+    /// memory or a stamp is refused for the growth, the table stays smaller and nothing else
+    /// changes.
     ///
     /// # Errors
     ///

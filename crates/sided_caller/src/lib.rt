@@ -3,14 +3,14 @@
 //! made in.
 //!
 //! The model is the caller (`striped_map`) beside the side value with its levels (`undo_log`).
-//! Invariant: the side value has as many levels as the transaction, the beginning and each
-//! savepoint; outside a transaction it has one.
+//! Invariant: the side value has as many levels as the transaction, one for the beginning and one
+//! for each savepoint; outside a transaction it has one.
 //!
 //! Proved: each call does to the map what the caller's own call does, and nothing else. The side
-//! value has after `back` the words that it had at that level, and after `abort`, and if an
-//! operation was busy, those that it had when the transaction began; `begin`, `commit` and all
-//! refusals leave it unchanged, and so do operations. No words are stored and none is copied: each
-//! change brings a job that takes it back (`Side`).
+//! value has after `back` the words that it had at that level; after `abort`, and after an
+//! operation that was busy, it has those that it had when the transaction began. `begin`, `commit`,
+//! all refusals and all other operations leave it unchanged. No words are stored and none is
+//! copied: each change brings a job that takes it back (`Side`).
 //!
 //! Cost: that of the caller's call, and a step for each change of the side value that is taken back
 //! or kept.

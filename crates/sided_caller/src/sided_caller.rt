@@ -29,7 +29,8 @@ pub struct SidedCaller<S: Side> {
     ghost leveled: { length side.levels ≡ (if caller.is_open then levels caller else 0) + 1 },
 }
 
-/// Lets a side value follow an operation: if it was busy, back to the transaction's beginning.
+/// Lets a side value follow an operation: back to the transaction's beginning if the operation was
+/// busy.
 fn follow<S: Side>(side: &mut SideValue<S>, outcome: &Result<Reply, Stop>)
     requires { 0 < length side.old.levels }
     ensures ok { OnOk outcome.now (IsSameSide side.old side.new) }
@@ -80,7 +81,7 @@ impl<S: Side> SidedCaller<S> {
     ///
     /// # Cost
     ///
-    /// One call of `change`, and amortized constant time beside it; may take memory.
+    /// One call of `change`, and otherwise amortized constant time; may take memory.
     pub fn change<F: FnOnce(S) -> S>(
         &mut self,
         change: F,
@@ -130,12 +131,12 @@ impl<S: Side> SidedCaller<S> {
     ///
     /// # Errors
     ///
-    /// Those of `Caller::get`. If it was busy the side value has the words that it had when the
+    /// Those of `Caller::get`. After `Busy` the side value has the words that it had when the
     /// transaction began; after a refusal it is unchanged.
     ///
     /// # Cost
     ///
-    /// That of `Caller::get`; if it was busy also a job for each change of the side value.
+    /// That of `Caller::get`; after `Busy` also the run of a job for each change of the side value.
     pub fn get(&mut self, key: u64) -> Result<Reply, Stop>
         ensures open { OnOk result ((self.old.caller.is_open ≡ true)
             × (self.new.caller.is_open ≡ true)) }
@@ -160,7 +161,7 @@ impl<S: Side> SidedCaller<S> {
     ///
     /// # Cost
     ///
-    /// That of `Caller::put`; if it was busy also a job for each change of the side value.
+    /// That of `Caller::put`; after `Busy` also the run of a job for each change of the side value.
     pub fn put(&mut self, key: u64, value: u64) -> Result<Reply, Stop>
         ensures open { OnOk result ((self.old.caller.is_open ≡ true)
             × (self.new.caller.is_open ≡ true)) }
@@ -184,7 +185,8 @@ impl<S: Side> SidedCaller<S> {
     ///
     /// # Cost
     ///
-    /// That of `Caller::take`; if it was busy also a job for each change of the side value.
+    /// That of `Caller::take`; after `Busy` also the run of a job for each change of the side
+    /// value.
     pub fn take(&mut self, key: u64) -> Result<Reply, Stop>
         ensures open { OnOk result ((self.old.caller.is_open ≡ true)
             × (self.new.caller.is_open ≡ true)) }
@@ -209,7 +211,8 @@ impl<S: Side> SidedCaller<S> {
     ///
     /// # Cost
     ///
-    /// That of `Caller::put_if`; if it was busy also a job for each change of the side value.
+    /// That of `Caller::put_if`; after `Busy` also the run of a job for each change of the side
+    /// value.
     pub fn put_if(&mut self, key: u64, expected: Option<u64>, value: u64) -> Result<Reply, Stop>
         ensures open { OnOk result ((self.old.caller.is_open ≡ true)
             × (self.new.caller.is_open ≡ true)) }
@@ -270,8 +273,8 @@ impl<S: Side> SidedCaller<S> {
     ///
     /// # Cost
     ///
-    /// That of `Caller::back`, and a job for each change of the side value that is taken back. It
-    /// takes no memory.
+    /// That of `Caller::back`, and the run of a job for each change of the side value that is taken
+    /// back. It takes no memory.
     pub fn back(&mut self, level: u64) -> Result<(), Stop>
         ensures open { OnOk result ((self.old.caller.is_open ≡ true)
             × (self.new.caller.is_open ≡ true)) }
@@ -329,7 +332,8 @@ impl<S: Side> SidedCaller<S> {
     ///
     /// # Cost
     ///
-    /// That of `Caller::abort`, and a job for each change of the side value. Takes no memory.
+    /// That of `Caller::abort`, and the run of a job for each change of the side value. Takes no
+    /// memory.
     pub fn abort(&mut self) -> Result<(), Stop>
         ensures closed { self.new.caller.is_open ≡ false }
         ensures ok { OnOk result ((self.old.caller.is_open ≡ true)

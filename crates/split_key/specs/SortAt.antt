@@ -67,7 +67,7 @@ upper_is split false odd =
       | inr under ↦ under.0
     ]
 
--- The bytes of the number of some bytes are these.
+-- Bytes that are turned into their number and back are unchanged.
 pub bytes_are : (bytes : List ℕ) (is_upper : Bool) → IsPacked bytes is_upper
     → bytes_of (word_of bytes) ≡ bytes
 unfolding word_of bytes_of

@@ -3,12 +3,13 @@
 //! Extensible Hash Tables" (Journal of the ACM 53(3), 2006), section 2: bits in reverse, dummy
 //! nodes, and parents of buckets.
 //!
-//! A split key is 64 bits in reverse order: a key's with its top bit set first, so that it is odd,
-//! or a bucket's unchanged, so that it is even. Sorted by split keys, the keys of one bucket are
-//! together, whatever power of two the table's size is, right behind the dummy node of the bucket:
-//! the digits of a split key begin with the lowest bits of the key, which give its bucket. The list
-//! of a table of size 4 with the keys 0 to 7 is as follows; a number is shown by its lowest four
-//! bits, a split key by its first four and its last four:
+//! A split key is a number of 64 bits in reverse order. That of a key is odd, since the key's top
+//! bit is set before the reversal; that of a bucket is the bucket's number in reverse, which is
+//! even. In the order of split keys, the keys of a bucket are together, right behind the bucket's
+//! dummy node, whatever power of two the table's size is: a split key begins with the lowest bits
+//! of its key, which give the bucket. The list of a table of size 4 with the keys 0 to 7 is as
+//! follows; a number is shown by its lowest four bits, a split key by its first four and its last
+//! four:
 //!
 //! ```text
 //!  in the list    bits    split key         bucket at size 2   4   8

@@ -1,6 +1,6 @@
 //! Sort keys: the order of the nodes of a list, by split key and then by key. A split key by itself
 //! does not order them, since two keys may share one; no two keys have the same sort key.
-//! `is_before` is the only test of order in the repository, in constant time.
+//! `is_before` is the only test of this order in the repository, and takes constant time.
 ghost use Rattle.std.specs.Prelude.{◌≡◌, ◌≢◌, ℕ};
 ghost use Rattle.std.proofs.Common.{rules};
 ghost use Rattle.std.specs.Cmp.Rules.{comparing};

@@ -22,7 +22,7 @@ below_is a b less = from (nat_cmp a b) refl less
     from Equal is less = absurd less
     from Greater is less = absurd less
 
--- A list that does not fall by keys and has just the pairs of a list that rises is that list.
+-- A list that does not fall by keys and has exactly the pairs of a list that rises is that list.
 abbrev occurs : Pair → Pair → ℕ
 occurs p x = cond (x.0 == p.0) (cond (x.1 == p.1) 1 0) 0
 

@@ -9,8 +9,8 @@
 //! keeps these changes, each with its key and the value before, in one log for all its parts: so an
 //! operation writes only the map.
 //!
-//! - `apply` answers and leaves what the operation does on that map, and owes one more, if it is a
-//! change. A refusal leaves the part unchanged; a get is never refused.
+//! - `apply` does an operation, with the reply and the effect that it has on that map; if it is a
+//!   change, one more is owed. A refusal leaves the part unchanged; a get is never refused.
 //! - `take_back` gives the key of a change the value before it: the inverses of boosting (Herlihy
 //!   and Koskinen, "Transactional Boosting", PPoPP 2008, rule 3), which are run newest first. It
 //!   takes no memory.

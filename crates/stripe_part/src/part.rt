@@ -63,8 +63,9 @@ impl Part {
     }
 
     /// An empty part, with no change to take back, that has room for this number of keys: `apply`
-    /// takes no memory while the keys and the changes that are owed are together fewer. So the
-    /// first `keys` keys take none, if each is settled before the next.
+    /// takes no memory while the keys that were put, also those taken out since, and the changes
+    /// that are owed are together fewer. So the first `keys` keys take none, if each is settled
+    /// before the next.
     ///
     /// # Errors
     ///
@@ -86,7 +87,8 @@ impl Part {
     }
 
     /// Does an operation: the reply and the content that it leaves are those of a plain map. If it
-    /// is a change, one more is owed; its user notes the key and the reply, the value before.
+    /// is a change, one more is owed; the part's user notes the key and the reply, which is the
+    /// value before.
     ///
     /// # Errors
     ///

@@ -178,7 +178,8 @@ all_pairs n v held m some s all inside = subst (IsPermutation m.rows)
     once k lt = let some : 0 < times k (reverse (stripes_in held)) = subst (λ (ks : List ℕ). 0 < times k ks) s.kept (all k lt) in
         omega (arith, some, times_reverse k (stripes_in held), times_once k (stripes_in held) s.apart)
 
--- The parts up to a place, one after the other: how many pairs are left to count, and which were added.
+-- The parts up to a place, one after the other: how many pairs are left to count, and which were
+-- added.
 pub sum_drop : (f : ℕ → PartAt) (ks : List ℕ) (i k : ℕ) → slice_get ks i ≡ Some k → sum_by count_at (map (with_part f) (drop i ks)) ≡ count_at (with_part f k) + sum_by count_at (map (with_part f) (drop (suc i) ks))
 sum_drop f [] i k at = absurd (none_some k at)
 sum_drop f (x ∷ ks) zero k at = sum_by-cons count_at (with_part f x) (map (with_part f) ks) ∙ ap (λ (y : ℕ). count_at (with_part f y) + sum_by count_at (map (with_part f) ks)) (some_same x k at)

@@ -27,8 +27,8 @@ abbrev pub IsMiss : View → Stop → Type 0
 IsMiss v (Busy holder) = (has_begun holder v.seen ≡ true) × (holder ≢ v.number)
 IsMiss v (Refused refusal) = refusal ≡ NoMemory
 
--- An end of a transaction that takes all back: an abort, or for another caller that was found,
--- which has begun a transaction.
+-- An end of a transaction that takes all back: an abort, or the end after a busy stripe, which
+-- names another caller that has begun a transaction.
 abbrev pub IsEnd : View → Addition → Type 0
 IsEnd v Abort = Unit {0}
 IsEnd v (Yield op holder) = (has_begun holder v.seen ≡ true) × (holder ≢ v.number)

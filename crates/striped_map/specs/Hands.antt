@@ -37,7 +37,7 @@ abbrev pub IsCut : StripedMap → Hand → Hand → Stop → Type 0
 IsCut map a b stop = (key : ℕ) × IsStopped map a (Get key) b stop
 
 -- In a transaction that was begun for it, and before any other entry of it, the hand has seen one
--- legal history (of `left`). It has of each caller that was taken in just the entries that its
+-- legal history (of `left`). It has of each caller that was taken in exactly the entries that its
 -- calls added, and otherwise only entries of seats that were made; the pairs are the map of that
 -- history; and the hand has seen it since.
 pub record AreLeft (map : StripedMap) (a c : Hand) (pairs : List (ℕ × ℕ)) : Type 0 where

@@ -37,8 +37,8 @@ impl Caller {
     }
 
     /// Runs the work in a transaction and commits; answers what the work did, and the commit's
-    /// place. If it was busy, gives way and begins again, at most `tries` times. If the work fails
-    /// all its changes are taken back.
+    /// place. If the work was busy, gives way and begins again, at most `tries` times. If the work
+    /// fails, all its changes are taken back.
     ///
     /// # Errors
     ///
@@ -48,7 +48,7 @@ impl Caller {
     ///
     /// # Cost
     ///
-    /// That of `begin`, the work and `commit`, and of `abort` for each try that fails.
+    /// For each try, that of `begin` and the work, and of `commit`, or of `abort` if the try fails.
     pub fn transact<T: Drop, F: Fn(&mut Transaction<'_>) -> Result<T, Stop>>(
         &mut self,
         tries: u64,

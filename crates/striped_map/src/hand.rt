@@ -44,8 +44,8 @@ pub(crate) struct Hand {
     ghost indexed: { IsIndexed held.items index.items },
 }
 
-/// The place of a stripe among those that are held. The index may have any place for a stripe that
-/// is not held, so that place is looked at.
+/// The place of a stripe among those that are held. For a stripe that is not held the index may
+/// have any place, so the list is looked at there.
 #[inline(always)]
 fn place_of(held: &Vec<usize>, index: &Vec<u16>, stripe: usize) -> Option<usize>
     requires { IsIndexed held.now.items index.now.items }

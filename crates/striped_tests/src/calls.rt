@@ -81,8 +81,8 @@ pub(crate) fn open<R: Abort>(rt: &R, alloc: Global, stripes: usize, callers: usi
     Home { host, callers }
 }
 
-/// Fails with the number of the row unless `is_so`. It is a separate function, since a message is
-/// dear to prove in a function that has much else.
+/// Fails with the number of the row unless `is_so`. It is a separate function, since a message
+/// takes long to prove in a function that has much else.
 pub(crate) fn must<R: Abort>(rt: &R, row: usize, is_so: bool) {
     assert!(rt; is_so, "row {row}");
 }
@@ -100,12 +100,12 @@ pub(crate) fn play<R: Abort>(rt: &R, home: &mut Home, rows: &[Row]) {
     }
 }
 
-/// Whether the host reads just these pairs, in this order.
+/// Whether the host reads exactly these pairs, in this order.
 pub(crate) fn reads(host: &mut Host, left: &[(u64, u64)]) -> Result<bool, Stop> {
     Ok(host.pairs()?.as_slice() == left)
 }
 
-/// The committed pairs are just these, in this order, and no stripe is held.
+/// The committed pairs are exactly these, in this order, and no stripe is held.
 pub(crate) fn has_left<R: Abort>(rt: &R, host: &mut Host, left: &[(u64, u64)]) {
     assert!(rt; matches!(reads(host, left), Ok(true)));
 }

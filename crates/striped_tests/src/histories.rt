@@ -357,7 +357,7 @@ impl Merge {
         note_commits(&mut self.commits, one)
     }
 
-    /// Does that for all callers, and raises the stamps of their commits.
+    /// Notes them for all callers, and raises the stamps of the commits.
     fn note_all(&mut self, all: &[Recorder]) -> Result<(), AllocError> {
         for one in all {
             self.note(one)?;

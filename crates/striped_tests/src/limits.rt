@@ -123,8 +123,8 @@ fn play_roomy<R: Abort>(rt: &R, home: &mut Home, wanted: &[(u64, u64)]) {
     has_left(rt, &mut home.host, wanted);
 }
 
-/// A map with room for a thousand keys is one with no keys, and takes them and more, on a stripe for
-/// all and on stripes for few or none of them.
+/// A map that is opened with room for a thousand keys has no keys at first, and takes a thousand
+/// and more: on one stripe for all keys, and on stripes that have few keys or none.
 #[test]
 fn a_roomy_map(rt: HostRuntime) -> Result<(), Fail> {
     let wanted = selves(rt.alloc(), 1_500)?;

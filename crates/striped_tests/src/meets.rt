@@ -37,7 +37,7 @@ fn there_and_back(one: &mut Caller, other: &mut Caller) -> Result<(bool, bool), 
     Ok((is_there, is_back))
 }
 
-/// Does that with callers that are then dropped.
+/// Does `there_and_back` with callers that are then dropped.
 fn move_and_drop(mut one: Caller, mut other: Caller) -> Result<(bool, bool), Stop>
     requires same_map { one.map.value ≡ other.map.value }
 {

@@ -42,7 +42,7 @@ fn play_again<R: Abort>(rt: &R, home: &mut Home, rows: &[Row]) -> Result<(), Ref
     Ok(())
 }
 
-/// The host reads just these pairs, at once or the second time.
+/// The host reads exactly these pairs, at once or the second time.
 fn has_left_again<R: Abort>(rt: &R, host: &mut Host, left: &[(u64, u64)]) -> Result<(), Refusal> {
     for _ in 0..2u64 {
         let is_left = reads(host, left);

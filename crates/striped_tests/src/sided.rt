@@ -415,7 +415,7 @@ fn dropped_at_every_point(rt: HostRuntime) {
     }
 }
 
-/// The caller that `new` hands back if it is in a transaction, with the side value.
+/// The caller, which is in a transaction, so `new` hands it back with the side value.
 fn handed_back<R: Abort>(rt: &R, alloc: Global, caller: Caller) -> Caller {
     let made = SidedCaller::new(alloc, caller, a_register(of_count(7)));
     let (caller, value) = made.err().expect(rt, "a caller that is handed back");
@@ -430,7 +430,7 @@ fn put_second<R: Abort>(rt: &R, sided: &mut Sided) {
     assert!(rt; begun == Told::Done && told == NEW);
 }
 
-/// The caller without its side value, with which it has put so.
+/// The caller, after it got a side value, began and put by `put_second`, and lost the value again.
 fn without_side<R: Abort>(rt: &R, alloc: Global, caller: Caller) -> Caller {
     let mut sided = with_side(rt, alloc, caller);
     put_second(rt, &mut sided);
@@ -448,8 +448,8 @@ fn put_back<R: Abort>(rt: &R, home: &mut Home, caller: Caller) {
     assert!(rt; added.is_ok());
 }
 
-/// A caller that has just put key 1 is handed back, and its transaction goes on. Out of one it gets
-/// a side value, and without it again goes on too.
+/// A caller that has put key 1 in a transaction is handed back, and its transaction goes on. After
+/// the commit it gets a side value. A transaction goes on too when the side value is taken off.
 fn play_handed_back<R: Abort>(rt: &R, alloc: Global, home: &mut Home) {
     let begins = [
         (0, Ask::Begin, Told::Done),

@@ -225,8 +225,8 @@ fn have_count<R: Abort>(rt: &R, callers: &[Sided], count: u64) {
     }
 }
 
-/// Two threads have counted in their side values just what they have committed: their own keys have
-/// it, and the key that they share has both.
+/// Two threads have counted in their side values exactly what they have committed. Each one's own
+/// key has its count, and the key that they share has the sum of both.
 fn play_counts<R: Threads + Wait + Abort + Sync>(rt: &R, home: &mut SidedHome) {
     count_all(rt, home.callers.as_mut_slice());
     have_count(rt, home.callers.as_slice(), 300);

@@ -86,7 +86,7 @@ const DOUBLINGS: [(Call, Answer); 3] = [
     (Call::Double(4), Answer::Double(Double::Light)),
 ];
 
-/// Puts keys 1 to 5, with a size of 4 then. If memory is refused again there are fewer, and the
+/// Puts keys 1 to 5, after which the size is 4. If memory is refused again there are fewer, and the
 /// answer is false.
 fn has_five_keys(rt: &impl Abort, home: &mut Home) -> bool {
     if !has_put_all(rt, home, &[1, 2, 3, 4]) {

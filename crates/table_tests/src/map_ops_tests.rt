@@ -76,8 +76,8 @@ fn has_each(content: &BTreeMap<u64, u64>, wanted: &[(u64, u64)]) -> bool {
     content.len() == wanted.len()
 }
 
-/// Whether these are the pairs of a table, in their order, and its content, and their number its
-/// count.
+/// Whether these are the pairs of a table, in their order. The table's content must be the same
+/// pairs, and its count their number.
 fn has_pairs(alloc: Global, table: &Table, wanted: &[(u64, u64)]) -> Result<bool, AllocError> {
     let is_whole = has_each(&content_of(alloc, table)?, wanted);
     let is_counted = figures(table).1 == wanted.len() as u64;

@@ -1,6 +1,6 @@
-//! Tests of `node_list`: that each call succeeds, and the list after a refused allocation. That a
-//! spare is given while there is memory is in no contract. The lists have at most two linked nodes,
-//! so a device can test what a call requires before it makes it.
+//! Tests of `node_list`: that each call succeeds, and the list after a refused allocation. No
+//! contract says that a spare is given while there is memory. The lists have at most two linked
+//! nodes, so a device can test what a call requires before it makes the call.
 use node_list::{Kind, NodeList, NodeRef, SpareFault};
 use split_key::{Key, SortKey};
 use std::alloc::{AllocError, Global};

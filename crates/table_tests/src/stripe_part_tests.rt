@@ -102,8 +102,8 @@ fn try_again(rt: &impl Abort, alloc: Global, part: &mut Part, op: Op) -> Result<
     }
 }
 
-/// Does an operation so, and notes its change. Its place in the log is made first, and asked for once
-/// more if memory is refused.
+/// Does an operation by `try_again`, and notes its change. The place in the log is made first, and
+/// asked for once more if memory is refused.
 fn apply_again(rt: &impl Abort, alloc: Global, one: &mut Logged, op: Op) -> Result<Reply, Fail> {
     if one.log.reserve(1).is_err() {
         one.log.reserve(1)?;

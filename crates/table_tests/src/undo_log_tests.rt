@@ -121,8 +121,8 @@ fn take_back(rt: &impl Abort, log: &mut UndoLog<Raised>, jobs: u64) -> Result<()
     Ok(())
 }
 
-/// A log of eight jobs, which needs no memory: that none of them is refused is proved, and that the
-/// next one needs memory.
+/// A log of eight jobs, which needs no memory. It is proved that none of them is refused, and that
+/// the next one needs memory.
 fn eight_jobs(alloc: Global) -> UndoLog<Raised>
     ensures jobs { length result.jobs ≡ 8 }
     ensures room { result.room ≡ 0 }
@@ -354,9 +354,9 @@ fn is_saved_at_1(rt: &impl Abort, side: &mut SideValue<Register>) -> bool {
     set(rt, side, [1, 0, 0, 0]).is_some() && save_side(rt, side).is_some()
 }
 
-/// Goes back to level 0 after a change and a savepoint, with or without a settling before it, which
-/// leaves these words. If the change or the savepoint is refused memory, the words at the beginning
-/// are left.
+/// Makes a change and a savepoint, settles the value if `settles`, and goes back to level 0, where
+/// the words must be `left`. If the change or the savepoint is refused memory, the words must be
+/// those at the beginning.
 fn return_to_0(
     rt: &impl Abort,
     alloc: Global,

@@ -61,8 +61,9 @@ pub record Adds (c : ℕ) (call : Call) (outcome : End) (seen seen' : List Entry
   pub made : IsMade c call outcome added
   pub quiet : is_some (seat_after seen') ≡ true → IsQuiet outcome added
 
--- The caller after the table may have had its turn to grow, if the last call had this end: it is
--- the same if it is still in step; else it had put a key, and fell out of step by a call for help.
+-- The caller after a call with this end, once the worker may have helped the table to grow. Its
+-- entries are unchanged if it is still in step; if not, the call was answered without a value, and
+-- a call for help fell out of step.
 abbrev pub Grows : {S : Type 0} → Token S → End → Bool → Token S → Type 0
 Grows k outcome true l = (l.seen ≡ k.seen) × (l.broken ≡ k.broken)
 Grows {S} k outcome false l =

@@ -14,13 +14,14 @@ use std::sync::Wait;
 use std::sync::ledger::Ledger;
 use txn_trace::{Answer, Op, Refusal};
 
-/// A worker helps the table to grow when it has put this many new keys. A help takes a hold to
-/// double and one for each ancestor of the key's bucket, some ten in a large table where an
-/// operation takes three; so one for each new key would keep the other workers waiting. An odd
-/// number, so that of keys in a row each bucket has its turn: their number is a power of two.
+/// The number of new keys after which a worker helps the table to grow. In a large table a help
+/// takes some ten holds, one to double and one for each ancestor of the key's bucket, and an
+/// operation takes three; so a help for each new key would keep the other workers waiting. The
+/// number is odd, and the number of buckets a power of two, so that of keys in a row each bucket
+/// has its turn.
 const EVERY: u8 = 7;
 
-/// The number of new keys that a worker has put since it has helped.
+/// The number of new keys that a worker has put since its last help.
 #[derive(Drop)]
 pub(crate) struct Growth {
     new_keys: u8,

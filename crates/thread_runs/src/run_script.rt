@@ -24,7 +24,7 @@ use std::sync::ledger::Ledger;
 use std::thread::yield_now;
 use txn_trace::{Answer, PackedAction, Refusal, Reply};
 
-/// Tells the gate each release of the lock.
+/// Tells the gate of each release of the lock.
 #[derive(Drop)]
 struct Freed<'a, G: Gate> {
     gate: &'a G,

@@ -35,8 +35,8 @@ use txn_trace::{Action, Limits, Op, PackedAction, Refusal, Script};
 ///   belongs to exactly one outcome.
 /// - A worker with `b` outcomes `Busy` has at least `b * (tries + 1)` Busy entries.
 /// - Only a script with an abort is `Aborted`.
-/// - Only a script with a bad key is `Refused` with `BadKey`, only one that goes back with
-///   `NoSuchLevel`, only one with an operation with `StaleWord`; the other possible refusals are
+/// - A script is `Refused` with `BadKey` only if it has a bad key, with `NoSuchLevel` only if it
+///   goes back, and with `StaleWord` only if it has an operation. The other possible refusals are
 ///   `NoMemory`, `StampsUsedUp` and `OutOfStep`.
 ///
 /// # Errors
@@ -112,9 +112,10 @@ fn run_under<L: Ledger + Send + Sync, T: Terms + Send + Sync, G: Gate, R: Thread
     Ok(Ran { outcomes, trace })
 }
 
-/// Room for what scripts add if no attempt is repeated: two entries for each action but a help, and a
-/// begin and an end for each script; a node for each put, and for each bucket, of which the table
-/// has no more than it has keys. With several workers it is written before they start.
+/// Room for what scripts add if no attempt is repeated: two entries for each action but a help, and
+/// a begin and an end for each script; a node for each put, and as many again for the dummies of
+/// buckets, up to the largest number of buckets. With several workers it is written before they
+/// start.
 fn room_for(scripts: &[Script], limits: Limits) -> Room {
     let mut room = Room {
         is_written: limits.callers() > 1,

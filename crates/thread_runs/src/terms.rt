@@ -1,6 +1,7 @@
-//! The terms of a run, named by a type, by which the promise of a worker's thread refers to them:
-//! `Runs` and `Orders` share the name, so neither module owns it. Invariant of `Orders`: its fields
-//! are these terms. They exist only in the proof, and cost nothing at run time.
+//! The terms of a run. A type names them, so that the promise of a worker's thread can refer to
+//! them; `Runs` and `Orders` share the name, so neither of their modules owns it. Invariant of
+//! `Orders`: its fields are these terms. They exist only in the proof, and cost nothing at run
+//! time.
 use std::marker::Brand;
 
 /// The number of workers of a run, how often each tries a script again, and the scripts. Contracts

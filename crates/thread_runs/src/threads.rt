@@ -1,5 +1,5 @@
 //! The workers' threads: started, each with its pass, and joined in the order of their numbers.
-//! Only this module starts and joins threads; what a thread does is the worker's. If one cannot be
+//! Only this module starts and joins threads; `worker.rt` says what a thread does. If one cannot be
 //! started, those that were started finish before the run answers. Each has a stack of 256 KiB.
 ghost use Rattle.std.specs.Prelude.{◌≡◌, IfOk, IfErr, length, map};
 ghost use Rattle.core_tokens.specs.Tokens.{AreTickets};
@@ -25,7 +25,7 @@ use txn_trace::{Limits, Refusal};
 /// address space is limited.
 const STACK: usize = 256 * 1024;
 
-/// The thread of a pass returns its caller, with its scripts run.
+/// The promise of the thread of a pass: it returns the caller of the pass, with its scripts run.
 #[derive(Drop)]
 struct Runs<L: Ledger, T: Terms> {
     pass: Snapshot<Pass<L>>,

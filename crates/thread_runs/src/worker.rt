@@ -51,8 +51,8 @@ pub(crate) struct Orders<'a, L: Ledger, G: Gate, T: Terms> {
 }
 
 impl<L: Ledger, G: Gate, T: Terms> Orders<'_, L, G, T> {
-    /// Runs the scripts of the worker of a pass. If memory is refused for one more outcome, that is
-    /// the only answer.
+    /// Runs the scripts of the worker of a pass. If memory is refused for one more outcome, the
+    /// answer is `AllocError`, without the earlier outcomes.
     pub(crate) fn work<R: Wait>(
         &self,
         rt: &R,
@@ -69,7 +69,7 @@ impl<L: Ledger, G: Gate, T: Terms> Orders<'_, L, G, T> {
         Ok(WorkerReport { caller, outcomes })
     }
 
-    /// Runs the scripts of a worker: each whose number is its own modulo the workers.
+    /// Runs the scripts of a worker: each script whose number, modulo the workers, is the worker's.
     fn outcomes<R: Wait>(
         &self,
         rt: &R,

@@ -1,6 +1,6 @@
 //! Tests of the map with one owner: its table grows, its history is cut off, and a transaction
-//! returns to a savepoint. Each test is also run with each allocation refused in turn, and with all
-//! allocations from one on refused.
+//! returns to a savepoint. Each test is also run while memory is refused: each allocation in turn,
+//! eight in a row, and all from one on.
 ghost use Rattle.std.specs.Prelude.{◌≡◌};
 ghost use Rattle.owned_map.specs.Keeps.{Keeps};
 

@@ -1,6 +1,7 @@
 //! Tests of transactions as values on a map of threads: its table grows, a key is looked for, a try
-//! is made again, and a new map begins with the pairs of a closed one, with works in threads. All
-//! are also run while memory is refused: each allocation in turn, and all from one on.
+//! is made again, and a new map begins with the pairs of a closed one, with works in threads. These
+//! are one test, which is also run while memory is refused: each allocation in turn, eight in a
+//! row, and all from one on. The other test closes a map without its callers.
 ghost use Rattle.std.specs.Prelude.{◌≡◌};
 ghost use Rattle.shared_transactions.specs.Keeps.{Keeps};
 

@@ -71,7 +71,7 @@ impl Phase {
     }
 }
 
-/// One more `again` in a row.
+/// One more `again` in a row; at most eight are counted.
 fn one_more(again: u8) -> u8
     ensures { result ≡ one_more again }
 {
@@ -97,8 +97,8 @@ fn told_first(call: Call, answer: Answer) -> Phase
     }
 }
 
-/// After a seek: the position is found, or there is no change left to take back, which the act will
-/// answer too.
+/// After a seek: the position is found, or no change is left to take back, in which case the act
+/// ends the call.
 #[inline(always)]
 fn told_seek(work: Work, again: u8, answer: Answer) -> Phase
     ensures { result ≡ told_seek work again answer }

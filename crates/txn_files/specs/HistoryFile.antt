@@ -46,7 +46,7 @@ abbrev pub is_history : ℕ → List Entry → Bool
 is_history stripes entries =
     nat_le 1 stripes && nat_le stripes max_stripes && list_all is_in_range entries
 
--- The stripes, the entries and the version of a file's version, its one number and its entries.
+-- The stripes, the entries and the version, from a file's version, its one number and its entries.
 unfoldable pub entries_from : ℕ → List ℕ → List Entry → Result (ℕ × List Entry × ℕ) FileFault
 entries_from version (stripes ∷ []) entries =
     if is_history stripes entries then Ok (stripes, entries, version) else Err Limit

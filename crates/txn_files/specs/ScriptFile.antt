@@ -42,7 +42,7 @@ is_short script = nat_le (length script) max_actions
 abbrev pub are_scripts : ℕ → List (List Action) → Bool
 are_scripts tries scripts = nat_le tries max_tries && list_all is_short scripts
 
--- The work of a file's version, its four numbers and its scripts; the workers are the callers.
+-- The work, from a file's version, its four numbers and its scripts; the workers are the callers.
 unfoldable pub work_from : ℕ → List ℕ → List (List Action) → Result Work FileFault
 work_from version (workers ∷ stripes ∷ buckets ∷ tries ∷ []) scripts = do
   sizes ← sizes_at version workers stripes buckets

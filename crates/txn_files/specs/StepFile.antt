@@ -45,7 +45,7 @@ sizes_at version callers stripes buckets =
     (in_limits (limits_of callers stripes buckets) >>= λ sizes. Ok (with_keys_of version sizes))
     else Err Limit
 
--- The limits and the steps of a file's version, its three numbers and its steps.
+-- The limits and the steps, from a file's version, its three numbers and its steps.
 unfoldable pub steps_from : ℕ → List ℕ → List Step → Result (Sizes × List Step) FileFault
 steps_from version (callers ∷ stripes ∷ buckets ∷ []) steps =
     sizes_at version callers stripes buckets >>= λ sizes. Ok (sizes, steps)

@@ -223,8 +223,7 @@ fn is_history(stripes: u64, entries: &[SmallEntry]) -> bool
     1 <= stripes && stripes <= Limits::MAX_STRIPES && are_in_range(entries)
 }
 
-/// The number of stripes, the entries and the version of a file's version, its number and its
-/// entries.
+/// The number of stripes, the entries and the version, from a file's version, number and entries.
 #[tactic(auto, unfolding(crate::specs::HistoryFile::entries_from))]
 fn entries_in(
     version: u64,
@@ -266,8 +265,8 @@ fn entries_in(
 ///
 /// # Cost
 ///
-/// Time and memory in proportion to the bytes. The entries are in memory twice, once of them
-/// packed.
+/// Time and memory in proportion to the bytes. The entries are in memory twice, packed and
+/// unpacked.
 pub fn read_history(alloc: Global, bytes: &[u8]) -> Result<(u32, Vec<Entry>, u64), FileFault>
     ensures { Gives (λ file. (file.0, file.1.items, file.2)) result (history_of bytes.now) }
 {

@@ -15,8 +15,9 @@
 //! functions, or say that memory was refused. `history_text` makes the text of a history, as
 //! `text_of_history` says, and `HistoryPieces` hands it out, with a line feed, piece by piece.
 //!
-//! Cost: time and memory in proportion to the length of the file or text. A file is read once. At
-//! most one step, entry or script more than a file may have is kept, but all actions of a script.
+//! Cost: time and memory in proportion to the length of the file or text. A file in plain form is
+//! read once, any other at most twice. No more steps, entries or scripts are kept than a file may
+//! have, but all actions of a script are.
 #![tactic(auto)]
 
 mod history_file;

@@ -1,6 +1,6 @@
 //! A piece of text on the stack, which is written from its end to its start. What is put into it
 //! goes before what is there, as the digits of a number are found: the last one first. So no digit
-//! is moved, and no put tests for room, since each says how much it takes.
+//! is moved, and no put tests for room, since the contract of each requires it.
 ghost use Rattle.std.specs.Prelude.{◌≡◌, ◌+◌, ◌≤◌, [], ◌++◌, length, decimal};
 
 use itoa::write_digits;
@@ -36,7 +36,7 @@ impl Line {
         }
     }
 
-    /// Takes the text out.
+    /// Makes the text empty.
     #[inline(always)]
     pub(crate) fn clear(&mut self)
         ensures { self.new ≡ [] }

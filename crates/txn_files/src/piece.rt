@@ -53,7 +53,7 @@ impl Piece {
         Ok(Piece { bytes, count: 0 })
     }
 
-    /// Takes the text out.
+    /// Makes the text empty.
     #[inline(always)]
     pub(crate) fn clear(&mut self)
         ensures { self.new ≡ [] }

@@ -111,8 +111,9 @@ impl<'a> HistoryPieces<'a> {
         }
     }
 
-    /// Makes a piece the next part of the text, instead of what it was, and answers whether there
-    /// was one: at the end the piece is empty. Each part but the last is of more than 65,376 bytes.
+    /// Fills a piece with the next part of the text, in place of what is there, and answers whether
+    /// there was one: at the end the piece is empty. Each part but the last is of more than 65,376
+    /// bytes.
     ///
     /// # Cost
     ///

@@ -214,7 +214,7 @@ fn are_scripts(tries: u64, scripts: &[Script]) -> bool
     tries <= MAX_TRIES && are_short(scripts)
 }
 
-/// The work of a file's version, its numbers and its scripts.
+/// The work, from a file's version, numbers and scripts.
 #[tactic(auto, unfolding(crate::specs::ScriptFile::work_from))]
 fn work_in(version: u64, numbers: [u64; 4], scripts: Vec<Script>) -> Result<Scripts, FileFault>
     ensures { Gives (λ work. work) result (work_from version numbers scripts.items) }

@@ -187,7 +187,7 @@ pub fn limits_in(
     }
 }
 
-/// The limits and the steps of a file's version, its numbers and its steps.
+/// The limits and the steps, from a file's version, numbers and steps.
 #[tactic(auto, unfolding(crate::specs::StepFile::steps_from))]
 fn steps_in(
     version: u64,
@@ -225,7 +225,7 @@ fn steps_in(
 ///
 /// # Cost
 ///
-/// Time and memory in proportion to the bytes. The steps are in memory twice, once of them packed.
+/// Time and memory in proportion to the bytes. The steps are in memory twice, packed and unpacked.
 pub fn read_steps(alloc: Global, bytes: &[u8]) -> Result<(Limits, Vec<Step>), FileFault>
     ensures { Gives (λ file. (file.0, file.1.items)) result (file_of bytes.now) }
 {

@@ -2,7 +2,7 @@
 //! function of the entries, `text_of_history`. Takes time and memory in proportion to the text.
 //!
 //! An entry is written into a `Line`, from its end to its start, and then added to the text as a
-//! whole: so there is one test for room an entry.
+//! whole: so each entry needs one test for room.
 ghost use Rattle.std.specs.Prelude.{◌≡◌, ◌≤◌, ◌∷◌, ◌++◌, codes, decimal, length, map};
 ghost use Rattle.std.specs.Prelude.{OnOk, IfOk, string_bytes};
 ghost use Rattle.std.specs.List.{join_with_byte};

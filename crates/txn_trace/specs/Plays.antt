@@ -50,7 +50,7 @@ abbrev pub commits_of : ℕ → List Entry → List ℕ
 commits_of c h = txns_of (is_commit_of c) h
 
 -- Every `callers`-th of these scripts is the caller's, beginning with the one that has the caller's
--- number. This is one of the caller's.
+-- number. This script, number `n`, is one of these.
 pub record IsScriptOf (callers : ℕ) (scripts : List (List Action)) (c n : ℕ)
     (script : List Action) : Type 0 where
   pub mine : n % callers ≡ c

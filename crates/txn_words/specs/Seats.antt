@@ -68,7 +68,7 @@ abbrev pub first_of : List (Bool × Refusal) → Option Refusal
 first_of [] = None
 first_of (test ∷ tests) = if test.0 then Some test.1 else first_of tests
 
--- The refusal of a step that its caller's seat decides, if one of its tests fails.
+-- The refusal of a step that its caller's seat decides, if one of its tests holds.
 abbrev pub refusal_in : Bool → Seat → Step → Option Refusal
 refusal_in half seat step = first_of (tests_in half seat step)
 

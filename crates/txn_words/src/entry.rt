@@ -6,8 +6,8 @@ ghost use Rattle.txn_words.specs.Kinds.{caller_of};
 
 use crate::op::{Op, Reply};
 
-/// One line of a history. The first number of each is its caller; the entry belongs to the
-/// transaction that its caller began last.
+/// A record of one thing that a caller did. The first number is the caller's; the entry belongs to
+/// the transaction that its caller began last.
 #[derive(Clone, Copy, Debug, PartialEq, Eq)]
 pub enum Entry {
     /// A transaction began; the second number is the transaction's, counted from 1 over all

@@ -1,5 +1,5 @@
-//! An entry of a history in 48 bytes instead of 64, and the parts of an operation, by which packed
-//! actions and steps keep theirs too. A caller may have any number, unlike in a `SmallEntry`. The
+//! An entry of a history in 48 bytes instead of 64; and the parts of an operation, which packed
+//! actions and packed steps use too. A caller may have any number, unlike in a `SmallEntry`. The
 //! model is the entry, so a contract reads a list of packed entries as a history.
 ghost use Rattle.std.specs.Prelude.{◌≡◌};
 ghost use Rattle.txn_words.specs.Packed.{packed_op, packed_entry};

@@ -7,9 +7,9 @@ use crate::entry::Entry;
 use crate::small_entry::SmallEntry;
 use std::alloc::AllocError;
 
-/// Makes room in a list for this many more entries. If it is to be written, all room of the list is
-/// filled once, so that no later entry is the first to touch a page of memory. The entries are
-/// unchanged.
+/// Makes room in a list for this many more entries. If the room is to be written, all of the list's
+/// room is filled once, so that no later entry is the first to touch a page of memory. The entries
+/// are unchanged.
 ///
 /// # Errors
 ///
@@ -17,8 +17,8 @@ use std::alloc::AllocError;
 ///
 /// # Cost
 ///
-/// One allocation, and a copy of the entries if there are any; if the room is written, time in
-/// proportion to it.
+/// At most one allocation, with a copy of the entries if there are any; if the room is written,
+/// time in proportion to it.
 pub fn make_room(
     entries: &mut Vec<SmallEntry>,
     more: usize,

@@ -195,8 +195,8 @@ impl Seat {
         }
     }
 
-    /// Makes room for one more savepoint, if there is none; the seat and the room that it has are
-    /// unchanged.
+    /// Makes room for one more savepoint, if there is none. The seat is unchanged, and the room
+    /// never shrinks.
     ///
     /// # Errors
     ///

@@ -17,8 +17,8 @@ use Rattle.unthreaded_program.specs.declared.ending.Ending.{Ending}
 abbrev pub Outcome : Type 0
 Outcome = Result Bool Fault
 
--- What an engine does: the bytes of its file, if they are known, standard output before and after,
--- and the outcome.
+-- The effect of an engine. It relates the bytes of its file, if they are known, standard output
+-- before and after, and the outcome.
 abbrev pub Engine : Type 1
 Engine = Option (List ℕ) → Option (List ℕ) → Option (List ℕ) → Outcome → Type 0
 
@@ -71,7 +71,8 @@ abbrev pub Tells : Option (List ℕ) → Option (List ℕ) → Bool → Outcome 
 Tells old new is_told (Ok well) = Keeps old new × (is_told ≡ true)
 Tells old new is_told (Err fault) = is_told ≡ true → Appends old new (line (message_of fault))
 
--- A run with such an outcome has ended: with its status, and standard error has told it.
+-- The end of a run: it had an outcome as `HasRun` says, the status is that of the outcome, and
+-- standard error is as `HasTold` says.
 abbrev pub HasEnded : (Outcome → Type 0) → (Bool → Outcome → Type 0) → Ending → Type 0
 HasEnded HasRun HasTold ending = (outcome : Outcome) × HasRun outcome
     × (ending.status ≡ status_after outcome) × HasTold ending.is_told outcome

@@ -12,7 +12,7 @@ use std::io::Write;
 pub struct Ending {
     /// The exit status: 0 if all is well, 1 for an illegal history, else that of the fault.
     pub status: u8,
-    /// Whether standard error took the whole message.
+    /// Whether standard error took the whole message; true if there is none.
     pub is_told: bool,
 }
 
@@ -27,8 +27,8 @@ fn status_of(outcome: &Result<bool, Fault>) -> u8
     }
 }
 
-/// Writes the line of a fault, if the outcome is one, to `errors`, and answers the exit status. If
-/// `errors` does not take the line, the status is the same.
+/// Writes the line of a fault, if the outcome is one, to `errors`. Answers the exit status, and
+/// whether `errors` took the line. The status does not depend on that.
 ///
 /// # Cost
 ///

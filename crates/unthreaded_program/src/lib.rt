@@ -10,7 +10,8 @@
 //!
 //! Proved (`specs/Runs.antt`): the engine of the command that the words ask for ran on the file
 //! that they name; standard output has exactly what that engine wrote; standard error has the line
-//! of the fault, if there is one, and nothing else; and the status is that of the outcome.
+//! of the fault, if there is one, and nothing else, unless a write of it fails; and the status is
+//! that of the outcome.
 #![tactic(auto)]
 
 mod ending;

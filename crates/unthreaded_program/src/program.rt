@@ -54,9 +54,9 @@ fn run_words<S: System, W: Write>(alloc: Global, system: &S, output: &mut W) -> 
     run_command(alloc, opened.command, &mut opened.input, output)
 }
 
-/// Does all that the program does in one thread: reads the words of the call, opens the file that
-/// they name, runs the engine of the command on it, which writes to `output`, and writes the line of
-/// a fault to `errors`. The command `run` ends with `NoThread`.
+/// Does all that the program without threads does: reads the words of the call, opens the file
+/// that they name, runs the engine of the command on it, which writes to `output`, and writes the
+/// line of a fault to `errors`. The command `run` ends with `NoThread`.
 ///
 /// # Cost
 ///

@@ -74,9 +74,9 @@ impl<R: Wait> Work<R> for Visit {
     }
 }
 
-/// Makes a map, has each visitor visit it in its own thread, and closes it: its core, and an answer
-/// to each visit, in their order. Each visitor got what it put, whatever the others did: the core's
-/// history has its transaction, committed.
+/// Makes a map, has each visitor visit it in its own thread, and closes it. Answers the map's core,
+/// and an answer to each visit, in their order. Each visitor that has a reply got what it put,
+/// whatever the others did: the core's history has its transaction, committed.
 ///
 /// # Errors
 ///

@@ -1,6 +1,6 @@
-//! Cores at their limits. Memory may be refused to any call that takes some, so a body that gives
-//! up at a limit would be proved; with enough memory these calls have the same answers as
-//! elsewhere.
+//! Cores at their limits. The contracts let any call that takes memory be refused it, so a body
+//! that gives up at a limit would be proved. With enough memory these calls must have the same
+//! answers as elsewhere.
 use super::{Call, begin, help_is, large_core, play_calls, put, put_helped, small_core};
 use crate::devices::{
     abort, back, core_with, has_map, limits_of, operate, pairs_of, run_steps, sizes_of, step_is,

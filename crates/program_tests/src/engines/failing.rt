@@ -27,8 +27,7 @@ const OF_EACH_COMMAND: &[Printed] = &[
     (Command::Run, EMPTY_SCRIPT, SHORT_RUN),
 ];
 
-/// This test and the next two are `failing_devices`. Each byte is read and written once, and the
-/// end is read once.
+/// Each byte is read and written once, and the end is read once.
 #[test]
 fn one_byte_at_a_time(rt: HostRuntime) {
     for (command, text, printed) in OF_EACH_COMMAND {
@@ -61,7 +60,7 @@ fn failing_reads(rt: HostRuntime) {
     }
 }
 
-/// A write that fails, or takes nothing, is not tried again: a prefix is written.
+/// A write that fails, or takes nothing, is not tried again: a beginning of the line is written.
 fn fail_writes<T: Abort + Threads + Wait + Sync>(
     rt: &T,
     alloc: Global,

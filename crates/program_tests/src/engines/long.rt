@@ -10,9 +10,10 @@ use std::io::Write;
 use std::process::Abort;
 use std::test::Fail;
 
-/// Numbers of puts, and of the digits that the keys of the gets have in all beside one each. With
-/// the first number the last entry ends within 10 bytes of the border of a piece, so the end of the
-/// line is before it or behind it. With the second the border is at each byte of an entry.
+/// Numbers of puts, each with the least and the greatest number of further digits: those that the
+/// keys of the four gets have together, beside one each. With the first number of puts the last
+/// entry ends within 10 bytes of the border of a piece, so the end of the line is before it or
+/// behind it. With the second the border is at each byte of an entry.
 const LENGTHS: [(u64, u32, u32); 2] = [(1916, 36, 56), (1930, 0, 36)];
 
 /// The number of puts whose history fills two pieces and a part.
@@ -62,7 +63,7 @@ impl Write for Expecting<'_> {
     }
 }
 
-/// The key of a get: a power of ten. All four have this many digits more than one each.
+/// The key of a get: a power of ten. All four together have this many digits beside one each.
 fn key(get: u32, digits: u32) -> u64 {
     let more = digits.saturating_sub(get.saturating_mul(18)).min(18);
     10u64.checked_pow(more).unwrap_or(0)

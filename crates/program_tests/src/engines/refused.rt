@@ -1,6 +1,8 @@
-//! Callers whose changes are taken back in turn, if memory is refused: the state of the core, and
-//! the verdict of the checker on its history. It calls the core and not an engine, since an engine
-//! does not show the state between its steps. The state must be what the entries so far say.
+//! Callers of a core that is refused memory: in one test five take their changes back in turn, in
+//! the other a caller acts at its cursor after another's refused step. The tests call the core and
+//! not an engine, since an engine does not show the core between its steps. The first compares the
+//! entries, the numbers of buckets, keys and owed entries, the pairs and, after the changes, the
+//! holders of stripes with what a table of entries gives; then the checker judges the history.
 
 use boost_core::Core;
 use history_check::{Verdict, check};
@@ -180,7 +182,7 @@ const ENTRIES: [Entry; 60] = [
     Entry::Aborted(4),
 ];
 
-/// The number of them that the changes add.
+/// The number of entries that the changes add.
 const CHANGED: usize = 35;
 
 /// The callers and their keys, in the order of the list, which is that of reversed bits.
@@ -389,8 +391,8 @@ fn compare(rt: &impl Abort, alloc: Global, core: &mut Core, entries: &[Entry], l
 }
 
 /// Takes steps up to the first that is refused memory, which only a begin and an ask may be, and
-/// compares the state after each that adds an entry. `before` entries were there before. Answers
-/// how many there are then.
+/// compares the state after each that adds an entry, except after an ask. `before` entries were
+/// there before. Answers how many there are then.
 fn play(
     rt: &impl Abort,
     alloc: Global,
@@ -536,8 +538,8 @@ fn five_callers_undone_is_legal(rt: HostRuntime) -> Result<(), Fail> {
 }
 
 /// Meant to be run with allocations refused, like the test above. A caller has sought the position
-/// of its put when another caller's step is refused memory: its cursor still fits, since it acts by
-/// it and need not seek again.
+/// of its put when another caller's step is refused memory: its cursor still fits, so it acts there
+/// without another seek.
 #[test]
 fn a_cursor_stands_beside_a_refusal(rt: HostRuntime) -> Result<(), Fail> {
     play_on_core(&rt, rt.alloc(), 2, false)

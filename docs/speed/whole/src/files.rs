@@ -1,4 +1,4 @@
-//! The three kinds of file, read into types of their own, 32 bytes a piece. What is out of range in a piece is noted as it is read.
+//! The three kinds of file, each read into its own types, 32 bytes a piece. What is out of range in a piece is noted as it is read.
 use crate::machine::{Entry, Event, OpKind};
 use crate::step::{Limits, Op, Step};
 use serde::Deserialize;

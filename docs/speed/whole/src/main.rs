@@ -2,7 +2,8 @@
 //! what the program writes, and nothing is proved of it. See ../../SPEED.md.
 //!
 //! Usage: whole replay FILE | whole check FILE | whole mix --seed N FILE | whole run FILE | whole run_seen FILE, which
-//! keeps what each worker saw | whole run_kept FILE, which does all that the program does | whole history FILE N, which writes the first N entries of a step file's history.
+//! keeps what each worker saw | whole run_kept FILE, which does all that the program does | whole history FILE N, which
+//! writes the first N entries of a step file's history.
 #![allow(dead_code)]
 
 mod check;
