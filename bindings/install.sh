@@ -20,7 +20,7 @@ glue=$(dirname "$(${RT:-rt} doc)")/c/liblibc_c.a
 python=$prefix/share/boostmap/python
 mkdir -p "$prefix/lib/pkgconfig" "$prefix/include" "$python"
 
-# The scripts of ar take no blank in a path, and its status does not say so.
+# A script of ar takes no path with a blank, and ar's status does not say so.
 merged=$(mktemp -d)
 trap 'rm -rf "$merged"' EXIT
 cp "$proved" "$merged/proved.a"

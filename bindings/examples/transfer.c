@@ -6,8 +6,8 @@
 /* Whether an operation was done, at a key with or without a value. */
 static int is_done(boostmap_status status) { return status == BOOSTMAP_DONE || status == BOOSTMAP_ABSENT; }
 
-/* Reads the balance of an account, 0 if it is absent. If this fails, it returns 0, and the transaction
- * can only abort. */
+/* Reads the balance of an account, 0 if it is absent. Returns whether the read was done; if not, the
+ * transaction is to be aborted. */
 static int read_balance(boostmap *accounts, uint64_t account, uint64_t *balance) {
     *balance = 0;
     return is_done(boostmap_get(accounts, 0, account, balance));

@@ -25,12 +25,12 @@
  *     boostmap_striped_free(&mine);
  *
  * DESCRIPTION
- *     A map has 1 to 64 callers, named by their numbers. Each may have one transaction open, and
- *     the calls of several callers may be made in any order. Keys belong to stripes. An operation
- *     takes the stripe of its key, and its transaction keeps it to the end, so committed
- *     transactions have the replies of running one after another, in the order of their commits. A
- *     caller that finds a stripe held by another never waits: the call returns BOOSTMAP_BUSY, and
- *     the transaction can only abort.
+ *     A map has 1 to 64 callers, numbered from 0. Each may have one transaction open, and the calls
+ *     of several callers may be made in any order. Keys belong to stripes. An operation takes the
+ *     stripe of its key, and its transaction keeps the stripe to the end, so committed transactions
+ *     have the replies of running one after another, in the order of their commits. A caller that
+ *     finds a stripe held by another never waits: the call returns BOOSTMAP_BUSY, and the
+ *     transaction can only abort.
  *
  *     A striped map is for threads: each of its 1 to 4096 callers has its own handle, a
  *     `boostmap_caller`, and callers run in parallel without a lock. It grows by itself and keeps no
@@ -38,9 +38,10 @@
  *     BOOSTMAP_BUSY, and the transaction has been aborted, with all its changes taken back.
  *
  * RETURN VALUE
- *     Every call returns a status. Most take a pointer `word`: BOOSTMAP_DONE and BOOSTMAP_BUSY write
- *     a number there, and no other status does unless its call says so. The comment of a call ends
- *     with the statuses that it may return, and boostmap_text says a status in words:
+ *     Every call returns a status. Most take a pointer `word`: with BOOSTMAP_DONE and BOOSTMAP_BUSY
+ *     they write a number there (boostmap_abort never does), with another status only if their
+ *     comment says so. The comment of a call ends with the statuses that it may return, and
+ *     boostmap_text says a status in words:
  *
  *     0, 1      done; 1 at a key without a value
  *     2         another caller holds the key's stripe
@@ -123,9 +124,9 @@ enum {
     BOOSTMAP_FULL = 4,   /* the handle is in use already; nothing was done */
     BOOSTMAP_NULL = 5,   /* only from boostmap_checked.h: a null pointer */
     BOOSTMAP_IN_CALL = 6, /* only from boostmap_checked.h: the handle is in another call */
-    BOOSTMAP_SHORT = 7,  /* of a read: the array is too short; *word is the number of places that it needs */
-    BOOSTMAP_NO_ENTRY = 8, /* of a judge: these numbers are no entry of a caller below 64 */
-    /* 16 + the number of a refusal: nothing has changed, unless the comment of the call says what */
+    BOOSTMAP_SHORT = 7,  /* from a read: the array is too short; *word is the number of places needed */
+    BOOSTMAP_NO_ENTRY = 8, /* from a judge: these numbers are no entry of a caller below 64 */
+    /* 16 + the number of a refusal: nothing has changed, unless the comment of the call says so */
     BOOSTMAP_NO_SUCH_CALLER = 18,  /* the caller's number is not below the number of callers; from
                                       boostmap_striped_join: no caller waits */
     BOOSTMAP_NOT_OPEN = 19,        /* the caller has no transaction */
@@ -135,7 +136,8 @@ enum {
     BOOSTMAP_NO_SUCH_HELPER = 28,  /* as 18, from boostmap_help */
     BOOSTMAP_NO_MEMORY = 30,       /* memory was refused; never from commit and abort */
     BOOSTMAP_STAMPS_USED_UP = 32,  /* 2^64 - 2 nodes were made */
-    BOOSTMAP_LIMIT = 38            /* a limit, the stripes or the rule are out of range */
+    BOOSTMAP_LIMIT = 38            /* a limit is out of range; from boostmap_judge_new: no stripes, or
+                                      no such rule */
 };
 
 /* A status in words. */
@@ -185,7 +187,7 @@ typedef struct boostmap_pair {
 boostmap_status boostmap_read(boostmap *map, boostmap_pair *pairs, size_t places, uint64_t *word);
 
 /* Doubles the table if it has more than two keys a bucket, and initialises the key's bucket. Nothing
- * else doubles the table: call this from time to time when you put keys, or it becomes one long list.
+ * else doubles the table: call this from time to time when you put keys, or they form one long list.
  * After 30 and 32 the table may have grown all the same.    0; 3; 28; 32; 30 */
 boostmap_status boostmap_help(boostmap *map, uint64_t caller, uint64_t key);
 
@@ -215,7 +217,7 @@ boostmap_status boostmap_put_if_equal(boostmap *map, uint64_t caller, uint64_t k
 boostmap_status boostmap_save(boostmap *map, uint64_t caller, uint64_t *word);
 
 /* Takes back every change since the level was set; 0 is the beginning. The level stays set, later
- * ones are dropped, and the stripes stay held; *word: the level.    0; 3; 18; 19; 22; 25; 30 */
+ * levels are dropped, and the stripes stay held; *word: the level.    0; 3; 18; 19; 22; 25; 30 */
 boostmap_status boostmap_back(boostmap *map, uint64_t caller, uint64_t level, uint64_t *word);
 
 /* ---- the striped map ----------------------------------------------------------------------------
@@ -233,8 +235,8 @@ boostmap_status boostmap_back(boostmap *map, uint64_t caller, uint64_t level, ui
 #endif
 
 /* A handle of a caller: all zeros, or a caller of a striped map. The program does not touch the
- * fields. It has a line of the cache to itself: every call reads it, and would wait for what another
- * thread writes beside it. On the heap, take it from aligned_alloc. */
+ * fields. It has a line of the cache to itself: every call reads it, and writes of other threads to
+ * that line would slow the call down. On the heap, take it from aligned_alloc. */
 typedef struct boostmap_caller {
     BOOSTMAP_LINE uint64_t tag;
     void *held;
@@ -247,11 +249,11 @@ typedef struct boostmap_caller {
 boostmap_status boostmap_striped_open(boostmap_caller *first, uint64_t callers, uint64_t stripes, uint64_t *word);
 
 /* Makes `next` the handle of the next caller that waits; *word: its number, counted down to 1. Both
- * handles are in this call.    0; 3: `first` is empty; 4: `next` is in use; 18: nobody waits; 30 */
+ * handles are in this call.    0; 4: `next` is in use; 3: `first` is empty; 18: nobody waits; 30 */
 boostmap_status boostmap_striped_join(boostmap_caller *first, boostmap_caller *next, uint64_t *word);
 
-/* Frees the caller, and those that still wait to be joined by it; an open transaction is aborted.
- * 0; 3 */
+/* Frees the caller, and the callers that still wait to be joined through its handle; an open
+ * transaction is aborted.    0; 3 */
 boostmap_status boostmap_striped_free(boostmap_caller *caller);
 
 /* Begins a transaction.    0; 3; 20 */
@@ -276,7 +278,7 @@ boostmap_status boostmap_striped_put_if_equal(boostmap_caller *caller, uint64_t 
 boostmap_status boostmap_striped_save(boostmap_caller *caller, uint64_t *word);
 
 /* Takes back every change since the level was set; 0 is the beginning. The level stays set, later
- * ones are dropped, and the stripes stay held.    0; 3; 19; 25 */
+ * levels are dropped, and the stripes stay held.    0; 3; 19; 25 */
 boostmap_status boostmap_striped_back(boostmap_caller *caller, uint64_t level);
 
 /* Takes every stripe; *word: the number of keys that the map has, with the transaction's own changes.
@@ -284,9 +286,10 @@ boostmap_status boostmap_striped_back(boostmap_caller *caller, uint64_t level);
  * 0; 2, after which the transaction has been aborted; 3; 19; 30 */
 boostmap_status boostmap_striped_count(boostmap_caller *caller, uint64_t *word);
 
-/* Takes every stripe in the same way, and writes the pairs of the map, by rising keys, to the front of
- * an array of `places` elements; *word: the number of pairs. After 7 the array is unchanged, and *word
- * is the number of places that it needs.    0; 2; 3; 7; 19; 30 */
+/* Takes every stripe as boostmap_striped_count does, and writes the pairs of the map, by rising keys,
+ * to the front of an array of `places` elements; *word: the number of pairs. After 7 the array is
+ * unchanged, and *word is the number of places that it needs.
+ * 0; 2, after which the transaction has been aborted; 3; 7; 19; 30 */
 boostmap_status boostmap_striped_read(boostmap_caller *caller, boostmap_pair *pairs, size_t places, uint64_t *word);
 
 /* ---- the judge of histories ---------------------------------------------------------------------
@@ -302,7 +305,7 @@ boostmap_status boostmap_striped_read(boostmap_caller *caller, boostmap_pair *pa
  *     DID              has, value: the reply to the operation that was asked for
  *     SAVED            a savepoint, the caller's next level
  *     LEAVE            has, number: the caller goes back to a level, or aborts (has is 0)
- *     UNDONE           the newest change that stood is taken back
+ *     UNDONE           the newest change that still stands is taken back
  *     RETURNED         number: the caller is back at the level
  *     COMMITTED        number: the place in the order of commits, from 1
  *     FOUND_BUSY       as ASKED, and number: the caller that holds the key's stripe; the
@@ -334,15 +337,15 @@ typedef struct boostmap_entry {
     uint64_t value;
     uint64_t expected; /* of a put_if that expects a value; `has` is then 1 */
     uint64_t number;
-    uint64_t has;      /* 0: no reply, no expected value, no level */
+    uint64_t has;      /* 0: no reply, no expected value, no level; else there is one */
 } boostmap_entry;
 
 typedef struct boostmap_verdict {
     uint64_t is_legal; /* 1 or 0 */
-    uint64_t commits;  /* if legal: the number of committed transactions, */
-    uint64_t running;  /* and of callers that are in one */
-    uint64_t entry;    /* if not: the index, from 0, of the first entry that breaks a rule, */
-    uint64_t rule;     /* and the rule: 1 replies, 2 locks, 3 shape */
+    uint64_t commits;  /* if legal: the number of committed transactions */
+    uint64_t running;  /* if legal: the number of callers that are in a transaction */
+    uint64_t entry;    /* if not: the index, from 0, of the first entry that breaks a rule */
+    uint64_t rule;     /* if not: the rule that it breaks: 1 replies, 2 locks, 3 shape */
 } boostmap_verdict;
 
 /* The rule by which a history is judged.
@@ -356,8 +359,8 @@ typedef struct boostmap_verdict {
  * transaction had a wrong reply (rule 1), or an entry out of the order of a transaction (rule 3). */
 enum { BOOSTMAP_HOLDER_NOW = 0, BOOSTMAP_HOLDER_BEGUN = 1, BOOSTMAP_BY_COMMITS = 2 };
 
-/* Begins to judge the history of a map with `stripes` stripes; by the order of commits the number is
- * ignored.    0; 4; 38; 30 */
+/* Begins to judge the history of a map with `stripes` stripes, at least one; by the order of commits
+ * the number is ignored.    0; 4; 38; 30 */
 boostmap_status boostmap_judge_new(boostmap_judge *judge, uint64_t stripes, uint32_t rule);
 
 /* Feeds the next entry. It has been fed only after 0; after 30 it may be fed again. Entries after the
@@ -365,11 +368,11 @@ boostmap_status boostmap_judge_new(boostmap_judge *judge, uint64_t stripes, uint
 boostmap_status boostmap_judge_feed(boostmap_judge *judge, const boostmap_entry *entry);
 
 /* Feeds the entries of an array, in their order, up to the first that cannot be fed; *word: the number
- * of entries fed.    0; 3, which writes no word; 8 and 30, for the entry with the index *word */
+ * of entries fed.    0; 3, which writes no word; 8 and 30, which are for the entry with index *word */
 boostmap_status boostmap_judge_feed_all(boostmap_judge *judge, const boostmap_entry *entries, size_t count,
                                         uint64_t *word);
 
-/* The verdict on the entries so far.    0; 3 */
+/* Writes the verdict on the entries so far.    0; 3, which writes nothing */
 boostmap_status boostmap_judge_verdict(boostmap_judge *judge, boostmap_verdict *verdict);
 
 /* Frees the judge.    0; 3 */

@@ -36,8 +36,8 @@ struct error : std::runtime_error {
     explicit error(boostmap_status s) : std::runtime_error(boostmap_text(s)), status(s) {}
 };
 
-// Thrown if entries could not all be fed: those before the entry with this index are fed, and feeding
-// may go on there.
+// Thrown if not all entries could be fed: those before the index `fed` are fed, and feeding may go on
+// there.
 struct not_fed : error {
     std::uint64_t fed;
     not_fed(boostmap_status s, std::uint64_t count) : error(s), fed(count) {}
@@ -89,6 +89,8 @@ public:
         boostmap_status status = boostmap_count(&handle_, &word);
         return *detail::value_or_throw(status, word);
     }
+    // Doubles the table if it has more than two keys a bucket, and initialises the key's bucket. Nothing
+    // else doubles the table, so call this from time to time when you put keys.
     void help(std::uint64_t caller, std::uint64_t key) { detail::check(boostmap_help(&handle_, caller, key)); }
 
     // The pairs of the map, with the changes of open transactions, in no particular order.

@@ -22,7 +22,8 @@ typedef struct boostmap_door {
 
 #define BOOSTMAP_DOOR_INIT { BOOSTMAP_INIT, 0 }
 
-/* Defines boostmap_checked_NAME, by its parameters, the door first, and the call behind the door. */
+/* Defines boostmap_checked_NAME by its parameters, of which the first is the door, and by the call
+ * behind the door. */
 #define BOOSTMAP_CHECKED(NAME, PARAMETERS, CALL)                                                    \
     static inline boostmap_status boostmap_checked_##NAME PARAMETERS {                             \
         boostmap_status status;                                                                    \

@@ -120,8 +120,8 @@ class Busy(Error):
 
 
 class Refused(Error):
-    """The call was refused with `status`. Nothing has changed; but `help` may have grown the table, and `items` and
-    `len` of a transaction may have taken stripes."""
+    """The call was refused with `status`. Nothing has changed, except that `help` may have grown the table, and `items`
+    and `len` of a transaction may have taken stripes."""
 
     def __init__(self, status):
         super().__init__(_REASONS.get(status, f"status {status}"))
@@ -129,7 +129,7 @@ class Refused(Error):
 
 
 class NotFed(Refused):
-    """Entries could not all be fed: those before the index `fed` are fed, and feeding may go on there."""
+    """Not all entries could be fed: those before the index `fed` are fed, and feeding may go on there."""
 
     def __init__(self, status, fed):
         super().__init__(status)
@@ -177,7 +177,7 @@ class _Owned:
         return _value(status, word)
 
     def close(self):
-        """Frees the handle. Nothing of an open transaction stays."""
+        """Frees what the handle owns. No change of an open transaction stays."""
         with self._lock:
             getattr(_library, "boostmap_" + self._free)(self._handle)
 
@@ -218,7 +218,8 @@ class Map(_Owned):
             places = word.value
 
     def help(self, key, caller=0):
-        """Doubles the table if it has more than two keys a bucket, and initialises the key's bucket."""
+        """Doubles the table if it has more than two keys a bucket, and initialises the key's bucket. Nothing else
+        doubles the table, so call this from time to time when you put keys."""
         self._call("help", caller, key)
 
     def transaction(self, caller=0):
@@ -244,7 +245,7 @@ class Transaction:
                 self.commit_number = self._call("commit")
                 self._is_open = False
         finally:
-            # An abort that is refused does not hide the exception: the map is closed then.
+            # The abort is refused after a commit and on a closed map. That does not hide the exception.
             with contextlib.suppress(Refused):
                 self._call("abort")
             self._is_open = False
@@ -267,7 +268,7 @@ class Transaction:
         return self._call("put", key, value)
 
     def put_if(self, key, expected, value):
-        """Puts the value if the key has the expected one, or None if it is absent; returns the value before."""
+        """Puts the value if the key has the expected one (None: if it is absent), and returns the value before."""
         if expected is None:
             return self._call("put_if_absent", key, value)
         return self._call("put_if_equal", key, expected, value)
@@ -362,7 +363,7 @@ class CallerTransaction:
         return self._call("striped_put", key, value)
 
     def put_if(self, key, expected, value):
-        """Puts the value if the key has the expected one, or None if it is absent; returns the value before."""
+        """Puts the value if the key has the expected one (None: if it is absent), and returns the value before."""
         if expected is None:
             return self._call("striped_put_if_absent", key, value)
         return self._call("striped_put_if_equal", key, expected, value)
@@ -412,7 +413,7 @@ class Entry(collections.namedtuple("Entry", "kind caller operation key value exp
 
 Verdict = collections.namedtuple("Verdict", "is_legal commits running entry rule")
 Verdict.__doc__ = """The judge's verdict. If legal, the number of committed transactions, and of callers that are in
-one; if not, the index of the first bad entry, from 0, and its rule: "replies", "locks" or "shape"."""
+one; if not, the index of the first bad entry, from 0, and the rule that it breaks: "replies", "locks" or "shape"."""
 
 
 class Judge(_Owned):

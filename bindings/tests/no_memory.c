@@ -1,5 +1,5 @@
-/* Each allocation refused in turn: the call that asked for it returns BOOSTMAP_NO_MEMORY and changes
- * nothing, so the same call succeeds when it is made again; no other call fails, and nothing leaks.
+/* Each allocation refused in turn: the call that asked for it returns BOOSTMAP_NO_MEMORY, leaves the
+ * map or the judge unchanged, and succeeds when it is made again; no other call fails, and nothing leaks.
  * Linked with -Wl,--wrap=malloc -Wl,--wrap=realloc -Wl,--wrap=free. */
 #include "boostmap.h"
 #include "check.h"

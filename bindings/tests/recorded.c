@@ -1,5 +1,5 @@
 /* Four callers take turns at random in one map; the program notes each answer as an entry of a
- * history, and the judge must find the history legal. Then one reply is forged, and it must not. */
+ * history, and the judge must find the history legal. With one reply forged it must not. */
 #include "boostmap.h"
 #include "check.h"
 #include <string.h>

@@ -1,4 +1,5 @@
-/* Each status of each call, once: what the call returns, what it writes, and what it leaves unchanged. */
+/* Each status of each call on a map with one owner, once: what the call returns, what it writes, and what
+ * it leaves unchanged. Status 7 is in read.c, 30 in no_memory.c, and 32 needs 2^64 - 2 nodes. */
 #include "boostmap.h"
 #include "check.h"
 #include <string.h>

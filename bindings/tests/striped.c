@@ -1,5 +1,5 @@
-/* Each status of each call of a striped map, once: what the call returns, what it writes, and what it
- * leaves unchanged. */
+/* Each status of each call on a caller of a striped map, once: what the call returns, what it writes, and
+ * what it leaves unchanged. Status 30 is in no_memory.c. */
 #include "boostmap.h"
 #include "check.h"
 

@@ -3,9 +3,9 @@
  *
  * A transaction holds each of its stripes from the operation that took it to its end. So each stamp is
  * taken while the stripes are held: for an operation after its answer, for a commit and an abort before
- * the call, and for an operation that is busy before its call, which ends the transaction. Then, for two
- * transactions on one stripe, all stamps of the first up to its end are less than those of the second
- * from its operation on, and the replies fit in the order of the stamps.
+ * the call, and for an operation that is busy before its call, which ends the transaction. If two
+ * transactions take one stripe, all stamps of the first up to its end are less than those of the second
+ * from its operation there on. So the replies fit in the order of the stamps.
  *
  * Commits that run at the same time may be placed in another order than that of their stamps. A commit
  * therefore gets the latest stamp of all commits up to its place. Each of these stamps was taken before

@@ -1,4 +1,6 @@
-//! The striped map, for threads: each thread has its own caller, and no call takes a lock or waits.
+//! The striped map, for threads: each thread has its own caller, and no call takes a lock or waits. Its
+//! transactions are apart from those of a `Map`, since a call that is `Busy` ends them. The handle of a
+//! caller owns it from `open_striped` to its drop.
 use crate::sys::{self, Handle};
 use crate::{answer, Error, Result};
 use std::thread;
@@ -77,7 +79,7 @@ impl Caller {
     ///
     /// # Errors
     ///
-    /// The job's; `NotOpen` if the job returned `Ok` although a call was `Busy`.
+    /// The job's, those of `begin`, and `NotOpen` if the job returned `Ok` although a call was `Busy`.
     pub fn transact<T>(
         &mut self,
         tries: u64,
@@ -150,7 +152,7 @@ impl CallerTransaction<'_> {
     }
 
     /// Puts a value if the key has the expected one (`None`: if it is absent), and returns the value
-    /// before. The value was put exactly if that is the expected one.
+    /// before. The value was put exactly if the value before is the expected one.
     ///
     /// # Errors
     ///

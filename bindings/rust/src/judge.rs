@@ -1,4 +1,5 @@
-//! The judge of histories, to which entries are fed.
+//! The judge of histories, to which entries are fed. It needs no map: the entries may be those of any
+//! store. The handle of a judge owns a checker from `new` or `by_commits` to its drop.
 use crate::sys::{self, Handle};
 use crate::{Error, Result};
 use std::error;
@@ -36,7 +37,7 @@ impl From<NotFed> for Error {
 pub enum Operation {
     /// Puts a value at a key.
     Put { key: u64, value: u64 },
-    /// Puts a value at a key that has the expected one, or none.
+    /// Puts a value if the key has the expected one (`None`: if it is absent).
     PutIf { key: u64, expected: Option<u64>, value: u64 },
     /// Takes a key out.
     Take { key: u64 },
@@ -124,7 +125,7 @@ const BY_COMMITS: u32 = 2;
 /// The rule that an entry breaks.
 #[derive(Clone, Copy, Debug, PartialEq, Eq)]
 pub enum Rule {
-    /// A reply is not the one of running alone after the commits before.
+    /// A reply differs from that of running alone after the commits before it.
     Replies,
     /// Two transactions hold a stripe, or a `Busy` entry names a caller that it may not name.
     Locks,
@@ -135,9 +136,9 @@ pub enum Rule {
 /// The judge's verdict on the entries so far.
 #[derive(Clone, Copy, Debug, PartialEq, Eq)]
 pub enum Verdict {
-    /// No entry breaks a rule: the number of committed transactions, and of callers that are in one.
+    /// No entry breaks a rule; with the number of committed transactions, and of callers that are in one.
     Legal { commits: u64, running: u64 },
-    /// The first entry that breaks a rule, counted from 0.
+    /// The index of the first entry that breaks a rule, from 0, and the rule.
     Illegal { entry: u64, rule: Rule },
 }
 
@@ -165,7 +166,7 @@ impl Judge {
     ///
     /// # Errors
     ///
-    /// `Limit` without stripes; `NoMemory`.
+    /// `Limit` if there are no stripes, and `NoMemory`.
     pub fn new(stripes: u64, holder: Holder) -> Result<Judge> {
         Judge::by_rule(stripes, holder as u32)
     }
@@ -208,8 +209,7 @@ impl Judge {
     ///
     /// # Errors
     ///
-    /// [`NotFed`] with the error of [`Judge::feed`] for that one, and how many stand before it. These
-    /// are fed.
+    /// [`NotFed`], with the error of [`Judge::feed`] for that entry. The entries before it are fed.
     pub fn feed_all(&mut self, entries: &[Entry]) -> std::result::Result<(), NotFed> {
         let entries: Vec<sys::Entry> = entries.iter().map(|entry| entry.to_c()).collect();
         let mut fed = 0;

@@ -190,7 +190,7 @@ pub enum Error {
     Leaving,
     /// The level is above the number of savepoints.
     NoSuchLevel,
-    /// Memory was refused. Nothing has changed, but for what the call says.
+    /// Memory was refused. Nothing has changed, except what the call names.
     NoMemory,
     /// All stamps are used up: 2^64 - 2 nodes were made.
     StampsUsedUp,
@@ -311,7 +311,7 @@ impl Map {
     ///
     /// # Errors
     ///
-    /// The job's, and those of `begin`.
+    /// The job's, those of `begin`, and `Leaving` if the job returned `Ok` although a call was `Busy`.
     pub fn transact<T>(&mut self, caller: u64, job: impl FnOnce(&mut Transaction<'_>) -> Result<T>) -> Result<T> {
         let mut transaction = self.begin(caller)?;
         let value = job(&mut transaction)?;
@@ -375,7 +375,7 @@ impl Map {
     }
 
     /// Puts a value if the key has the expected one (`None`: if it is absent), and returns the value
-    /// before. The value was put exactly if that is the expected one.
+    /// before. The value was put exactly if the value before is the expected one.
     ///
     /// # Errors
     ///

@@ -32,6 +32,9 @@
 //! | 7 short, 8 no entry | the array has too few places; the numbers are no entry | unchanged |
 //! | 16 + n | refusal n of `txn_trace` | unchanged, and so is the map |
 //!
+//! After a refusal `boostmap_striped_count` and `boostmap_striped_read` may hold more stripes than
+//! before, and `boostmap_help` may have initialised buckets.
+//!
 //! No export has a `requires`: a caller's number, a level or a limit that is out of range, a call
 //! out of order, and an empty handle each have a status. The rest of what C must do is in the
 //! header: pass valid pointers, and make one call at a time on a handle. Handles of one striped map

@@ -15,10 +15,10 @@ pub(crate) const ABSENT: u32 = 1;
 /// Another caller, the word, holds the key's stripe.
 pub(crate) const BUSY: u32 = 2;
 
-/// The handle has no map.
+/// The handle owns nothing.
 pub(crate) const EMPTY: u32 = 3;
 
-/// The handle has a map already.
+/// The handle owns something already.
 pub(crate) const FULL: u32 = 4;
 
 /// The array has too few places.

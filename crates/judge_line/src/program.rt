@@ -25,8 +25,8 @@ const VERSION: &str = "judge 1.0.0";
 /// How a run of the program ended.
 #[derive(Clone, Copy, Debug, PartialEq, Eq)]
 pub struct Ending {
-    /// The exit status: 0 if all is well, 1 for an illegal history or a script that was given up,
-    /// else that of the failure.
+    /// The exit status: 0 if all is well, 1 for an illegal history or a script without an `abort`
+    /// that was given up, else that of the failure.
     pub status: u8,
     /// Whether standard error took the whole message; true if there is none.
     pub is_told: bool,
