@@ -59,9 +59,9 @@ IsReasonByLocks rules.Locks stripes h (entries.Busy c op x) reason =
 IsReasonByLocks rules.Locks stripes h e reason = Unit {0}
 IsReasonByLocks rules.Shape stripes h e reason = IsShapeReason h (caller_of e) reason
 
--- The open transaction of the caller read a value that is not committed, and this is the last
--- commit that changed the key; or its replies fit the committed map, or no map at all, and this is
--- the first that contradicts those before it.
+-- The open transaction of the caller read a value that is not committed, and `commit` is the last
+-- commit that changed the key. Or the transaction's replies fit the committed map, or no map at
+-- all, and `since` is as `IsTornSince` says.
 abbrev pub IsCommitReason : List Entry → ℕ → Reason → Type 0
 IsCommitReason h c (reasons.Misread key read due commit) =
     ((t : ℕ) → txn_in h c ≡ Some t → is_open t h ≡ true

@@ -5,8 +5,9 @@
 //! due, who last changed the key and the fate of that change, who holds a lock and since which
 //! entry, or which entries are allowed there instead.
 //!
-//! Each question is answered by a separate pass over the entries before the bad one, so an answer
-//! takes time in proportion to the history; nothing is kept between two questions.
+//! Each question is answered by separate passes over the entries before the bad one. A pass takes
+//! constant time an entry, or, if it feeds a checker, the checker's time. Nothing is kept between
+//! two questions.
 //!
 //! Proved: each answer is the one of the definitions. The due reply is that of the map now or of
 //! the committed map, the holder of a lock is `holder_of`, and the last change of a key, its fate,

@@ -151,7 +151,8 @@ fn began_in(entries: &[SmallEntry]) -> u64 {
         .count() as u64
 }
 
-/// The reason if the rule of shape is broken: what says which entries the caller may have instead.
+/// The reason if the rule of shape is broken: the caller's phase and newest change, and the counts,
+/// which tell the entries that the caller may have instead.
 fn shape_reason(callers: &Callers, began: u64, caller: u64) -> Reason
     requires { caller < 64 }
     ensures { (h : List Entry) → HaveEntered h callers.now → IsShapeReason h caller result }

@@ -23,8 +23,8 @@ use Rattle.bad_file.specs.declared.place.Place.TheVariants.{File, Version, Strip
 
 -- ---- the elements of an entry
 
--- The entry that elements are: in version 1 none that is new, and if the range is asked for, none
--- whose callers are out of range.
+-- The entry that these elements are. In version 1 an entry that is new is none; and if the range is
+-- asked for, an entry with a caller out of range is none.
 abbrev pub entry_in : Bool → Bool → List Data → Option TheEntry
 entry_in is_old ranged ds =
     option_and_then (λ e. if (not is_old || is_old_entry e) && (not ranged || is_in_range e) then Some e else None)
@@ -35,9 +35,10 @@ abbrev pub Begins : Bool → Bool → List Data → Type 0
 Begins is_old ranged ds = (more : List Data) × IsSome (entry_in is_old ranged (ds ++ more))
 
 -- The element of this index is the first at fault in elements that are no entry, and `wanted` is
--- what is allowed there: some entry begins with the elements before it; one begins with these and a
--- further element exactly if that element is as wanted; and this one is not. If None is wanted, no
--- element is allowed there; if one is missing, the index is the number of elements.
+-- what is allowed there. Some entry begins with the elements before it. Some entry begins with
+-- these and a further element exactly if the further element is as wanted. The element of this
+-- index is not as wanted. If None is wanted, no element is allowed there. If an element is missing,
+-- the index is the number of elements.
 pub record IsFault (is_old ranged : Bool) (ds : List Data) (i : ℕ) (wanted : Option Expected)
     : Type 0 where
   pub refused : entry_in is_old ranged ds ≡ None

@@ -3,16 +3,18 @@
 //! atomic words.
 //!
 //! Each phase writes one line on standard error: what it did, the number of operations, the time,
-//! and the sum of their answers, by which another program that does the same can be compared; the
-//! words write how many takes were granted. Nothing is written on standard output.
+//! and the sum of their answers, by which another program that does the same can be compared. The
+//! words write how many takes were granted in place of the sum. The striped map writes how many
+//! transactions it does a second, the processor time of one, and the outcomes. Nothing is written
+//! on standard output.
 //!
 //! The first argument is `nodes`, `maps`, `core`, `shared`, `words` or `striped`, for only that
-//! part, or `all`, which is the default. The second is the number of keys, or for the words the
-//! number of takes of each thread; without it there are few. The third is, for `core`, a step file,
-//! whose steps the core takes in place of puts on few keys; for `shared`, a script file, whose
-//! scripts are run in place of puts on few keys; and for `words` the number of threads, up to 64,
-//! or two without it. `striped` is followed by the numbers of threads, keys, transactions of each
-//! thread and stripes, or by the first few of these.
+//! part, or `all`, which is the default. The second is the number of keys, for `core` and `shared`
+//! the number of puts, and for `words` the number of takes of each thread; without it there are
+//! few. The third is, for `core`, a step file, whose steps the core takes in place of puts on few
+//! keys; for `shared`, a script file, whose scripts are run in place of puts on few keys; and for
+//! `words` the number of threads, up to 64, or two without it. `striped` is followed by the numbers
+//! of threads, keys, transactions of each thread and stripes, or by the first few of these.
 #![tactic(auto)]
 
 mod any_map;
@@ -36,7 +38,8 @@ use std::env;
 use striped::{STRIPES, time_striped};
 use words::time_words;
 
-/// The number of keys, of mixed operations and of takes, if no argument gives it.
+/// The number of keys, of mixed operations, of puts, of takes and of each thread's transactions, if
+/// no argument gives it.
 const FEW: u64 = 10_000;
 
 /// The number of mixed operations, if an argument gives the number of keys.

@@ -1,7 +1,8 @@
 //! Times transactions on a striped map, with a caller for each thread.
 //!
 //! A transaction is four operations, drawn by a linear congruence: half puts, a quarter takes, a
-//! quarter gets. Each tenth aborts. One that meets a stripe that another holds is tried again.
+//! quarter gets. Every tenth transaction of a thread aborts. A transaction that meets a stripe that
+//! another holds is tried again.
 use anyhow::{Result, anyhow, ensure};
 use std::alloc::{AllocError, Global};
 use std::sync::Wait;

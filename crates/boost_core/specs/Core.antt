@@ -144,8 +144,8 @@ pub record Tells (w : World) : Type 0 where
   pub helpers : length (helps_of w.table) ≡ w.limits.callers
   pub sound : IsSound w.table.list
 
--- In addition, the entries that the callers owe are counted, the history has room for them, and the
--- callers that have begun are noted.
+-- The world is as `Tells` says. The entries that the callers owe are counted, the history has room
+-- for them, and the callers that have begun are noted.
 pub record Holds (w : World) (history : Vec Entry) (owed : ℕ) (begun : List Bool) : Type 0 where
   pub tells : Tells w
   pub owes : owed ≡ sum_by owed_of w.sessions

@@ -75,7 +75,7 @@ tests_of state (Some (Helper h)) step =
 abbrev pub refusal_of : State → Step → Option Refusal
 refusal_of state step = first_of (tests_of state (owner_of step) step)
 
--- Whether a stamp is left: the last one is 2^64 - 2.
+-- Whether a stamp is left: 2^64 - 2, the last one, was not given yet.
 abbrev pub has_stamp : State → Bool
 has_stamp state = not (state.stamp == 2 ^ 64 - 2)
 

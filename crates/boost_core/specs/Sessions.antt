@@ -116,7 +116,7 @@ abbrev pub AreDue : Map → List MapJob → Type 0
 AreDue m [] = Unit {0}
 AreDue m (job ∷ jobs) = IsDue m job × AreDue (set_at m (key_of_job job) (value_before job)) jobs
 
--- A cursor was placed for a key, if there is one.
+-- There is a key, and the cursor was placed for it.
 abbrev pub IsPlacedFor : TableAt → Cursor → Option ℕ → Type 0
 IsPlacedFor t cursor None = ⊥
 IsPlacedFor t cursor (Some key) = IsPlaced t cursor key

@@ -10,11 +10,11 @@ abbrev pub times_of : Option SpareAt → ℕ → ℕ → ℕ
 times_of None place stamp = 0
 times_of (Some spare) place stamp = if spare.place == place && spare.stamp == stamp then 1 else 0
 
--- How often the jobs of a list own it.
+-- How often the jobs of a list own the spare of this place and stamp.
 abbrev pub times_in : List MapJob → ℕ → ℕ → ℕ
 times_in jobs place stamp = sum_by (λ job. times_of (spare_of_job job) place stamp) jobs
 
--- How often a table has given it out: once or not.
+-- How often a table has given out the spare of this place and stamp: once or not at all.
 abbrev pub times_out : TableAt → ℕ → ℕ → ℕ
 times_out t place stamp = if option_eq nat_eq (spare_out t place) (Some stamp) then 1 else 0
 

@@ -29,8 +29,8 @@ is_ask step = false
 abbrev pub is_taken : State → ℕ → Op → Bool
 is_taken state c op = not (is_locked Now state.limits.stripes state.history (entries.Asked c op))
 
--- The claim of caller `c` if the word names caller `named`: that `named` holds the stripe. If that
--- is `c` itself, or has never begun a transaction, the word is stale.
+-- The claim of caller `c` if the word names caller `named`. The claim is that `named` holds the
+-- stripe; but if `named` is `c` itself, or has never begun a transaction, the word is stale.
 abbrev pub claim_of : State → ℕ → ℕ → Claim
 claim_of state c named =
     if not (named == c) && has_begun named state.history then Held named else Stale

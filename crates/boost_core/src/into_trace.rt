@@ -1,6 +1,6 @@
-//! The history of a core that is no longer needed, moved out without a copy. Only this code takes a
-//! core apart, which has a `Drop`. A vector of entries has no invariant that says it is legal, so
-//! the contract states all that the contract of `trace` states.
+//! The history of a core that is no longer needed, moved out without a copy. A core has a `Drop`,
+//! and only this code takes a core apart. A vector of entries has no invariant that says it is
+//! legal, so the contract states all that the contract of `trace` states.
 ghost use Rattle.std.specs.Prelude.{◌≡◌, ◌<◌};
 ghost use Rattle.std.specs.List.{All};
 ghost use Rattle.txn_words.specs.Kinds.{caller_of};

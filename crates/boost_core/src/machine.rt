@@ -288,8 +288,8 @@ impl Core {
     ///
     /// # Cost
     ///
-    /// One allocation, and a copy of the history if there is one; if the room is written, time in
-    /// proportion to it.
+    /// At most one allocation, with a copy of the history if there is one; if the room is written,
+    /// time in proportion to it.
     pub fn reserve(&mut self, entries: usize, is_written: bool) -> Result<(), AllocError>
         ensures { self.new ≡ self.old }
     {

@@ -126,8 +126,8 @@ impl Core {
     /// Helps the table to grow, by the steps of a drive's call `Help`, taken in a row: doubles it
     /// if it has more than two keys for each bucket, and then initialises the bucket that the key
     /// has at the new size, its ancestors first. It needs no transaction, and the map and the
-    /// history are unchanged. No other plain call doubles a table: call it beside `put`, or each
-    /// seek walks one long list.
+    /// history are unchanged. No other plain call doubles a table: without `help` beside `put`,
+    /// each seek walks one long list.
     ///
     /// # Errors
     ///

@@ -1,5 +1,5 @@
--- The effect of a call on a handle, from the states of the map that it owns before and after. A
--- handle without a map stays without one, and C is told so.
+-- The effect of a call on a handle, from the states of the map that it owns before and after.
+-- Except by `Makes`, a handle without a map stays without one, and C is told so.
 use Rattle.std.specs.Prelude.{◌≡◌, ℕ, Option, Some, None, Result, Ok, Err}
 use Rattle.txn_words.specs.declared.answer.Answer.{Answer}
 use Rattle.txn_words.specs.declared.refusal.Refusal.{Refusal}

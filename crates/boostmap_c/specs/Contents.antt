@@ -15,7 +15,7 @@ pub record Lie (pairs : List (ℕ × ℕ)) (before after : List CPair) : Type 0 
   pub front : take (length pairs) after ≡ map pair_of pairs
   pub rest : drop (length pairs) after ≡ drop (length pairs) before
 
--- The pairs, in the order of the list; or only their number, if the array has too few places.
+-- These pairs, in this order; or only their number, if the array has too few places.
 abbrev pub LaysOf : List (ℕ × ℕ) → ℕ → List CPair → List CPair → ℕ → Type 0
 LaysOf pairs zero before after word = (word ≡ length pairs) × Lie pairs before after
 LaysOf pairs (suc status) before after word =

@@ -1,5 +1,5 @@
 -- The effect of a striped map's call on a handle, from the members that the handle owns before and
--- after. An empty handle stays empty, and C is told so.
+-- after. Except by `Opens` and `Joins`, an empty handle stays empty, and C is told so.
 use Rattle.std.specs.Prelude.{◌≡◌, ℕ, ◌+◌, ◌<◌, ◌&&◌, nat_le, Bool, true, [], ◌∷◌, ◌++◌, length, Option, Some, None, Result, if◌then◌else◌}
 use Rattle.std.specs.List.{HoldsAt}
 use Rattle.txn_words.specs.declared.refusal.Refusal.TheVariants.{NoMemory, NoSuchCaller, Limit}
@@ -74,9 +74,9 @@ Opens (Some old) callers stripes status before after new =
 abbrev pub IsSame : Member → Member → Type 0
 IsSame old new = (new.caller ≡ old.caller) × (new.waiting.items ≡ old.waiting.items)
 
--- The last caller that waits gets its own member, in which no caller waits, and the word is the
--- number of those that waited: by `IsFirst` its number. Or no member is made, since no caller waits
--- or memory is refused.
+-- The last caller that waits gets its own member, in which no caller waits. The word is the number
+-- of the callers that waited, which by `IsFirst` is the number of this caller. Or no member is
+-- made, since no caller waits or memory is refused.
 abbrev pub JoinsOf : Member → ℕ → ℕ → ℕ → Member → Option Member → Type 0
 JoinsOf old status before after new (Some made) =
     (new.caller ≡ old.caller) × (old.waiting.items ≡ new.waiting.items ++ made.caller ∷ [])

@@ -11,7 +11,7 @@ use Rattle.boostmap_c.specs.declared.referee.Way.TheVariants.{ByLocks, ByCommits
 use Rattle.boostmap_c.specs.declared.referee.Referee.{Referee}
 use Rattle.boostmap_c.specs.declared.referee.Referee.TheVariants.{Locks, Commits}
 
--- By locks there is at least one stripe.
+-- A judge by locks needs at least one stripe; a judge by the order of commits needs none.
 abbrev pub has_stripes : Way → ℕ → Type 0
 has_stripes (ByLocks holder) stripes = 0 < stripes
 has_stripes ByCommits stripes = Unit {0}

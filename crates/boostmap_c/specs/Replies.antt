@@ -5,8 +5,8 @@ use Rattle.txn_words.specs.declared.answer.Answer.TheVariants.{Began, Busy, Done
 use Rattle.txn_words.specs.declared.refusal.Refusal.{Refusal}
 use Rattle.txn_words.specs.Refusals.{number_of}
 
--- The statuses of a call that is done, that is done at a key without a value, or that another
--- caller's stripe stops; and of a handle that has no map, or already has one.
+-- The status of a call that is done; that is done at a key without a value; that finds the stripe
+-- held by another caller; on a handle that owns nothing; on a handle that owns something already.
 abbrev pub done : ℕ
 done = 0
 

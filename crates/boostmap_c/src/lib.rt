@@ -27,13 +27,13 @@
 //! |---|---|---|
 //! | 0 done | the word is a value, transaction, level or commit number | goes on, or has ended |
 //! | 1 absent | done at a key without a value; no word is written | goes on |
-//! | 2 busy | the word is the stripe's holder | can only abort; of a striped map: is aborted |
+//! | 2 busy | the word is the stripe's holder | can only abort; on a striped map: is aborted |
 //! | 3 empty, 4 full | the handle owns nothing, or something already | nothing was done |
 //! | 7 short, 8 no entry | the array has too few places; the numbers are no entry | unchanged |
 //! | 16 + n | refusal n of `txn_trace` | unchanged, and so is the map |
 //!
-//! After a refusal `boostmap_striped_count` and `boostmap_striped_read` may hold more stripes than
-//! before, and `boostmap_help` may have initialised buckets.
+//! After a refusal of `boostmap_striped_count` or `boostmap_striped_read` the transaction may hold
+//! more stripes than before. A `boostmap_help` that is refused may have initialised buckets.
 //!
 //! No export has a `requires`: a caller's number, a level or a limit that is out of range, a call
 //! out of order, and an empty handle each have a status. The rest of what C must do is in the

@@ -40,8 +40,8 @@ pub extern "C" fn boostmap_striped_count(caller: &mut CallerHandle, word: &mut u
 ///
 /// # Errors
 ///
-/// The array is unchanged: 7 if it has too few places, when the word is the number that it needs;
-/// and those of `boostmap_striped_count`.
+/// The array is unchanged: those of `boostmap_striped_count`, and 7 if it has too few places; then
+/// the word is the number that it needs.
 ///
 /// # Cost
 ///

@@ -104,8 +104,8 @@ pub fn check<R: Read, W: Write>(alloc: Global, input: &mut R, output: &mut W) ->
 ///
 /// # Cost
 ///
-/// That of the steps and a look at each worker for each turn, and time and memory in proportion to
-/// the file and the history.
+/// That of `script_mix::mix_scripts`, and time and memory in proportion to the file and the
+/// history.
 pub fn mix<R: Read, W: Write>(
     alloc: Global,
     seed: u64,

@@ -33,8 +33,7 @@ pub(crate) struct MixedHistory {
 ///
 /// # Cost
 ///
-/// That of the steps and a look at each worker for each turn, and time and memory in proportion to
-/// the bytes.
+/// That of `script_mix::mix_scripts`, and time and memory in proportion to the bytes.
 pub(crate) fn mixture(alloc: Global, seed: u64, bytes: Vec<u8>) -> Result<MixedHistory, Fault>
     ensures ok { IfOk result (λ mixture. IsMixtureOf seed bytes.items
         (line (text_of_history mixture.version mixture.stripes mixture.entries.items))) }

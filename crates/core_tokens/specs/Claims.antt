@@ -54,7 +54,7 @@ IsTrial rights stripe None = Unit {0}
 IsTrial rights stripe (Some (Mine place)) = slice_get rights place ≡ Some stripe
 IsTrial rights stripe (Some (Another word)) = word ≢ 0
 
--- The seat is one of the words, and the result of the try is there.
+-- The seat belongs to these words, and the result of the last try fits the rights.
 pub record IsClaimed (words : KeyWords) (rights : Rights) (stripe : ℕ) (tried : Option Tried) :
     Type 0 where
   pub seat : IsOf rights.seat words
@@ -74,9 +74,9 @@ pub data Found : Type 0 where
   WasFree : Found
   WasHeld : ℕ → Found
 
--- With the right in hand no word is tried. If it is not, one is, and the seat has one more note, of
--- this stripe with the word that was found: if that was 0 the caller gets the right, and if not the
--- word is not the seat's.
+-- With the right in hand no word is tried. Otherwise the stripe's word is tried, and the seat has
+-- one more note, of this stripe with the word that was found. If the word was 0, the caller gets
+-- the right; if not, the word is not the seat's.
 abbrev pub TriesAt : Found → Claimed → ℕ → Claimed → Type 0
 TriesAt InHand k stripe l = Holds k.seat stripe × (l ≡ record k { tried = trial stripe 0 })
 TriesAt WasFree k stripe l =

@@ -73,7 +73,7 @@ abbrev pub IsSized : ℕ → Phase → Type 0
 IsSized size (Doubling seen) = seen ≡ size
 IsSized size phase = Unit {0}
 
--- Its caller's seat, cursor and helper are as the drive was told last.
+-- The seat, cursor and helper of a drive's caller are as the drive was told last.
 abbrev pub Suits : State → Seat → ℕ → Call → Phase → Type 0
 Suits m s c call Fresh =
     (refusal_in m.limits.half s (first_step c call) ≡ None) × (is_help call ≡ false)

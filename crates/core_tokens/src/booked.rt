@@ -119,8 +119,8 @@ impl<L: Ledger> Booked<L> {
     }
 }
 
-/// Lends the shares of all callers to one share, which then counts all that the book has, and gives
-/// them back.
+/// Lends the shares of all callers to one share, so that this share counts all that the book has,
+/// and then gives the shares back.
 fn gather<L: Ledger, S: Side>(callers: &mut [Caller<L, S>], all: &mut Share<L>, book: &mut Book<L>)
     requires { all.old.parts + length callers.old ≡ L.parts }
     ensures total { all.old.amount + sum_by (λ k. length k.seen) callers.old ≡ book.old.total }

@@ -1,4 +1,4 @@
-//! Tokens: one caller each of a core that other callers use too, without a lock.
+//! Tokens: each is one caller of a core that other callers use too. This crate takes no lock.
 //!
 //! - A *token*, `Caller`, is one caller. `Booked::new` makes a core with a `Pass` for each number,
 //!   and a pass makes the token of its number, once. A token keeps in `seen` the entries that its
@@ -10,8 +10,8 @@
 //! - A call is `make_ready`, its holds until one answers the end, and `follow` with this end.
 //! - Unless its token has the right to the stripe of its key, an operation first tries the stripe's
 //!   *word*, an atomic word beside the core that says who holds the stripe. If the word was free,
-//!   the token has the right from then on, and the core is asked by it; if not, the core is asked
-//!   by the word, and the operation is busy with the caller that the word names. A token keeps its
+//!   the token has the right from then on, and asks the core by this right. If not, it asks by the
+//!   word, and the operation is busy with the caller that the word names. A token keeps its
 //!   rights until its transaction has committed or aborted, and `follow` gives all of them back. So
 //!   a Busy entry may name a caller whose transaction has just ended.
 //! - Between two holds a token knows of the core only its own entries, and the seat that they give

@@ -1,4 +1,5 @@
--- The first bad entry of a history, by any rule that says which entry breaks it after a beginning.
+-- The first bad entry of a history, by any function that answers which rule an entry breaks after
+-- the entries before it.
 use Rattle.std.specs.Prelude.{◌≡◌, ℕ, ◌+◌, Option, Some, None, List, [], ◌∷◌, ◌++◌, length}
 use Rattle.txn_words.specs.declared.entry.Entry.{Entry}
 use Rattle.txn_words.specs.Kinds.{is_commit}

@@ -25,7 +25,7 @@ verdict_words (Legal commits running) =
 verdict_words (Illegal entry rule) =
     codes "illegal entry " ++ (decimal entry ++ (codes " " ++ rule_words rule))
 
--- The verdict of the definitions that a verdict of the checker is.
+-- A verdict of the checker, as a verdict of the definitions.
 abbrev pub meaning_of : Verdict → legal.Verdict
 meaning_of (Legal commits running) = legal.Legal commits running
 meaning_of (Illegal entry rule) = legal.Illegal entry (number_of rule)

@@ -27,8 +27,8 @@ use txn_trace::{Entry, Holder, SmallEntry};
 ///
 /// Time for each entry in proportion to the logarithm of the number of keys, and for a Committed or
 /// an Aborted also to the stripes that it gives back and the changes that stood; memory in
-/// proportion to the stripes, and to the most keys, changes that can be taken back and savepoints
-/// that there are at one time.
+/// proportion to the stripes, and to the greatest numbers of keys, of changes that can be taken
+/// back and of savepoints at one time.
 pub fn check(
     alloc: Global,
     entries: &[Entry],

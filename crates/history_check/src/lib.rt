@@ -9,18 +9,18 @@
 //! rule. Whom a Busy may name is a parameter (`Holder`): a caller that holds the stripe now, or one
 //! that has begun a transaction before.
 //!
-//! It need not run any transaction again. While a history is legal, open transactions hold
+//! The checker runs no transaction again. While a history is legal, open transactions hold
 //! different stripes, so the map as it is now gives the right reply to each of them, as abstract
 //! locks do in Herlihy and Koskinen, "Transactional Boosting" (PPoPP 2008). So the checker keeps
 //! that map, the holder of each stripe, and of each caller its phase, its standing changes with the
 //! values before them, its savepoints and whether it has begun a transaction: it copies no map and
 //! keeps no list of the entries. An entry costs the logarithm of the number of keys, and one that
 //! ends a transaction also a step for each of its stripes and changes. Memory is in proportion to
-//! the stripes, and to the most keys, changes that can be taken back and savepoints that there are
-//! at one time.
+//! the stripes, and to the greatest numbers of keys, of changes that can be taken back and of
+//! savepoints at one time.
 //!
-//! The rule of shape is judged by `Callers`, which `serial_check`, the judge by the order of
-//! commits, uses too; the rules of replies and locks by the map and its stripes. Both judges share
+//! `Callers` judges the rule of shape. The map and its stripes judge the rules of replies and
+//! locks. `serial_check`, the judge by the order of commits, uses `Callers` too. Both judges share
 //! the verdict and what is proved of the first bad entry (`FirstBad`).
 //!
 //! Proved: `check`, `check_packed`, and a `Checker` that was fed the same entries, say what the

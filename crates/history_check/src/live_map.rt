@@ -1,6 +1,6 @@
-//! The judge of replies and of locks: the map as it is now, and who holds its stripes. Separate
-//! from the judge of shape, since serializable histories need that one and not this. One map serves
-//! all open transactions: while the history is legal, they hold different stripes.
+//! The judge of replies and of locks: the map as it is now, and who holds its stripes. It is
+//! separate from the judge of shape, since `serial_check` uses the judge of shape and not this one.
+//! One map serves all open transactions: while the history is legal, they hold different stripes.
 ghost use Rattle.std.specs.Prelude.{◌≡◌, ℕ, ◌<◌, ◌++◌, [], ◌∷◌, List, length, true, IfOk, OnOk, OnErr};
 ghost use Rattle.txn_words.specs.Kinds.{caller_of};
 ghost use Rattle.txn_trace.specs.Legal.{IsLegal};

@@ -15,7 +15,7 @@ use txn_trace::{Entry, Holder};
 pub(crate) struct State {
     /// The callers, by which shape is judged.
     pub(crate) callers: Callers,
-    /// The map, by which replies and locks are.
+    /// The map, by which replies and locks are judged.
     pub(crate) map: LiveMap,
 }
 

@@ -38,8 +38,9 @@ WritesLines IsRight legal old new =
     (outcome : Verdict) × (lines : List ℕ) × IsRight outcome × (legal ≡ says_legal outcome)
     × Appends old new (verdict_line outcome ++ lines)
 
--- The output at a fault: nothing is written, and the fault is such a one. If a write failed there
--- is such a verdict.
+-- The output at a fault. If a write failed, there is a verdict as `IsRight` says, and nothing is
+-- stated of the output. At any other fault nothing is written; if a file or a line is refused, the
+-- fault is as `IsWrong` says.
 abbrev pub Leaves : (Verdict → Type 0) → (Fault → Type 0) → Option (List ℕ) → Option (List ℕ)
     → Fault → Type 0
 Leaves IsRight IsWrong old new Write =

@@ -10,8 +10,8 @@ use Rattle.judge_engine.specs.declared.fault.Fault.{Fault}
 use Rattle.judge_engine.specs.declared.fault.Fault.TheVariants.{Input, Line, NoMemory, Read, Write}
 use Rattle.judge_engine.specs.Bases.{IsLegalBy, IsVerdictBy}
 
--- The verdict on entries that were found, up to the first line that is refused, if there is one:
--- legal is said only if no line is.
+-- The verdict on entries that were found, up to the first line that is refused, if there is one.
+-- The verdict is legal only if no line is refused.
 pub record IsJudged (basis : Basis) (found : List Entry × Option (ℕ × FileFault))
     (outcome : Verdict) : Type 0 where
   pub verdict : IsVerdictBy basis found.0 outcome

@@ -1,6 +1,6 @@
 //! The lines that lead to a bad entry: each part of a reason of `bad_entry`, in words. They are
 //! apart from `file`, since their wording is tested and not proved. A reason that lists entries
-//! takes a pass or two more over the history.
+//! takes a few more passes over the history.
 ghost use Rattle.std.specs.Prelude.{◌<◌, IfSome};
 ghost use Rattle.std.specs.List.{All};
 ghost use Rattle.txn_words.specs.Kinds.{caller_of};

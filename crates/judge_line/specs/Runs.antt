@@ -96,7 +96,8 @@ status_after (Ok true) = 0
 status_after (Ok false) = 1
 status_after (Err failure) = status_of failure
 
--- The text on standard error: the line of a failure, unless not all of it was taken; else nothing.
+-- The text on standard error: the message of a failure, unless not all of it was taken; nothing if
+-- there was no failure.
 abbrev pub Tells : Option (List ℕ) → Option (List ℕ) → Bool → Outcome → Type 0
 Tells old new is_told (Ok well) = Keeps old new × (is_told ≡ true)
 Tells old new is_told (Err failure) =

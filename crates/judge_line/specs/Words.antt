@@ -92,8 +92,8 @@ abbrev pub is_set : Option Text → Bool
 is_set None = false
 is_set (Some word) = bytes_eq word (codes "true")
 
--- The number from 1 to `max_stripes` that a word writes, which is one or more decimal digits, and a
--- plus before them if need be.
+-- The number from 1 to `max_stripes` that a word writes: one or more decimal digits, with or
+-- without a plus before them.
 abbrev pub stripes_of : Text → Option ℕ
 stripes_of word =
     let digits = without_leading_plus word in

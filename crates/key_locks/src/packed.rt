@@ -1,4 +1,4 @@
-//! A caller or a stripe, or none, packed into one byte and one word.
+//! A caller or none, packed into one byte; and a stripe or none, packed into one word.
 //!
 //! A contract sees each as an option of its number. The greatest number of the type stands for
 //! none: no caller has it, and no vector is long enough for a stripe to have it.

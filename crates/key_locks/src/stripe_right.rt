@@ -1,6 +1,6 @@
 //! The right to a stripe as a value that cannot be copied, so that no stripe can have two holders.
-//! It serves maps whose stripes are not in a `KeyLocks`, and takes one word. All rights to the
-//! stripes of a map are made at once; afterwards a right is only handed on.
+//! It serves maps whose callers do not take their stripes from a `KeyLocks`, and takes one word.
+//! All rights to the stripes of a map are made at once; afterwards a right is only handed on.
 ghost use Rattle.std.specs.Prelude.{◌≡◌, IfOk};
 ghost use Rattle.key_locks.specs.Rights.{AreAll};
 

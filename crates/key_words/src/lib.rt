@@ -1,10 +1,11 @@
 //! Key words: the stripes of a shared map as atomic words, which callers in many threads take and
 //! give without waiting.
 //!
-//! A stripe's word is 0 if it is free, and `n + 1` if seat `n` holds it. Each stripe has one right,
-//! which lies in the stripe's slot while no seat holds the stripe. A take is one compare-exchange
-//! of the word from 0: it answers the right, or the word that it saw, which tells who holds the
-//! stripe. A give lays the right back and stores 0.
+//! A thread acts by a seat (`KeySeat`), which has a number. A stripe's word is 0 if the stripe is
+//! free, and `n + 1` if seat `n` holds it. Each stripe has one right, which lies in the stripe's
+//! slot while no seat holds the stripe. A take is one compare-exchange of the word from 0: it
+//! answers the right, or the word that it saw, which tells who holds the stripe. A give lays the
+//! right back and stores 0.
 //!
 //! Proved, by a rule that holds between any two atomic steps of any threads: a stripe is held by at
 //! most one seat (`held_once`), the one that its word names; its right is in its slot exactly if

@@ -48,8 +48,8 @@ pub fn look(list: &NodeList, cursor: &Cursor) -> Result<Option<NodeRef>, Again>
     }
 }
 
-/// Links the node of a spare behind a linked node, if its sort key is vacant, and answers it. The
-/// spare belongs to this list.
+/// Links the node of a spare behind a linked node, and answers the new node. The spare's sort key
+/// must be vacant right behind the linked node, and the spare belongs to this list.
 ///
 /// The content gains the pair of a regular node; a dummy leaves it unchanged.
 pub fn link_at(list: &mut NodeList, pred: NodeRef, spare: Spare) -> NodeRef

@@ -1,12 +1,12 @@
 //! The shared calls of a caller of a shared map.
 //!
-//! Each takes the turns of its call, each turn under one hold of the lock, and adds to the token's
-//! `seen` exactly the entries that its contract states. Before it takes the lock its token tests
-//! it: `refused_by` is the refusal that the token's entries determine, in the order that each call
-//! lists. A call that the token refuses leaves the token unchanged. If the core's answer is
-//! impossible by the token's state, the call ends with `OutOfStep`: the token is broken, `seen`
-//! keeps the entries that the call had added, and `close` compares them with the history. Each call
-//! has the clauses
+//! Each but `side` takes the turns of its call, each turn under one hold of the lock, and adds to
+//! the token's `seen` exactly the entries that its contract states. Before such a call takes the
+//! lock, the token tests the call: `refused_by` is the refusal that the token's entries determine,
+//! in the order that each call lists. A call that the token refuses leaves the token unchanged. If
+//! the core's answer is impossible by the token's state, the call ends with `OutOfStep`: the token
+//! is broken, `seen` keeps the entries that the call had added, and `close` compares them with the
+//! history. Each of these calls has the clauses
 //! - `ok`: the entries that it has added, if it did what it was asked to do (`level` of `save`: its
 //!   answer);
 //! - `side`: its effect on the side value in that case;
@@ -75,10 +75,10 @@ impl<L: Ledger> SharedMap<L> {
     ///   - `OutOfStep` if the token is broken.
     ///   - `NotOpen`, `Leaving`, `OperationUnfinished` and `BadKey` (a key of 2^63 or more, if the
     ///     limits have half keys), the first that applies.
-    ///   - Then `NoMemory` if memory is refused, for one more right, before any word is tried, or
-    ///     for the operation; `StampsUsedUp` if no stamp is left; `StaleWord` if by the core's
-    ///     record the word of the key's stripe does not say who holds it; and `OutOfStep`, which
-    ///     breaks the token.
+    ///   - Then `NoMemory` if memory is refused for one more right (then no word was tried) or for
+    ///     the operation; `StampsUsedUp` if no stamp is left; `StaleWord` if by the core's record
+    ///     the word of the key's stripe does not say who holds it; and `OutOfStep`, which breaks
+    ///     the token.
     /// - `Busy` if the word of the key's stripe names another caller: the transaction is aborted,
     ///   with all its changes taken back and all its rights given back, and the side value has the
     ///   words that it had when the transaction began.
@@ -115,10 +115,10 @@ impl<L: Ledger> SharedMap<L> {
     ///   - `OutOfStep` if the token is broken.
     ///   - `NotOpen`, `Leaving`, `OperationUnfinished` and `BadKey` (a key of 2^63 or more, if the
     ///     limits have half keys), the first that applies.
-    ///   - Then `NoMemory` if memory is refused, for one more right, before any word is tried, or
-    ///     for the operation; `StampsUsedUp` if no stamp is left; `StaleWord` if by the core's
-    ///     record the word of the key's stripe does not say who holds it; and `OutOfStep`, which
-    ///     breaks the token.
+    ///   - Then `NoMemory` if memory is refused for one more right (then no word was tried) or for
+    ///     the operation; `StampsUsedUp` if no stamp is left; `StaleWord` if by the core's record
+    ///     the word of the key's stripe does not say who holds it; and `OutOfStep`, which breaks
+    ///     the token.
     /// - `Busy` if the word of the key's stripe names another caller: the transaction is aborted,
     ///   with all its changes taken back and all its rights given back, and the side value has the
     ///   words that it had when the transaction began.
@@ -153,10 +153,10 @@ impl<L: Ledger> SharedMap<L> {
     ///   - `OutOfStep` if the token is broken.
     ///   - `NotOpen`, `Leaving`, `OperationUnfinished` and `BadKey` (a key of 2^63 or more, if the
     ///     limits have half keys), the first that applies.
-    ///   - Then `NoMemory` if memory is refused, for one more right, before any word is tried, or
-    ///     for the operation; `StampsUsedUp` if no stamp is left; `StaleWord` if by the core's
-    ///     record the word of the key's stripe does not say who holds it; and `OutOfStep`, which
-    ///     breaks the token.
+    ///   - Then `NoMemory` if memory is refused for one more right (then no word was tried) or for
+    ///     the operation; `StampsUsedUp` if no stamp is left; `StaleWord` if by the core's record
+    ///     the word of the key's stripe does not say who holds it; and `OutOfStep`, which breaks
+    ///     the token.
     /// - `Busy` if the word of the key's stripe names another caller: the transaction is aborted,
     ///   with all its changes taken back and all its rights given back, and the side value has the
     ///   words that it had when the transaction began.
@@ -195,9 +195,9 @@ impl<L: Ledger> SharedMap<L> {
     ///   - `OutOfStep` if the token is broken.
     ///   - `NotOpen`, `Leaving`, `OperationUnfinished` and `BadKey` (a key of 2^63 or more, if the
     ///     limits have half keys), the first that applies.
-    ///   - Then `NoMemory` if memory is refused, for one more right, before any word is tried, or
-    ///     for the operation; `StaleWord` if by the core's record the word of the key's stripe does
-    ///     not say who holds it; and `OutOfStep`, which breaks the token.
+    ///   - Then `NoMemory` if memory is refused for one more right (then no word was tried) or for
+    ///     the operation; `StaleWord` if by the core's record the word of the key's stripe does not
+    ///     say who holds it; and `OutOfStep`, which breaks the token.
     /// - `Busy` if the word of the key's stripe names another caller: the transaction is aborted,
     ///   with all its changes taken back and all its rights given back, and the side value has the
     ///   words that it had when the transaction began.

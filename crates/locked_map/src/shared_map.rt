@@ -107,9 +107,9 @@ impl<L: Ledger> SharedMap<L> {
         self.limits
     }
 
-    /// Takes out the contents of the lock, for those who take the holds of its calls by hand: a
-    /// core whose stripes are words and whose history is legal. The map is gone, and can no longer
-    /// be closed.
+    /// Takes out the contents of the lock, for those who call `Caller::hold` themselves: a core
+    /// whose stripes are words and whose history is legal. The map is gone, and can no longer be
+    /// closed.
     pub fn into_booked(self) -> Booked<L>
         ensures words { result.core.words ≡ true }
         ensures legal { IsLegal Begun result.core.limits.stripes result.core.history }

@@ -23,7 +23,7 @@ use Rattle.map_ops.specs.TableAt.{TableAt, Help, Nothing, Sought, Dummy, regular
 use Rattle.map_ops.specs.Nodes.{IsUnlinking, LinksNode}
 pub use Rattle.map_ops.specs.TableAt.{helper_fits}
 
--- Whether the bucket is one of these.
+-- Whether the list, which has a Boolean for each bucket, has true for this one.
 abbrev pub is_stored : List Bool → ℕ → Bool
 is_stored stored bucket = slice_index_or stored bucket false
 

@@ -47,7 +47,7 @@ pub record Prepares (old new : TableAt) (op : Op) (pending : PendingAt) : Type 0
   pub nodes : KeepsNodes old new
 
 -- The reason why an operation that takes a node is not prepared: the stamps are used up exactly if
--- the last one was given; else memory was refused.
+-- 2^64 - 2 was given, the last one; else memory was refused.
 abbrev pub IsRefused : TableAt → Op → Refusal → Type 0
 IsRefused t op refusals.StampsUsedUp = (takes_node op ≡ true) × (last_of t ≡ 2 ^ 64 - 2)
 IsRefused t op refusals.NoMemory = (takes_node op ≡ true) × (last_of t < 2 ^ 64 - 2)

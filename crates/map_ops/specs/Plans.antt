@@ -1,4 +1,4 @@
--- Plans: operations whose key is right, with their spares.
+-- Plans: operations with their spares.
 use Rattle.std.specs.Prelude.{Some, None}
 use Rattle.txn_words.specs.declared.op.Op.TheVariants as ops
 use Rattle.map_ops.specs.declared.pending.Plan.{Plan}

@@ -8,7 +8,8 @@ use txn_words::Reply;
 /// The answer of `Table::act`.
 #[derive(Debug, Drop)]
 pub enum Act {
-    /// The operation is done: its reply, and the job that takes the change back, if it is one.
+    /// The operation is done: its reply and, if the operation is a change, the job that takes it
+    /// back.
     Acted(Reply, Option<MapJob>),
     /// The cursor no longer fits. Nothing has changed, and the operation is returned.
     Again(Pending),

@@ -93,8 +93,8 @@ pub(crate) fn seek_key(list: &mut NodeList, buckets: &Buckets, key: Key) -> Curs
     seek(list, from, SortKey::regular(key))
 }
 
-/// The node of a key, as a cursor tells. If there is none it belongs right behind the cursor's
-/// node.
+/// The node of a key, as a cursor tells. If there is none, the key's node belongs right behind
+/// `cursor.pred()`.
 pub(crate) fn find(list: &NodeList, cursor: &Cursor, key: Key) -> Result<Option<NodeRef>, Again>
     requires sound { IsSound list.now }
     requires belong { Belong list.now.nodes }

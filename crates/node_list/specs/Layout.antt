@@ -93,7 +93,8 @@ pub record HasStamps (slab : Slab SlotAt) (last : ℕ) : Type 0 where
   pub one_place : (p q : ℕ) (s t : SlotAt) → get slab p ≡ Some s → get slab q ≡ Some t
       → slot_stamp s ≡ slot_stamp t → p ≡ q
 
--- The fields of a list, except the counts of marked nodes by region.
+-- The slab and these numbers are the fields of a list. The counts of marked nodes by region are not
+-- looked at.
 pub record IsKept (slab : Slab SlotAt) (head last count marked : ℕ) : Type 0 where
   pub laid_out : IsLaidOut slab head (nodes_in slab head)
   pub stamps : HasStamps slab last
@@ -101,7 +102,7 @@ pub record IsKept (slab : Slab SlotAt) (head last count marked : ℕ) : Type 0 w
   pub counted : count ≡ live_count (nodes_in slab head)
   pub marks : marked ≡ marked_count (nodes_in slab head)
 
--- The fields of a list.
+-- These are the fields of a list, with the counts of marked nodes by region.
 pub record IsWhole (slab : Slab SlotAt) (head last count : ℕ) (marks : TallyAt) : Type 0 where
   pub kept : IsKept slab head last count marks.total
   pub tallied : IsTallied marks (nodes_in slab head)

@@ -1,6 +1,6 @@
 //! Nodes, and the references that name them; every other module here but `tally` is built on these.
-//! A reference is a place in the slab, and a node's stamp tells it from any other node that is ever
-//! at its place: a reference is plain data, and keeps no node from being unlinked.
+//! A reference is a place in the slab. It is plain data, and keeps no node from being unlinked. A
+//! node's stamp tells it from any other node that is ever at its place.
 ghost use Rattle.std.specs.Prelude.{◌≡◌, ◌-◌, ◌^◌, ◌<◌, if◌then◌else◌, None, true, false};
 ghost use Rattle.node_list.specs.Nodes.{is_regular};
 ghost use Rattle.node_list.specs.declared.node.Kind.TheVariants.{Dummy};
@@ -73,8 +73,8 @@ impl NodeRef {
     }
 }
 
-/// A linked node. It takes four words: the first two have the sort key, three bytes and the place
-/// of the next node.
+/// A linked node. It takes four words: the first two have the sort key, the kind, the mark, whether
+/// it is linked, and the place of the next node.
 #[derive(Clone, Copy, Debug)]
 pub struct Node {
     /// Its position in the order of the list. A regular node has its key there.

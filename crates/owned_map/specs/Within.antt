@@ -1,5 +1,4 @@
--- A transaction of one caller, between whose calls no other caller takes a step: what its calls
--- leave.
+-- What the calls of one caller's transaction leave, if no other caller takes a step between them.
 use Rattle.std.specs.Prelude.{ℕ, ◌+◌, ◌-◌, ◌<◌, ◌≡◌, ◌≢◌, ◌⊎◌, Bool, true, List, [], ◌∷◌, ◌++◌, length, take, slice_index, Option, Some, nat_le, false}
 use Rattle.std.specs.List.{filter}
 use Rattle.txn_words.specs.declared.op.Op.{Op}
@@ -44,8 +43,8 @@ IsAt c base phase state =
 abbrev pub CanAbort : ℕ → Map → State → Type 0
 CanAbort c base state = IsAt c base Opened state ⊎ IsAt c base LeavingToEnd state
 
--- The map at a level of a caller's transaction, level 0 its beginning and each other a savepoint's
--- number: the changes since are taken back, newest first.
+-- The map at a level of a caller's transaction: the changes since that level are taken back, newest
+-- first. Level 0 is the beginning, and every other level is a savepoint's number.
 abbrev pub map_at : ℕ → ℕ → List Entry → Map
 map_at c level h =
     taken_back (take ((seat_in h c).standing - slice_index (seat_in h c).kept level) (log_of c h))

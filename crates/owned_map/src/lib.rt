@@ -2,8 +2,8 @@
 //!
 //! `OwnedMap` holds a core of `boost_core`. The owner makes every call, for the caller that it
 //! names by a number below the limits' `callers`. The calls are made one after another, so no other
-//! call interrupts a transaction that `transact` runs; other callers' transactions may be open
-//! meanwhile.
+//! call interrupts a transaction that `transact` runs. No call leaves a transaction open, but the
+//! contracts do not exclude that another caller's transaction is open meanwhile.
 //!
 //! ```text
 //! let kept: Result<u64, Stop> = map.transact(0, |t: &mut Transaction<'_>| {
@@ -14,8 +14,8 @@
 //! ```
 //!
 //! The model is the state of the core; most contracts are about `now history`, the map as the
-//! history gives it. The invariant is the core's, by which the history is legal, and that the
-//! core's stripes are not words.
+//! history gives it. By the invariant of the core the history is legal. By the map's own invariant
+//! the core's stripes are not words, and no operation has asked for a key that the limits refuse.
 //!
 //! Proved, each by the contract of a public call:
 //!
@@ -27,12 +27,14 @@
 //! - A transaction that is dropped is aborted: at every `?` and every early return its changes are
 //!   taken back and its stripes given back (`IsTakenBack`). `commit` and `abort` take it by value,
 //!   so it cannot be used afterwards.
-//! - The table grows by itself, by at most a bucket with each operation whose key was absent. No
-//!   growth changes the history (`IsGrown`). One that is refused memory initialises no bucket.
+//! - When the table grows, the history is unchanged (`IsGrown`).
+//!
+//! The table grows by itself, by at most a bucket with each operation whose key was absent. A
+//! growth that is refused memory initialises no bucket. No contract of this crate says so.
 //!
 //! One definition, `Keeps`, says what every call of a work keeps: it is still the same transaction,
-//! and it went on. `proofs/Calls.antt` has `keeps_stay` and `keeps_on`, by which the check joins
-//! the calls of a work.
+//! and it went on. A work's proof joins its calls by `keeps_stay` and `keeps_on` of
+//! `proofs/Calls.antt`.
 //!
 //! An operation costs what it costs on the core; if its key was absent, growth adds at most four
 //! steps of the table. The boosted transactions are those of Herlihy and Koskinen (PPoPP 2008), the

@@ -1,8 +1,8 @@
 //! The map: a core, how far its table has grown, and the calls that need both.
 //!
-//! The calls of a transaction are made here for a caller, with contracts about states; those of
-//! `Transaction` are over them. `grown` rises only when the bucket of that number was stored, so
-//! every bucket below it is initialised; no contract says so.
+//! A call of a transaction is made here for a caller, with a contract about states; each call of
+//! `Transaction` makes one of these. `grown` rises only when the bucket of that number was stored,
+//! so every bucket below it is initialised; no contract says so.
 ghost use Rattle.std.specs.Prelude.{◌≡◌, ◌==◌, true, false, ℕ, ◌⊎◌, IfOk, IfErr, OnOk, OnErr, Ok, Err};
 ghost use Rattle.txn_words.specs.Map.{count_of};
 ghost use Rattle.txn_trace.specs.Now.{now};

@@ -13,10 +13,11 @@
 //! ```
 //!
 //! The model is the value that is kept. Proved: a box that was turned into a pointer and back has
-//! the same value; nothing is freed on the way, and nothing leaks unless a pointer is lost without
-//! `into_box`, which the type forbids: it is no `Drop`.
+//! the same value, and nothing is freed on the way. A pointer that was lost without `into_box`
+//! would leak; the type forbids this, since it is no `Drop`.
 //!
-//! Both functions take constant time and no memory: a pointer is one word, and its heap needs none.
+//! Both functions take constant time and no memory: a pointer is one word, and its `Global` needs
+//! none.
 #![tactic(auto)]
 
 mod owned_pointer;

@@ -46,9 +46,9 @@ max_version = 3
 abbrev pub is_version : ℕ → Bool
 is_version v = nat_le 1 v && nat_le v max_version
 
--- The version, the numbers and the pieces by the members, tested in this order, the pieces as
--- version 1 has them and as all others have; and then whether the version is read, and how many
--- pieces there are.
+-- The version, the numbers and the pieces, by what the members have: `old` has the pieces as
+-- version 1 has them, and `new` as all others do. The three are tested in this order, and then
+-- whether the version is read and there are no more than `most` pieces.
 unfoldable pub contents_from : {P : Type 0} → ℕ → Option ℕ → Option (List ℕ)
     → Result (List P) FileFault → Result (List P) FileFault
     → Result (ℕ × List ℕ × List P) FileFault

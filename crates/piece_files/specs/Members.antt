@@ -25,7 +25,7 @@ members_within (object ms) = ms
 abbrev pub last_number : Members → List ℕ → Option ℕ
 last_number ms name = option_and_then number_of (get_member name ms)
 
--- Pieces that are read, of an array.
+-- The pieces that were read of a value; None if the value is no array.
 abbrev pub ArePiecesOf : {P : Type 0} → (List Data → Option P) → (P → Bool) → Part → ℕ
     → Option (Pieces P) → Data → Type 0
 ArePiecesOf of is_old part most None d = elements_of d ≡ None

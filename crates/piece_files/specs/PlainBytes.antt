@@ -19,7 +19,7 @@ pub record Passed (bytes rest : List ℕ) : Type 0 where
   pub same : lex between bytes ≡ lex between rest
   pub ended : ends_word rest ≡ true → ends_word bytes ≡ true
 
--- The bytes may follow a value: they do not go on its word, and make no key of it.
+-- The bytes may follow a value: they do not continue its word, and make no key of it.
 pub record EndsValue (bytes : List ℕ) : Type 0 where
   pub ended : ends_word bytes ≡ true
   pub no_colon : begins_colon (lex between bytes) ≡ false
@@ -87,7 +87,8 @@ AreTaken depth start ds rest =
     (es : List Data) (others : List Token)
     → Begin depth rest es others → Begin depth start (ds ++ es) others
 
--- With the members that are left in the tokens, which are the last, the old members are all.
+-- The tokens are the members that are left of an object, with nothing after the object. Added to
+-- the members `old`, they make `all`.
 abbrev pub AreMembers : List Token → Members → Members → Type 0
 AreMembers ts old all =
     (n : ℕ) → length ts ≤ n

@@ -25,12 +25,13 @@ abbrev pub members_at : ℕ → List Token → Option (Members × List Token)
 members_at depth ts =
     converted (λ ms. of_members ms no_members) (members (value depth) (length ts) ts)
 
--- Null, a text, or a whole number below 2^64: the elements that are kept.
+-- Whether a number is whole, not negative, and below 2^64.
 abbrev pub is_whole : Num → Bool
 is_whole (unsigned n) = true
 is_whole (negative z) = false
 is_whole (float x) = false
 
+-- Whether a value is null, a text, or a whole number below 2^64: the elements that are kept.
 abbrev pub is_plain : Data → Bool
 is_plain null = true
 is_plain (boolean b) = false
@@ -66,8 +67,8 @@ abbrev pub outcome : {P : Type 0} → Part → Bool → List P → Result (List 
 outcome part true pieces = Ok pieces
 outcome part false pieces = Err (Piece part (length pieces))
 
--- Of all pieces, or those before the first element that is no piece, the first are kept and all are
--- counted.
+-- The pieces found are all pieces of an array, or those before its first element that is no piece.
+-- All of these are counted, and the first `most` of them are kept.
 abbrev pub Finds : {P : Type 0} → Part → ℕ → List P → ℕ → Bool → Result (List P) FileFault → Type 0
 Finds {P} part most pieces count are_all wanted =
     (all : List P) × (wanted ≡ outcome part are_all all) × (count ≡ length all)

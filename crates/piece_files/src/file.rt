@@ -99,8 +99,8 @@ fn contents_found<K: PieceKind, const N: usize>(
 /// - `NotJson` if they are not UTF-8, or no JSON in which arrays and objects nest no deeper than
 ///   127 and each number is in range of a float.
 /// - `Member` if the value is no object, or a member is missing or of the wrong kind.
-/// - `Piece` for the first element of `pieces` that is none, or if the version is 1 none that
-///   version 1 has.
+/// - `Piece` for the first element of `pieces` that is no piece or, if the version is 1, no piece
+///   of version 1.
 /// - `Limit` if the version is not 1 to 3 or there are more pieces than there may be.
 ///
 /// `NoMemory` if memory is refused. It can replace any other answer, except for bytes that are too

@@ -16,10 +16,10 @@
 //! index of the text as it goes, and takes scratch memory of the text's length (`members.rt`).
 //! `specs/PlainBytes.antt` says what tokens bytes in plain form are.
 //!
-//! Promised: `read_file` computes that function, or says that memory was refused. A text is read
-//! once, or twice if it has no plain form, in time proportional to its length. What is passed over
-//! is tested to be JSON, and nothing of it is kept; no more pieces are kept than a file may have,
-//! and the others are only counted.
+//! Promised: `read_file` computes `contents`, or says that memory was refused. A text is read once,
+//! or twice if it has no plain form, in time proportional to its length. What is passed over is
+//! tested to be JSON, and nothing of it is kept; no more pieces are kept than a file may have, and
+//! the others are only counted.
 #![tactic(auto)]
 
 mod elements;

@@ -17,8 +17,8 @@ use crate::plain_bytes::{
 use crate::plain_pieces::pieces_at;
 use std::alloc::{AllocError, Global};
 
-/// The array of pieces at a place, which is then behind it. None if no array in plain form is
-/// there.
+/// The array of pieces at the place `at`, which moves behind the array. None if no array in plain
+/// form is there.
 fn array_at<K: PieceKind>(
     alloc: Global,
     text: &str,
@@ -38,8 +38,8 @@ fn array_at<K: PieceKind>(
     pieces_at::<K>(alloc, text, at, MAX_DEPTH - 2)
 }
 
-/// Takes a further member with this key, whose value is at a place, which is then behind it.
-/// Answers whether it has plain form.
+/// Takes a further member with this key, whose value is at the place `at`. Answers whether the
+/// value has plain form; if so, `at` moves behind it.
 fn take_plain_member<K: PieceKind, const N: usize>(
     found: &mut Found<K::Piece, N>,
     names: Names<'_>,

@@ -2,8 +2,8 @@
 -- of the places are a function, so that nothing here depends on how they are stored.
 use Rattle.std.specs.Prelude.{◌≡◌, ℕ, ◌==◌, ◌<◌, ◌≤◌, ◌⊎◌, Bool, true, false, Option, Some, None}
 
--- Whether a probe for a key stops at a place that has this key, or none: the place is empty, or it
--- has the key that is sought.
+-- Whether a probe for `key` stops at a place, by the key that the place has: it has none, so it is
+-- empty, or it has `key`.
 abbrev pub stops : Option ℕ → ℕ → Bool
 stops None key = true
 stops (Some other) key = other == key

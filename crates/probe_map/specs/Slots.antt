@@ -26,7 +26,7 @@ is_full Empty = false
 is_full (Removed key) = false
 is_full (Full key value) = true
 
--- The slot at a place, and its key: as of an empty slot, if there is no such place.
+-- The slot at a place, and its key. If there is no such place, they are an empty slot and no key.
 abbrev pub slot_at : List Slot → ℕ → Slot
 slot_at slots i = slice_index_or slots i Empty
 
@@ -40,7 +40,8 @@ pairs_of (Empty ∷ slots) = pairs_of slots
 pairs_of (Removed key ∷ slots) = pairs_of slots
 pairs_of (Full key value ∷ slots) = (key, value) ∷ pairs_of slots
 
--- The place where the probe for a key begins: the high bits of a product, if they are a place.
+-- The place where the probe for a key begins: the high bits of a product if they are a place, else
+-- 0.
 unfoldable pub home : ℕ → ℕ → ℕ → ℕ
 home count shift key =
     let high = key * 0x9E37_79B9_7F4A_7C15 % 2 ^ 64 / 2 ^ (shift % 64) in

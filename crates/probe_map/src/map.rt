@@ -51,7 +51,8 @@ impl Model for ProbeMap {
     ghost invariant = { λ m. IsTable m.slots.items m.room m.len m.shift };
 }
 
-/// The number of slots of an array with room for these keys: they leave an eighth of them empty.
+/// The number of slots of an array with room for these keys: the keys leave at least an eighth of
+/// the slots empty.
 fn count_for(keys: usize) -> Option<usize>
     ensures { IfSome result (λ count. keys ≤ most_used count) }
 {
@@ -61,8 +62,8 @@ fn count_for(keys: usize) -> Option<usize>
         .checked_next_power_of_two()
 }
 
-/// The number of keys for which the new array of a map that grows is made, so that at most half of
-/// its slots have a key at first, and of a map of few keys at most a quarter.
+/// The number of keys for which a map that grows makes its new array. At first at most half of the
+/// new slots have a key, and at most a quarter if the map has few keys.
 fn grown(len: usize, more: usize) -> Option<usize>
     ensures { IfSome result (λ keys. len + more ≤ keys) }
 {

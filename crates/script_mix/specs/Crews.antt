@@ -36,10 +36,11 @@ pub record Goes (scripts : List (List Action)) (tries : ℕ) (old new : State)
   pub others : (c : ℕ) → c ≢ before.number → own c new.history ≡ own c old.history
   pub keeps : Keeps scripts tries after (own after.number new.history)
 
--- A core of the limits asked for, whose stripes are not words, on which the workers took turns as
--- they were drawn, until none had a step or a script left or 2^64 - 1 turns were taken. In its
--- history each worker's committed transactions play its scripts, with rising numbers, and the
--- outcomes of its scripts are true of it; those of scripts that did not begin are not told.
+-- A core of the limits asked for, whose stripes are not words. The workers took turns on it as they
+-- were drawn, until none had a step or a script left, or 2^64 - 1 turns were taken. In the core's
+-- history each worker's committed transactions play its scripts, with rising numbers. The outcomes
+-- of each worker's scripts are true of the history; those of scripts that did not begin are not
+-- told.
 pub record IsMixed (work : Work) (seed : ℕ) (state : State) : Type 0 where
   pub limits : state.limits ≡ work.sizes
   pub words : state.words ≡ false

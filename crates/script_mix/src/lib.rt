@@ -1,18 +1,19 @@
 //! Workers that take turns on one map, in one thread; the next one is drawn from a seed.
 //!
 //! Each worker runs its scripts by `Worker` of `script_worker`, as the caller of its number on a
-//! `Core` of `boost_core`. Before each turn a number is drawn below the number of workers that
-//! still have a step to take, and the worker at that place among them, in rising order, takes its
-//! next turn: one step, or two after eight `Again` in a row. So a seed names one interleaving, and
-//! the same seed gives the same history.
+//! `Core` of `boost_core`. Before each turn a place is drawn in the list of the workers that still
+//! have a step to take, by rising numbers, and the worker at this place takes its next turn: one
+//! step, or two after eight `Again` in a row. So a seed names one interleaving, and the same seed
+//! gives the same history.
 //!
 //! Proved (`mix_scripts`): the core afterwards has the limits asked for, and its history is legal;
 //! each worker's committed transactions play its scripts, with rising numbers; and the core came
-//! from a new one by turns, each of the worker drawn (`specs/Turns.antt`). The turns end when no
-//! worker has a step or a script left, or after 2^64 - 1 turns, which no run lives to see. Each of
-//! these turns takes a step. `draw` is the generator's next word modulo the number of live workers.
-//! Memory is taken for the workers at the beginning, and then only by the core's steps. The numbers
-//! of the live workers are a list, so that a turn costs a look at one worker, and its steps.
+//! from a new one by turns, each taken by the worker drawn for it (`specs/Turns.antt`). The turns
+//! end when no worker has a step or a script left, or after 2^64 - 1 turns, which no run lives to
+//! see. Each of these turns takes a step. `draw` is the generator's next word modulo the number of
+//! live workers. Memory is taken for the workers at the beginning, and then only by the core's
+//! steps. The numbers of the live workers are a list, so that a turn costs a look at one worker,
+//! and its steps.
 #![tactic(auto)]
 
 mod crew;

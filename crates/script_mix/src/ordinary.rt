@@ -1,5 +1,5 @@
 //! A core whose stripes are not words, as a type: a worker's turn may then ask without a claim.
-//! That they are not is the type's invariant, so the loops over turns need not carry it. Each
+//! The type's invariant says that they are not, so the loops over turns need not carry this. Each
 //! method is one call of the core, at its cost, or moves the core.
 ghost use Rattle.std.specs.Prelude.{◌≡◌, false, IfOk};
 ghost use Rattle.boost_core.specs.Machine.{start};

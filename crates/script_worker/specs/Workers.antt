@@ -38,8 +38,8 @@ abbrev pub new_worker : List (List Action) → ℕ → Sizes → Standing
 new_worker scripts w limits =
     record { number = w; limits = limits; task = started limits.half scripts w w }
 
--- The task of a worker after a call of an attempt at a script: the next call, or the worker's next
--- script.
+-- The task of a worker after a call for its present script: the next call of this script, or the
+-- worker's next script.
 abbrev pub followed : List (List Action) → ℕ → Sizes → Task → List Action → Progress → Option Task
 followed scripts w limits task script (Next attempt) =
     Some (record {
@@ -50,8 +50,8 @@ followed scripts w limits task script (Next attempt) =
 followed scripts w limits task script (Over finish) =
     started limits.half scripts w (task.script + limits.callers)
 
--- The task of a worker after a call of an attempt at the script of a number, by the end of the
--- call.
+-- The task of a worker after the call of this task has had this end; None if there is no script of
+-- the task's number.
 abbrev pub progressed : List (List Action) → ℕ → ℕ → Sizes → Task → End → Option Task
 progressed scripts tries w limits task outcome =
     option_and_then (λ script. followed scripts w limits task script

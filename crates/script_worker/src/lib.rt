@@ -2,11 +2,12 @@
 //!
 //! A script is a list of actions. An attempt at it begins a transaction, does the actions in order,
 //! and commits. If a key's stripe is held by another, the transaction is aborted and the script
-//! attempted again, as often as is allowed; if a call is refused, the transaction is aborted and
-//! the script is over; an action may ask for the abort. A worker names the next step of its present
-//! call and is told the answer, as `Drive` of `txn_drive` does for one call; `take_turn` does so
-//! for a whole turn, with a closure that takes the steps. A worker takes no step and no memory
-//! itself, so that its owner decides how the steps of several workers mix.
+//! attempted again, as often as is allowed. If an operation, a savepoint, a return or help is
+//! refused, the transaction is aborted and the script is over; any other refusal, and `OutOfStep`
+//! of any call, ends the script at once. An action may ask for the abort. A worker names the next
+//! step of its present call and is told the answer, as `Drive` of `txn_drive` does for one call;
+//! `take_turn` does so for a whole turn, with a closure that takes the steps. A worker takes no
+//! step and no memory itself, so that its owner decides how the steps of several workers mix.
 //!
 //! A contract sees a worker as its number, the limits of the map, which has as many workers as
 //! callers, and the script that it is at, with the attempt and the call's drive. The functions of

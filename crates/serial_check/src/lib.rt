@@ -13,11 +13,11 @@
 //! exactly if each key had, before the transaction's first operation there, that operation's reply:
 //! every later reply at that key follows from the transaction's own operations, or fits no map. So
 //! the checker keeps a *footprint* of each caller: for each key the value that it must have had
-//! before, and its value now. A return to a savepoint restores the value now, but not the one that
-//! it must have had. The footprint is about every map, not only the present one, so another
-//! caller's commit changes none. At a Committed the keys are compared with the committed map, and
-//! written only if all fit. Comparing reads with the committed state is the validation of Kung and
-//! Robinson, "On Optimistic Methods for Concurrency Control" (TODS 1981).
+//! before, and its value now. A return to a savepoint restores a key's value now, but not the value
+//! that the key must have had before. A footprint is about every map, not only the present one, so
+//! no commit of another caller changes it. At a Committed the keys are compared with the committed
+//! map, and written only if all fit. Comparing reads with the committed state is the validation of
+//! Kung and Robinson, "On Optimistic Methods for Concurrency Control" (TODS 1981).
 //!
 //! An entry costs the logarithm of the number of its transaction's keys; a Committed costs, for
 //! each of these keys, the logarithm of the number of keys in the map. Memory is in proportion to

@@ -54,9 +54,8 @@
 //! other callers may take steps at once. No clause is about time: none says that a call returns, or
 //! how long it waits.
 //!
-//! A work states what every call keeps by one definition, `Keeps`; `proofs/Within.antt` has
-//! `keeps_stay` and `keeps_on`, by which the check joins the calls of a work. The side value is
-//! `NoSide`.
+//! A work states what every call keeps by one definition, `Keeps`. A work's proof joins its calls
+//! by `keeps_stay` and `keeps_on` of `proofs/Within.antt`. The side value is `NoSide`.
 //!
 //! A transaction costs what its calls cost. Transactions that are taken back and run again are
 //! those of Herlihy and Koskinen, "Transactional Boosting" (PPoPP 2008), section 2.

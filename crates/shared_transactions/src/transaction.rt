@@ -300,7 +300,7 @@ impl<'a, L: Ledger, R: Wait> Transaction<'a, L, R> {
         }
     }
 
-    /// Does an operation, and grows the table if the key is new.
+    /// Does an operation, and grows the table if the key was absent.
     fn operate_growing(&mut self, op: Op) -> Result<Reply, Stop>
         ensures keeps { Keeps self.old.me self.new.me }
         ensures ok { IfOk result (λ reply. self.new.me.now.seen ≡ self.old.me.now.seen

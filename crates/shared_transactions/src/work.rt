@@ -163,8 +163,8 @@ fn are_numbered<L: Ledger>(callers: &[Caller<L, NoSide>]) -> bool
     true
 }
 
-/// Closes a map with the callers that worked on it, if the number of each is its index, and with
-/// those that did nothing.
+/// Closes a map with the callers that worked on it and with those that did nothing, if the number
+/// of each caller that worked is its index.
 ///
 /// # Errors
 ///
@@ -225,7 +225,7 @@ pub fn run_works<R: Threads + Wait + Sync, W: Work<R> + Send + Drop>(
     run_under::<Brand, R, W>(rt, alloc, blank, limits, works)
 }
 
-/// Does an opening in this thread, which gives the map its first pairs, and then the works, as
+/// Does an opening, which gives the map its first pairs, in this thread, and then the works, as
 /// `run_works` does. The opening's caller has the number `works.len()`. Answers the opening's
 /// outcome too.
 ///

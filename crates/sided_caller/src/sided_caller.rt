@@ -1,6 +1,7 @@
 //! A caller beside its side value. Each call on the map is made on the caller, and then the side
-//! value follows the answer, which takes no memory: `save` makes its room before. Invariant: in a
-//! transaction the side value has a level for its beginning and for each savepoint, else one.
+//! value follows the answer. To follow takes no memory, since `save` makes room for a level before
+//! it calls the caller. Invariant: in a transaction the side value has a level for its beginning
+//! and for each savepoint, else one.
 ghost use Rattle.std.specs.Prelude.{◌≡◌, ℕ, ◌+◌, ◌≤◌, ◌<◌, ◌%◌, ◌^◌, true, false, [], ◌∷◌, IfOk, IfErr, OnOk, OnErr, Some, None, length, if◌then◌else◌};
 ghost use mathlib.Core.List.{IsPrefix};
 ghost use Rattle.txn_words.specs.declared.entry.Entry.TheVariants.{Began, Asked, Did, Saved, Leave, Returned, Committed, Aborted};
@@ -102,7 +103,8 @@ impl<S: Side> SidedCaller<S> {
         self.side.change(change, job)
     }
 
-    /// Begins a transaction. The side value is its level 0; what was changed before stays.
+    /// Begins a transaction. The side value that there is now becomes level 0; what was changed
+    /// before stays.
     ///
     /// # Errors
     ///

@@ -20,8 +20,8 @@ word_of bytes = from_le_bytes w64 bytes
 unfoldable pub bytes_of : ℕ → List ℕ
 bytes_of word = to_le_bytes w64 word
 
--- The key that has this split key, of the upper half of the keys or not, and 0 for a dummy's split
--- key.
+-- The key that has this split key, and is in the upper half of the keys exactly if `is_upper`; 0
+-- for a dummy's split key.
 unfoldable pub key_in : ℕ → Bool → ℕ
 key_in split is_upper =
     if split % 2 == 0 then 0 else reversed split % 2 ^ 63 + (if is_upper then 2 ^ 63 else 0)
@@ -50,7 +50,7 @@ pub key_in_regular : (split : ℕ) (is_upper : Bool) → split % 2 ≡ 1
 unfolding key_in
 key_in_regular split is_upper odd = rw (ne_eqb (split % 2) 0 (λ even. omega arith)) refl
 
--- A key tells its half.
+-- If no dummy is of the upper half, the key is in the upper half exactly if `is_upper`.
 pub upper_is : (split : ℕ) (is_upper : Bool) → (is_upper ≡ true → split % 2 ≡ 1)
     → nat_le (2 ^ 63) (key_in split is_upper) ≡ is_upper
 upper_is split true odd =

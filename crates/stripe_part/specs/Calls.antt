@@ -8,8 +8,8 @@ use Rattle.txn_words.specs.Owed.{may_change}
 use Rattle.txn_words.specs.Shape.{changes}
 use Rattle.stripe_part.specs.PartAt.{PartAt}
 
--- An operation is done: its reply and what it leaves are the map's, and one change more can be
--- taken back, if it is one.
+-- An operation is done: its reply and what it leaves are the map's. If it is a change, one change
+-- more can be taken back.
 pub record Does (old new : PartAt) (op : Op) (reply : Option ℕ) : Type 0 where
   pub reply_is : reply ≡ reply_of old.content op
   pub content_is : new.content ≡ after old.content op

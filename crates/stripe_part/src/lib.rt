@@ -1,8 +1,8 @@
 //! The map of one stripe of a map that is cut into stripes, which can take changes back.
 //!
-//! Only the holder of a stripe uses its `Part`, as plain memory. So a part needs nothing that
-//! callers in steps need: no cursors, no marked nodes, no buckets in split order. Inside is a
-//! `ProbeMap`.
+//! Only the holder of a stripe uses its `Part`, as plain memory. So a part needs no cursors, no
+//! marked nodes and no buckets in split order, as a map does whose callers act step by step. Inside
+//! is a `ProbeMap`.
 //!
 //! A contract sees a part as a `PartAt`: its `content`, a finite map, and how many changes of the
 //! open transaction are `owed`, that is, can be taken back without memory. The user of the part
@@ -17,14 +17,14 @@
 //! - `settle` keeps all changes. It takes no memory either.
 //! - `len`, `changes` and `pairs` read the part.
 //!
-//! The map and its count of changes are in a box that is made at the first change: an empty part
-//! takes no memory, unless it is made with room (`with_capacity`), and a part is one word. The
+//! A part is one word. The map and its count of changes are in a box that is made at the first
+//! change. So an empty part takes no memory, unless it is made with room (`with_capacity`). The
 //! invariant: the map has room for as many keys as changes are owed. So a key that was taken out
 //! can be put back without memory: each operation that may be a change reserves that room, and a
 //! place for a new key, before it changes anything.
 //!
-//! A part grows by itself. `apply` takes amortized constant time, except for keys whose hashes
-//! collide; `take_back`, `settle` and `len` take constant time; `pairs` takes time in proportion to
+//! A part grows by itself. `apply` and `take_back` take amortized constant time, except for keys
+//! whose hashes collide; `settle` and `len` take constant time; `pairs` takes the time of a sort of
 //! the keys. Only `with_capacity`, `apply` and `pairs` take memory.
 #![tactic(auto)]
 

@@ -63,9 +63,9 @@ impl Part {
     }
 
     /// An empty part, with no change to take back, that has room for this number of keys: `apply`
-    /// takes no memory while the keys that were put, also those taken out since, and the changes
-    /// that are owed are together fewer. So the first `keys` keys take none, if each is settled
-    /// before the next.
+    /// takes no memory while two numbers together are below `keys`: that of the keys that were put,
+    /// also those taken out since, and that of the changes that are owed. So the first `keys` keys
+    /// take none, if each is settled before the next.
     ///
     /// # Errors
     ///

@@ -24,7 +24,8 @@ pub record Moves (map : StripedMap) (a : Hand) (es : List Entry) (b : Hand) : Ty
       (known b.seat).seen
 
 -- An operation was not done. Busy: another caller, which has begun a transaction before, held the
--- stripe, and the transaction is aborted. Refused: memory was, and the transaction is unchanged.
+-- stripe, and the transaction is aborted. Refused: memory was refused, and the transaction is
+-- unchanged.
 abbrev pub IsStopped : StripedMap → Hand → Op → Hand → Stop → Type 0
 IsStopped map a op b (Busy holder) = IsAt Closed (known b.seat) × ((known b.seat).held ≡ [])
     × Moves map a (BusyEntry (known a.seat).number op holder
@@ -36,10 +37,10 @@ IsStopped map a op b (Refused refusal) =
 abbrev pub IsCut : StripedMap → Hand → Hand → Stop → Type 0
 IsCut map a b stop = (key : ℕ) × IsStopped map a (Get key) b stop
 
--- In a transaction that was begun for it, and before any other entry of it, the hand has seen one
--- legal history (of `left`). It has of each caller that was taken in exactly the entries that its
--- calls added, and otherwise only entries of seats that were made; the pairs are the map of that
--- history; and the hand has seen it since.
+-- A transaction was begun to read the pairs. Before it had another entry, the hand had seen one
+-- legal history, that of `left`. This history has of each caller that was taken in exactly the
+-- entries that its calls added, and otherwise only entries of seats that were made; the pairs are
+-- its map; and what the hand has seen since begins with it.
 pub record AreLeft (map : StripedMap) (a c : Hand) (pairs : List (ℕ × ℕ)) : Type 0 where
   pub txn : ℕ
   pub during : Hand
@@ -51,8 +52,8 @@ pub record AreLeft (map : StripedMap) (a c : Hand) (pairs : List (ℕ × ℕ)) :
   pub pairs_are : pairs ≡ (now (known left.seat).seen).rows
   pub seen : (later : List Entry) × ((known c.seat).seen ≡ (known left.seat).seen ++ later)
 
--- The pairs were not read. Busy: as a look at a key in a transaction that was begun for it.
--- Refused: memory was.
+-- The pairs were not read. Busy: a transaction was begun to read them, and stopped as a look at a
+-- key does. Refused: memory was refused.
 abbrev pub IsUnread : StripedMap → Hand → Hand → Stop → Type 0
 IsUnread map a c (Busy holder) = (txn : ℕ) × (b : Hand)
     × Moves map a (Began (known a.seat).number txn ∷ []) b × IsCut map b c (Busy holder)

@@ -14,7 +14,8 @@ use map_answers::Stop;
 use std::thread;
 
 impl Caller {
-    /// Begins, runs the work, and commits; or aborts, by a drop.
+    /// Begins a transaction, runs the work in it, and commits. If the work fails, the transaction
+    /// is dropped, which aborts it.
     fn attempt<T: Drop, F: Fn(&mut Transaction<'_>) -> Result<T, Stop>>(
         &mut self,
         work: &F,

@@ -214,8 +214,8 @@ impl Hand {
         }
     }
 
-    /// Takes all stripes that are not held. A busy one ends the transaction as a look at a key of
-    /// it does.
+    /// Takes all stripes that are not held. A busy stripe ends the transaction, as a get of one of
+    /// its keys does.
     #[tactic(auto, using(crate::proofs::Ends::moved_still, crate::proofs::Ends::moved_on, crate::proofs::Ends::moved_busy))]
     fn hold_all(&mut self, map: &StripedMap) -> Result<(), Stop>
         requires map { IsOf self.old.seat map.now }

@@ -44,8 +44,9 @@ pub fn open_map(
 }
 
 /// Opens a map as `open_map` does, whose stripes have room for their shares of `keys` keys, rounded
-/// up. So the stripes take no memory for the first `keys` keys, if these are spread evenly over
-/// them, as keys that rise by one are, and each transaction puts at most one key of a stripe.
+/// up. So the stripes take no memory for the first `keys` keys, on two conditions: the keys are
+/// spread evenly over the stripes, as keys that rise by one are; and each transaction puts at most
+/// one key of a stripe.
 ///
 /// # Errors
 ///

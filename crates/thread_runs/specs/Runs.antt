@@ -136,7 +136,7 @@ pub record HasRunScripts (limits : Sizes) (workers tries : ℕ) (scripts : List 
       → slice_get scripts i ≡ Some script → slice_get outcomes i ≡ Some outcome
       → MayCome limits.half script outcome
 
--- The outcomes and the history of a run are those of such a run.
+-- The result has the outcomes and the history of a run as `HasRunScripts` says.
 abbrev pub IsRunOf : Sizes → ℕ → ℕ → List (List Action) → Ran → Type 0
 IsRunOf limits workers tries scripts ran =
     HasRunScripts limits workers tries scripts (map told_of ran.outcomes.items) ran.trace.items

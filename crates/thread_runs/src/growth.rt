@@ -17,8 +17,8 @@ use txn_trace::{Answer, Op, Refusal};
 /// The number of new keys after which a worker helps the table to grow. In a large table a help
 /// takes some ten holds, one to double and one for each ancestor of the key's bucket, and an
 /// operation takes three; so a help for each new key would keep the other workers waiting. The
-/// number is odd, and the number of buckets a power of two, so that of keys in a row each bucket
-/// has its turn.
+/// number is odd, and the number of buckets is a power of two. So each bucket has its turn if the
+/// keys are numbers in a row.
 const EVERY: u8 = 7;
 
 /// The number of new keys that a worker has put since its last help.
@@ -80,7 +80,8 @@ fn is_out(end: End) -> bool
     matches!(end, End::Refused(Refusal::OutOfStep))
 }
 
-/// The key that a call has put, if it had no value before.
+/// The key of a put or a put-if, if it had no value before. A put-if that expected a value has then
+/// put nothing, and its key counts too.
 fn new_key(call: Call, end: End) -> Option<u64>
     ensures { IfSome result (λ key. end ≡ End.Answered (Answer.Done None)) }
 {

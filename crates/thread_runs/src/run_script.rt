@@ -1,6 +1,7 @@
 //! The course of one script to its outcome: call after call on the shared map, by the rules of
-//! `Attempt` (`script_worker`). The loop keeps an account of the entries that the caller has added
-//! since the script began (`specs/Accounts.antt`).
+//! `Attempt` (`script_worker`). The invariant of the loop is about the entries that the caller has
+//! added since the script began. At the end they are the account of the outcome (`IsAccount` of
+//! `script_worker`).
 ghost use Rattle.std.specs.Prelude.{◌≡◌, ◌-◌, true, false, is_some, vec_len, vec_capacity};
 ghost use Rattle.txn_words.specs.declared.refusal.Refusal.{Refusal};
 ghost use Rattle.txn_words.specs.declared.seat.Phase.{Phase};

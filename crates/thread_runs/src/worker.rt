@@ -1,6 +1,7 @@
 //! The course of one worker through its scripts, which is all that its thread does. It knows no
 //! other worker: it takes its scripts by their numbers, and shares only the map and the gate with
-//! the rest. Room for an outcome is made before its script runs, so no outcome is lost.
+//! the rest. Room for an outcome is made before its script runs, so no script runs whose outcome
+//! could not be kept.
 ghost use Rattle.std.specs.Prelude.{◌≡◌, ◌<◌, ◌^◌, [], IfOk, map};
 ghost use Rattle.core_tokens.specs.Tokens.{IsSameCaller};
 ghost use Rattle.thread_runs.specs.Runs.{HasReported, HasRunAll, told_of};

@@ -21,8 +21,8 @@ use Rattle.txn_drive.specs.declared.turn.Turn.TheVariants.{One, Two, Ended}
 use Rattle.txn_drive.specs.declared.way.Way.{Way}
 use Rattle.txn_drive.specs.Ways.{child_towards}
 
--- A call for help begins by doubling the table if its key is taken: every key is, unless only half
--- keys are. Any other call is fresh.
+-- A call for help begins by doubling the table; but if only half keys are taken and its key is
+-- none, it is refused. Any other call is fresh.
 abbrev pub first_phase : Bool → Call → Phase
 first_phase half (calls.Help key) = if is_bad_key half key then Refused BadKey else Doubling 0
 first_phase half call = Fresh
@@ -134,7 +134,8 @@ told_seek (Busy holder undone) again (answers.Refused NothingToSeek) =
 told_seek (Leaving undone) again (answers.Refused NothingToSeek) = Acting (Leaving undone) again
 told_seek work again answer = Lost work
 
--- The phase after this number of changes is taken back, if it is a number of 64 bits.
+-- The phase after one more change than `undone` is taken back: the next is sought for the work
+-- `more`. If the new number does not fit in 64 bits, the call ends.
 abbrev pub counted : ℕ → Work → Work → Phase
 counted undone more work =
     if nat_lt undone (2 ^ 64 - 1) then Seeking more 0 else Last work answers.Undone

@@ -52,8 +52,8 @@ pub enum Phase {
 }
 
 impl Phase {
-    /// Goes on to the phase after an answer to the step of this one. Each kind of phase is written
-    /// in its own place, so that only the parts that it has are written.
+    /// Goes on to the phase after an answer to the step of this one. Each arm writes its own kind
+    /// of phase, so that only the parts that this kind has are written.
     #[inline(always)]
     pub(crate) fn told(&mut self, call: Call, answer: Answer)
         ensures { self.new ≡ told_in call self.old answer }

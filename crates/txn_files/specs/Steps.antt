@@ -1,4 +1,4 @@
--- The step that an array in JSON is: its name, its caller and its further elements.
+-- The step that an array in JSON is: its name, and the elements after the name.
 use Rattle.std.specs.Prelude.{ℕ, ◌==◌, Bool, true, List, length, Option, Some, None, if◌then◌else◌, codes}
 use Rattle.std.specs.Str.{bytes_eq}
 use Rattle.serde_json.specs.Data.{Data}

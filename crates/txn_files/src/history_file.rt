@@ -309,8 +309,8 @@ pub fn read_packed_history(
     kept_history(alloc, bytes)
 }
 
-/// The history file with the entries that are kept in packed form. No history in range has an entry
-/// that is replaced, so it is that of the bytes.
+/// The history file by the entries that are kept, in packed form. In a history in range no entry is
+/// replaced, so this is the history file that the bytes are.
 fn kept_history(alloc: Global, bytes: &[u8]) -> Result<(u32, Vec<SmallEntry>, u64), FileFault>
     ensures { Gives (λ file. (file.0, file.1.items, file.2)) result (kept_history_of bytes.now) }
 {

@@ -24,8 +24,8 @@ pub record IsLegal (holder : Holder) (stripes : ℕ) (h : List Entry) : Type 0 w
 abbrev pub replies_hold : List Entry → Bool
 replies_hold g = list_all (λ t. is_some (alone (serial g) (of t g))) (open_txns g)
 
--- The rule that an entry breaks after g: 3, shape; else the lesser of 1, replies, and 2, locks;
--- None if it breaks none.
+-- The number of the rule that an entry breaks after g, or None if it breaks none. Shape, rule 3, is
+-- tested first, then replies, rule 1, and then locks, rule 2.
 abbrev pub broken : Holder → ℕ → List Entry → Entry → Option ℕ
 broken holder stripes g e =
     if not (is_shaped g e) then Some 3 else
@@ -55,7 +55,7 @@ is_running (Some s) = runs s.phase
 abbrev pub callers_in : List Entry → ℕ
 callers_in h = fold (λ n e. max n (caller_of e + 1)) 0 h
 
--- The callers that are not closed, among the first ones; the number says how many are looked at.
+-- The callers that are not closed, among those whose number is below `callers`.
 abbrev pub running : ℕ → List Entry → List ℕ
 running callers h = filter (λ c. is_running (seat_after (own c h))) (range_with_len 0 callers)
 

@@ -49,8 +49,8 @@ is_commit_of c e = is_commit e && (caller_of e == c)
 abbrev pub commits_of : ℕ → List Entry → List ℕ
 commits_of c h = txns_of (is_commit_of c) h
 
--- Every `callers`-th of these scripts is the caller's, beginning with the one that has the caller's
--- number. This script, number `n`, is one of these.
+-- Caller `c` has the scripts whose number is `c` modulo `callers`. This script, number `n`, is one
+-- of them.
 pub record IsScriptOf (callers : ℕ) (scripts : List (List Action)) (c n : ℕ)
     (script : List Action) : Type 0 where
   pub mine : n % callers ≡ c

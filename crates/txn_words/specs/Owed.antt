@@ -17,14 +17,15 @@ may_change (Take k) = true
 may_change (Get k) = false
 may_change (PutIf k expected v) = true
 
--- For an operation that waits: its reply, and its undoing if it may change the map.
+-- The entries owed for an operation that waits: its reply, and its undoing if it may change the
+-- map.
 abbrev pub owed_for : Op → ℕ
 owed_for (Put k v) = 2
 owed_for (Take k) = 2
 owed_for (Get k) = 1
 owed_for (PutIf k expected v) = 2
 
--- For a number of standing changes and a phase.
+-- The entries owed by a caller with this number of standing changes and this phase.
 abbrev pub owed_in : ℕ → Phase → ℕ
 owed_in s Closed = 0
 owed_in s Opened = 2 + s
@@ -32,12 +33,12 @@ owed_in s (Waiting op) = 2 + s + owed_for op
 owed_in s (LeavingTo n) = 3 + s
 owed_in s LeavingToEnd = 1 + s
 
--- For a seat.
+-- The entries owed by a caller with this seat; none if there is no seat.
 abbrev pub owed_by : Option Seat → ℕ
 owed_by None = 0
 owed_by (Some s) = owed_in s.standing s.phase
 
--- The sum over all callers, numbered from 0.
+-- The entries owed by all callers together, whose numbers begin at 0.
 abbrev pub owed : ℕ → List Entry → ℕ
 owed callers h = sum_by (λ c. owed_by (seat_after (own c h))) (range_with_len 0 callers)
 

@@ -1,6 +1,6 @@
-//! Room in a list of small entries. It stands alone because the history of a core and what a caller
-//! sees of it both take room for as many entries before a run. Invariant: the entries of the list
-//! are the same before and after, written or not.
+//! Room in a list of small entries. It is a module of its own, since two lists take room in this
+//! way before a run: a core's history, and what a caller has seen of it. Invariant: the entries of
+//! the list are the same before and after, written or not.
 ghost use Rattle.std.specs.Prelude.{◌≡◌, ◌+◌, ◌≤◌, ◌<◌, OnErr, OnOk, vec_capacity, vec_len};
 
 use crate::entry::Entry;

@@ -107,7 +107,8 @@ impl SmallEntry {
             && self.expected == other.expected
     }
 
-    /// Whether another small entry is the same entry, whatever the fields have that are not used.
+    /// Whether another small entry is the same entry, whatever is in the fields that its kind does
+    /// not use.
     #[cold]
     #[inline(never)]
     fn is_same_unpacked(&self, other: &SmallEntry) -> bool

@@ -1,11 +1,13 @@
 //! The trait of an inverse: what the world shows before and after the change, and the law that
-//! `run` keeps. A log keeps jobs and runs none, so it names no world: for the map's jobs it is the
-//! table, for those of a side value the value itself. Nothing bounds the cost of a run.
+//! `run` keeps. A log keeps jobs and runs none, so it names no world. The world of the map's jobs
+//! is the table, and that of a side value's jobs is the value itself. Nothing bounds the cost of a
+//! run.
 /// The inverse of one change, which is run at most once.
 ///
-/// Its law is the contract of `run`: on a world that shows what the job names as after the change,
-/// `run` answers one that shows what the job names as before it; `takes_back` says what differs
-/// between the two, and that nothing else does. A job that is no longer needed is dropped.
+/// Its law is the contract of `run`. The world that `run` takes shows what the job names as after
+/// the change, and the world that it answers shows what the job names as before it. `takes_back`
+/// says what differs between the two, and that nothing else does. A job that is no longer needed is
+/// dropped.
 pub trait UndoJob: Drop {
     /// The world that was changed, such as a table of nodes.
     type World;

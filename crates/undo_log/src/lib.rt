@@ -2,8 +2,8 @@
 //! Methodology for Highly-Concurrent Transactional Objects", PPoPP 2008, rule 3, compensating
 //! actions): one inverse for each change, run newest first when the transaction goes back.
 //!
-//! - `UndoJob`: an inverse. It names what the world shows after its change and before it; run on
-//!   the former it answers the latter.
+//! - `UndoJob`: an inverse. It names what its world, such as a table, shows after the change and
+//!   before it. `run` takes a world that shows the first, and answers one that shows the second.
 //! - `UndoLog`: contracts see its jobs, oldest first, and how many of them each savepoint keeps.
 //!   Savepoints are numbered 1, 2, ..; level 0 is the beginning, which keeps none. Jobs are taken
 //!   out newest first, each once, and only above the level that is named. The first eight are kept

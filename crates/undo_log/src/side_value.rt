@@ -77,7 +77,8 @@ impl<S: Side> SideValue<S> {
 
     /// Changes the value, and logs the job that takes the change back.
     ///
-    /// The job must name the words now as before, and those that `change` answers as after.
+    /// The job must name as before the words that the value has now, and as after those of the
+    /// value that `change` answers.
     ///
     /// # Errors
     ///
