@@ -1,5 +1,5 @@
 -- Each step keeps the rule.
-use Rattle.std.proofs.Common.{◌≡◌, ◌≢◌, ℕ, zero, suc, ◌+◌, ◌<◌, List, [], ◌∷◌, ◌++◌, map, length, get_or, set, Contains, Option, None, Some, ◌-◌, sym, refl, ◌∙◌, ap, subst, inl, inr, ⊎_elim, arith, eqb, length-set, get_or-set_other, get_or-set_same}
+use Rattle.std.proofs.Common.{◌≡◌, ◌≢◌, ℕ, zero, suc, ◌+◌, ◌<◌, List, [], ◌∷◌, ◌++◌, map, length, get_or, set, Contains, Option, None, Some, sym, refl, ◌∙◌, ap, subst, inl, inr, ⊎_elim, arith, eqb, length-set, get_or-set_other, get_or-set_same}
 use mathlib.Core.Logic.{dite}
 use mathlib.Core.Option.{Option as Maybe, some, none, some-injective}
 use native.Mathlib.Decide.{ℕ_discrete}
@@ -12,12 +12,15 @@ use Rattle.std.proofs.lemmas.Option.{none-some}
 use Rattle.std.proofs.lemmas.List.Elements.{Contains-push, Contains-append_left, Contains-push_cases}
 use Rattle.atomic_table.proofs.Lists.{at_set, set_here, set_else, exchanged}
 use Rattle.txn_words.specs.Held.{times, removed, once_for}
-use Rattle.txn_words.proofs.Holding.{once_yes, once_no, once_at_most, own_word, times_same, times_other, removed_same, removed_other, times_removed_same, times_removed_other, times_removed_le, within, only}
+use Rattle.txn_words.proofs.Holding.{once_yes, once_no, once_kept, own_word, times_same, times_other, times_taken, times_given, removed_same, removed_other, times_removed_le, within, only}
 use Rattle.key_words.specs.declared.view.View.{View}
 use Rattle.key_words.specs.Rule.{view, Holds, WasTaken, IsOrderly}
 use Rattle.key_words.specs.Steps.{Sat, with_note, gained, lost, elder, newborn, emptied, took, brought, freed}
 use Rattle.key_words.specs.Laws.{HeldOnce}
 use Rattle.key_words.proofs.Keeps.{St, board, moved, unmoved, joined, none_in}
+
+abbrev word_in : List ℕ → ℕ → ℕ
+word_in words stripe = get_or words stripe 0
 
 abbrev Slots : Type 0
 Slots = List (Maybe (Option ℕ))
@@ -49,21 +52,14 @@ tries n id m i own said e lt s o wide me _ = let v : View = m.0 in let x : ℕ =
     exchanged x 0 own (Goes s i id m (took (step n i 0 own said) m))
     (λ z. let ws = set s.words i own in let hs = set s.homes i none in
     let here : get_or ws i 0 ≡ own = get_or-set_same s.words i own 0 inside in
-    let other : (k : ℕ) → k ≢ i → get_or ws k 0 ≡ get_or s.words k 0 = λ k ne. get_or-set_other s.words i k own 0 ne in
-    let not_mine : once_for v.number x ≡ 0 = once_no v.number x (λ y. omega arith) in (
+    let other : (k : ℕ) → k ≢ i → get_or ws k 0 ≡ get_or s.words k 0 = λ k ne. get_or-set_other s.words i k own 0 ne in (
       gained v i,
       takes i (Some i),
       o.home i inside z,
       moved s o id v (gained v i) me refl (omega arith) (λ note. Contains-append_left v.notes ((i, 0) ∷ []) note) ws hs (length-set s.words i own) (length-set s.homes i none)
           (λ k. dite (ℕ_discrete k i) (λ (y : k ≡ i). inr (inl (subst (λ (j : ℕ). get_or ws j 0 ≡ v.number + 1) (sym y) (here ∙ e)))) (λ ne. inr (inr (other k ne))))
-          (λ k. dite (ℕ_discrete k i)
-          (λ (y : k ≡ i). subst (λ (j : ℕ). times j (i ∷ v.held) ≡ once_for v.number (get_or ws j 0)) (sym y)
-          (let none-yet = o.held id v me i in let one : once_for v.number (get_or ws i 0) ≡ 1 = once_yes v.number (get_or ws i 0) (here ∙ e) in omega (arith, times_same i v.held)))
-          (λ ne. times_other k i v.held (λ y. ne (sym y)) ∙ (o.held id v me k ∙ ap (once_for v.number) (sym (other k ne)))))
-          (λ a k ne. dite (ℕ_discrete k i)
-          (λ (y : k ≡ i). subst (λ (j : ℕ). once_for a (get_or ws j 0) ≡ once_for a (get_or s.words j 0)) (sym y)
-          (once_no a (get_or ws i 0) (λ q. ne (omega arith)) ∙ sym (once_no a x (λ q. omega arith))))
-          (λ no. ap (once_for a) (other k no)))
+          (λ k. times_taken (word_in s.words) (word_in ws) i other v.number v.held z (here ∙ e) k (o.held id v me k))
+          (λ a k ne. once_kept (word_in s.words) (word_in ws) i other a (λ q. omega arith) (λ q. ne (omega arith)) k)
           (λ k short q. dite (ℕ_discrete k i) (λ (y : k ≡ i). let is : get_or ws k 0 ≡ own = subst (λ (j : ℕ). get_or ws j 0 ≡ own) (sym y) here in absurd (omega arith))
           (λ no. set_else s.homes i k none no ∙ o.home k short (sym (other k no) ∙ q)))
           (λ k short q. dite (ℕ_discrete k i) (λ (y : k ≡ i). subst (λ (j : ℕ). get_elem? hs j ≡ some none) (sym y) (set_here s.homes i none (omega arith)))
@@ -178,14 +174,8 @@ frees n id m i more e h s o wide me _ = let v : View = m.0 in let x : ℕ = get_
       tt,
       moved s o id v w me refl (omega arith) (λ note had. had) ws hs (length-set s.words i 0) (length-set s.homes i (some (Some i)))
           (λ k. dite (ℕ_discrete k i) (λ (y : k ≡ i). inl (subst (λ (j : ℕ). get_or ws j 0 ≡ 0) (sym y) here)) (λ ne. inr (inr (other k ne))))
-          (λ k. dite (ℕ_discrete k i)
-          (λ (y : k ≡ i). subst (λ (j : ℕ). times j (removed i v.held) ≡ once_for v.number (get_or ws j 0)) (sym y)
-          (omega (arith, times_removed_same i v.held, o.held id v me i, once_at_most v.number x, once_no v.number (get_or ws i 0) (λ q. omega arith))))
-          (λ ne. times_removed_other i k v.held ne ∙ (o.held id v me k ∙ ap (once_for v.number) (sym (other k ne)))))
-          (λ a k ne. dite (ℕ_discrete k i)
-          (λ (y : k ≡ i). subst (λ (j : ℕ). once_for a (get_or ws j 0) ≡ once_for a (get_or s.words j 0)) (sym y)
-          (once_no a (get_or ws i 0) (λ q. omega arith) ∙ sym (once_no a x (λ q. ne (omega arith)))))
-          (λ no. ap (once_for a) (other k no)))
+          (λ k. times_given (word_in s.words) (word_in ws) i other v.number v.held is here k (o.held id v me k))
+          (λ a k ne. once_kept (word_in s.words) (word_in ws) i other a (λ q. ne (omega arith)) (λ q. omega arith) k)
           (λ k short q. dite (ℕ_discrete k i) (λ (y : k ≡ i). subst (λ (j : ℕ). get_elem? hs j ≡ some (some (Some j))) (sym y) (set_here s.homes i (some (Some i)) room))
           (λ no. set_else s.homes i k (some (Some i)) no ∙ o.home k short (sym (other k no) ∙ q)))
           (λ k short q. dite (ℕ_discrete k i) (λ (y : k ≡ i). absurd (q (subst (λ (j : ℕ). get_or ws j 0 ≡ 0) (sym y) here)))

@@ -16,10 +16,6 @@ once_yes n word e = ap (λ b. cond b 1 0) (eq-eqb word (n + 1) e)
 pub once_no : (n word : ℕ) → word ≢ n + 1 → once_for n word ≡ 0
 once_no n word ne = ap (λ b. cond b 1 0) (ne_eqb word (n + 1) ne)
 
--- No word counts more than once.
-pub once_at_most : (n word : ℕ) → once_for n word ≤ 1
-once_at_most n word = dite (ℕ_discrete word (n + 1)) (λ e. omega (arith, once_yes n word e)) (λ ne. omega (arith, once_no n word ne))
-
 -- If a seat holds a stripe, the stripe's word is the seat's.
 pub own_word : (n word many : ℕ) → many ≡ once_for n word → 0 < many → word ≡ n + 1
 own_word n word many e h = dite (ℕ_discrete word (n + 1)) (λ y. y) (λ ne. absurd (omega (arith, once_no n word ne)))
@@ -79,6 +75,28 @@ times_removed_other k j (x ∷ ks) ne = dite (ℕ_discrete x k)
 pub times_removed_le : (k j : ℕ) (ks : List ℕ) → times j (removed k ks) ≤ times j ks
 times_removed_le k j ks = dite (ℕ_discrete j k)
     (λ (e : j ≡ k). subst (λ (i : ℕ). times i (removed k ks) ≤ times i ks) (sym e) (omega (arith, times_removed_same k ks))) (λ ne. omega (arith, times_removed_other k j ks ne))
+
+-- f and g are the words of the stripes before and after a step that changes at most the word of stripe i.
+module _ (f g : ℕ → ℕ) (i : ℕ) (other : (k : ℕ) → k ≢ i → g k ≡ f k) where
+  -- A seat that this word names neither before nor after has the same words.
+  pub once_kept : (a : ℕ) → f i ≢ a + 1 → g i ≢ a + 1 → (k : ℕ) → once_for a (g k) ≡ once_for a (f k)
+  once_kept a was is k = dite (ℕ_discrete k i)
+      (λ (y : k ≡ i). subst (λ (j : ℕ). once_for a (g j) ≡ once_for a (f j)) (sym y) (once_no a (g i) is ∙ sym (once_no a (f i) was)))
+      (λ no. ap (once_for a) (other k no))
+
+  -- A seat that takes stripe i holds just the stripes whose words are its own.
+  pub times_taken : (n : ℕ) (ks : List ℕ) → f i ≡ 0 → g i ≡ n + 1 → (k : ℕ) → times k ks ≡ once_for n (f k) → times k (i ∷ ks) ≡ once_for n (g k)
+  times_taken n ks free mine k old = dite (ℕ_discrete k i)
+      (λ (y : k ≡ i). subst (λ (j : ℕ). times j ks ≡ once_for n (f j) → times j (i ∷ ks) ≡ once_for n (g j)) (sym y)
+      (λ at. omega (arith, at, times_same i ks, once_no n (f i) (λ q. omega arith), once_yes n (g i) mine)) old)
+      (λ ne. times_other k i ks (λ y. ne (sym y)) ∙ old ∙ ap (once_for n) (sym (other k ne)))
+
+  -- A seat that gives stripe i back holds just the stripes whose words are its own.
+  pub times_given : (n : ℕ) (ks : List ℕ) → f i ≡ n + 1 → g i ≡ 0 → (k : ℕ) → times k ks ≡ once_for n (f k) → times k (removed i ks) ≡ once_for n (g k)
+  times_given n ks mine free k old = dite (ℕ_discrete k i)
+      (λ (y : k ≡ i). subst (λ (j : ℕ). times j ks ≡ once_for n (f j) → times j (removed i ks) ≡ once_for n (g j)) (sym y)
+      (λ at. omega (arith, at, times_removed_same i ks, once_yes n (f i) mine, once_no n (g i) (λ q. omega arith))) old)
+      (λ ne. times_removed_other i k ks ne ∙ old ∙ ap (once_for n) (sym (other k ne)))
 
 -- Each number of a list of zeros is 0, and so is what is read past its end.
 pub zeros : (n k : ℕ) → ◌≡◌ {A = ℕ} (get_or (replicate n 0) k 0) 0
