@@ -5,7 +5,7 @@ use Rattle.key_words.specs.declared.rights.Rights.{Rights}
 use Rattle.key_words.specs.declared.taken.Tried.{Tried}
 use Rattle.key_words.specs.declared.taken.Tried.TheVariants.{Mine, Another}
 use Rattle.key_words.specs.Kept as kept
-use Rattle.key_words.specs.Rule.{times}
+use Rattle.txn_words.specs.Held.{times}
 use Rattle.key_words.specs.Seats.{known}
 use Rattle.core_tokens.specs.Claims.{Claimed, InHand, WasFree, WasHeld, Tries, Trial, trial, trial_of}
 

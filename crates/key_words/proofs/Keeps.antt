@@ -1,31 +1,23 @@
 -- Changes of one seat's view, of words and of slots, and the conditions under which they keep the
 -- rule.
-use Rattle.std.proofs.Common.{◌≡◌, ◌≢◌, ℕ, zero, suc, ◌+◌, ◌<◌, ◌≤◌, ◌⊎◌, List, [], ◌∷◌, ◌++◌, length, get_or, set, Contains, Option, Some, sym, refl, ◌∙◌, ap, subst, inl, inr, ⊎_elim, arith, cond, eq-eqb, ne_eqb}
+use Rattle.std.proofs.Common.{◌≡◌, ◌≢◌, ℕ, ◌+◌, ◌<◌, ◌≤◌, ◌⊎◌, List, [], ◌∷◌, ◌++◌, length, get_or, set, Contains, Option, Some, sym, refl, ◌∙◌, ap, subst, inl, inr, ⊎_elim, arith}
+use Rattle.std.proofs.lemmas.List.{get_or_past}
 use mathlib.Core.Logic.{dite}
-use mathlib.Core.Option.{Option as Maybe, some, none, some-injective, some-ne-none}
+use mathlib.Core.Option.{Option as Maybe, some, none, some-injective}
 use native.Mathlib.Decide.{ℕ_discrete, dec_le}
 use lib.ListN.{get_elem?}
 use Rattle.atomic_table.specs.Table.{State}
 use Rattle.atomic_table.proofs.Lists.{at_set, set_here, set_else, at_longer, at_last}
+use Rattle.txn_words.specs.Held.{times, once_for}
+use Rattle.txn_words.proofs.Holding.{once_no, within, at_end}
 use Rattle.key_words.specs.declared.view.View.{View}
-use Rattle.key_words.specs.Rule.{view, times, once_for, Holds, IsNamed, WasTaken, IsOrderly}
+use Rattle.key_words.specs.Rule.{view, Holds, IsNamed, WasTaken, IsOrderly}
 
 abbrev pub St : Type 0
 St = State (Option ℕ) View
 
 abbrev pub board : List ℕ → List (Maybe (Option ℕ)) → List View → St
 board ws hs vs = record { words = ws; homes = hs; views = vs }
-
-pub once_yes : (n word : ℕ) → word ≡ n + 1 → once_for n word ≡ 1
-once_yes n word e = ap (λ b. cond b 1 0) (eq-eqb word (n + 1) e)
-
-pub once_no : (n word : ℕ) → word ≢ n + 1 → once_for n word ≡ 0
-once_no n word ne = ap (λ b. cond b 1 0) (ne_eqb word (n + 1) ne)
-
-pub within : {A : Type 0} (l : List A) (i : ℕ) (a : A) → get_elem? l i ≡ some a → i < length l
-within [] i a e = absurd (some-ne-none a (sym e))
-within (x ∷ xs) zero a e = omega arith
-within (x ∷ xs) (suc i) a e = let h : i < length xs = within xs i a e in omega arith
 
 -- The views after the seat `id` gets the view `w` in place of `v`.
 module _ (s : St) (o : IsOrderly s) (id : ℕ) (v w : View) (me : get_elem? s.views id ≡ some v) (same : w.number ≡ v.number) (more : v.made ≤ w.made) (kept : (note : ℕ × ℕ) → Contains v.notes note → Contains w.notes note) where
@@ -102,20 +94,9 @@ module _ (s : St) (o : IsOrderly s) (id : ℕ) (v w : View) (me : get_elem? s.vi
       moved s.words hs refl wide (λ k. inr (inr refl)) (λ k. alike k ∙ o.held id v me k) (λ n k ne. refl) (λ k lt z. slots k ∙ o.home k lt z) (λ k lt ne. slots k ∙ o.out k lt ne)
       (λ k h. kept (k, 0) (o.taken id v me k (omega (arith, h, alike k)))) noted
 
-at_end : (l : List View) (a b : View) (i : ℕ) → get_elem? (l ++ a ∷ []) i ≡ some b → (get_elem? l i ≡ some b) ⊎ ((i ≡ length l) × (a ≡ b))
-at_end [] a b zero e = inr (refl, some-injective a b e)
-at_end [] a b (suc i) e = absurd (some-ne-none b (sym e))
-at_end (x ∷ xs) a b zero e = inl e
-at_end (x ∷ xs) a b (suc i) e = ⊎_elim (λ (t : get_elem? xs i ≡ some b). inl t) (λ (t : (i ≡ length xs) × (a ≡ b)). inr (omega arith, t.1)) (at_end xs a b i e)
-
-far : (l : List ℕ) (k : ℕ) → length l ≤ k → get_or l k 0 ≡ 0
-far [] k h = refl
-far (x ∷ xs) zero h = absurd (omega arith)
-far (x ∷ xs) (suc k) h = far xs k (omega arith)
-
 unnamed : (s : St) (o : IsOrderly s) (number : ℕ) → ((i : ℕ) (u : View) → get_elem? s.views i ≡ some u → u.number < number) → (k : ℕ) → get_or s.words k 0 ≢ number + 1
 unnamed s o number new k e = dite (dec_le (length s.words) k)
-    (λ ge. let z = far s.words k ge in omega arith)
+    (λ ge. let z = get_or_past s.words k 0 ge in omega arith)
     (λ lt. ⊎_elim (λ (z : get_or s.words k 0 ≡ 0). omega arith)
     (λ (t : (seat : ℕ) × (u : View) × (get_elem? s.views seat ≡ some u) × (get_or s.words k 0 ≡ u.number + 1)). let lt' = new t.0 t.1 t.2 in let t₃ : get_or s.words k 0 ≡ t.1.number + 1 = t.3 in omega arith) (o.named k (omega arith)))
 

@@ -1,36 +1,29 @@
 -- Each step keeps the rule.
-use Rattle.std.proofs.Common.{replicate, ◌≡◌, ◌≢◌, ℕ, zero, suc, ◌+◌, ◌<◌, ◌≤◌, List, [], ◌∷◌, ◌++◌, map, length, get_or, set, Contains, Option, None, Some, ◌-◌, sym, refl, ◌∙◌, ap, subst, inl, inr, ⊎_elim, arith, cond, eqb, eq-eqb, ne_eqb, length-set, get_or-set_other, get_or-set_same}
+use Rattle.std.proofs.Common.{◌≡◌, ◌≢◌, ℕ, zero, suc, ◌+◌, ◌<◌, List, [], ◌∷◌, ◌++◌, map, length, get_or, set, Contains, Option, None, Some, sym, refl, ◌∙◌, ap, subst, inl, inr, ⊎_elim, arith, eqb, length-set, get_or-set_other, get_or-set_same}
 use mathlib.Core.Logic.{dite}
-use mathlib.Core.Option.{Option as Maybe, some, none, some-injective, some-ne-none}
+use mathlib.Core.Option.{Option as Maybe, some, none, some-injective}
 use native.Mathlib.Decide.{ℕ_discrete}
 use lib.ListN.{get_elem?}
 use lib.Seq.{set-get_or}
 use prog.Atomic.{either}
 use Rattle.atomic_table.specs.Table.{Act, keeps, takes, gives, chain, step, Valid, homes_after, carried_after, stepped, rest, opening, Allows, Splits}
 use Rattle.std.proofs.lemmas.List.{length-map}
+use Rattle.std.proofs.lemmas.Option.{none-some}
 use Rattle.std.proofs.lemmas.List.Elements.{Contains-push, Contains-append_left, Contains-push_cases}
 use Rattle.atomic_table.proofs.Lists.{at_set, set_here, set_else, exchanged}
+use Rattle.txn_words.specs.Held.{times, removed, once_for}
+use Rattle.txn_words.proofs.Holding.{once_yes, once_no, once_kept, own_word, times_same, times_other, times_taken, times_given, removed_same, removed_other, times_removed_le, within, only}
 use Rattle.key_words.specs.declared.view.View.{View}
-use Rattle.key_words.specs.Rule.{view, times, once_for, Holds, WasTaken, IsOrderly}
-use Rattle.key_words.specs.Steps.{Sat, with_note, gained, removed, lost, elder, newborn, emptied, took, brought, freed}
+use Rattle.key_words.specs.Rule.{view, Holds, WasTaken, IsOrderly}
+use Rattle.key_words.specs.Steps.{Sat, with_note, gained, lost, elder, newborn, emptied, took, brought, freed}
 use Rattle.key_words.specs.Laws.{HeldOnce}
-use Rattle.key_words.proofs.Keeps.{St, board, once_yes, once_no, within, moved, unmoved, joined, none_in}
+use Rattle.key_words.proofs.Keeps.{St, board, moved, unmoved, joined, none_in}
+
+abbrev word_in : List ℕ → ℕ → ℕ
+word_in words stripe = get_or words stripe 0
 
 abbrev Slots : Type 0
 Slots = List (Maybe (Option ℕ))
-
-times_same : (k : ℕ) (ks : List ℕ) → times k (k ∷ ks) ≡ 1 + times k ks
-times_same k ks = ap (λ b. cond b 1 0 + times k ks) (eq-eqb k k refl)
-
-times_other : (k j : ℕ) (ks : List ℕ) → j ≢ k → times k (j ∷ ks) ≡ times k ks
-times_other k j ks ne = ap (λ b. cond b 1 0 + times k ks) (ne_eqb j k ne) ∙ (omega arith)
-
-once_at_most : (n word : ℕ) → once_for n word ≤ 1
-once_at_most n word = dite (ℕ_discrete word (n + 1)) (λ e. omega (arith, once_yes n word e)) (λ ne. omega (arith, once_no n word ne))
-
--- If a seat holds a stripe, the stripe's word is the seat's.
-own_word : (n word many : ℕ) → many ≡ once_for n word → 0 < many → word ≡ n + 1
-own_word n word many e h = dite (ℕ_discrete word (n + 1)) (λ y. y) (λ ne. absurd (omega (arith, once_no n word ne)))
 
 in_range : (l : List ℕ) (k n : ℕ) → get_or l k 0 ≡ n + 1 → k < length l
 in_range [] k n e = absurd (omega arith)
@@ -59,21 +52,14 @@ tries n id m i own said e lt s o wide me _ = let v : View = m.0 in let x : ℕ =
     exchanged x 0 own (Goes s i id m (took (step n i 0 own said) m))
     (λ z. let ws = set s.words i own in let hs = set s.homes i none in
     let here : get_or ws i 0 ≡ own = get_or-set_same s.words i own 0 inside in
-    let other : (k : ℕ) → k ≢ i → get_or ws k 0 ≡ get_or s.words k 0 = λ k ne. get_or-set_other s.words i k own 0 ne in
-    let not_mine : once_for v.number x ≡ 0 = once_no v.number x (λ y. omega arith) in (
+    let other : (k : ℕ) → k ≢ i → get_or ws k 0 ≡ get_or s.words k 0 = λ k ne. get_or-set_other s.words i k own 0 ne in (
       gained v i,
       takes i (Some i),
       o.home i inside z,
       moved s o id v (gained v i) me refl (omega arith) (λ note. Contains-append_left v.notes ((i, 0) ∷ []) note) ws hs (length-set s.words i own) (length-set s.homes i none)
           (λ k. dite (ℕ_discrete k i) (λ (y : k ≡ i). inr (inl (subst (λ (j : ℕ). get_or ws j 0 ≡ v.number + 1) (sym y) (here ∙ e)))) (λ ne. inr (inr (other k ne))))
-          (λ k. dite (ℕ_discrete k i)
-          (λ (y : k ≡ i). subst (λ (j : ℕ). times j (i ∷ v.held) ≡ once_for v.number (get_or ws j 0)) (sym y)
-          (let none-yet = o.held id v me i in let one : once_for v.number (get_or ws i 0) ≡ 1 = once_yes v.number (get_or ws i 0) (here ∙ e) in omega (arith, times_same i v.held)))
-          (λ ne. times_other k i v.held (λ y. ne (sym y)) ∙ (o.held id v me k ∙ ap (once_for v.number) (sym (other k ne)))))
-          (λ a k ne. dite (ℕ_discrete k i)
-          (λ (y : k ≡ i). subst (λ (j : ℕ). once_for a (get_or ws j 0) ≡ once_for a (get_or s.words j 0)) (sym y)
-          (once_no a (get_or ws i 0) (λ q. ne (omega arith)) ∙ sym (once_no a x (λ q. omega arith))))
-          (λ no. ap (once_for a) (other k no)))
+          (λ k. times_taken (word_in s.words) (word_in ws) i other v.number v.held z (here ∙ e) k (o.held id v me k))
+          (λ a k ne. once_kept (word_in s.words) (word_in ws) i other a (λ q. omega arith) (λ q. ne (omega arith)) k)
           (λ k short q. dite (ℕ_discrete k i) (λ (y : k ≡ i). let is : get_or ws k 0 ≡ own = subst (λ (j : ℕ). get_or ws j 0 ≡ own) (sym y) here in absurd (omega arith))
           (λ no. set_else s.homes i k none no ∙ o.home k short (sym (other k no) ∙ q)))
           (λ k short q. dite (ℕ_discrete k i) (λ (y : k ≡ i). subst (λ (j : ℕ). get_elem? hs j ≡ some none) (sym y) (set_here s.homes i none (omega arith)))
@@ -121,12 +107,6 @@ pub record Fronts (hs : Slots) (k : ℕ) (ks : List ℕ) (a : Act (Option ℕ)) 
   pub order : carried_after (emptied ks) a ≡ emptied (k ∷ removed k ks)
   pub same : (j : ℕ) → get_elem? (homes_after hs (emptied ks) a) j ≡ get_elem? hs j
   pub long : length (homes_after hs (emptied ks) a) ≡ length hs
-
-removed_same : (k : ℕ) (ks : List ℕ) → removed k (k ∷ ks) ≡ ks
-removed_same k ks = ap (λ b. cond b ks (k ∷ removed k ks)) (eq-eqb k k refl)
-
-removed_other : (k x : ℕ) (ks : List ℕ) → x ≢ k → removed k (x ∷ ks) ≡ x ∷ removed k ks
-removed_other k x ks ne = ap (λ b. cond b ks (x ∷ removed k ks)) (ne_eqb x k ne)
 
 pub fronts : (hs : Slots) (k : ℕ) (ks : List ℕ) → ((j : ℕ) → 0 < times j ks → (times j ks ≡ 1) × (get_elem? hs j ≡ some none)) → 0 < times k ks → (a : Act (Option ℕ)) × Fronts hs k ks a
 fronts hs k [] each h = absurd (omega arith)
@@ -180,22 +160,6 @@ brings n id m i e h s o wide me _ = let v : View = m.0 in
       ap (λ (c : List (ℕ × Option ℕ)). let p : Sat = (v, c) in p) f.order,
     )
 
-times_removed_same : (k : ℕ) (ks : List ℕ) → times k (removed k ks) ≡ times k ks - 1
-times_removed_same k [] = refl
-times_removed_same k (x ∷ ks) = dite (ℕ_discrete x k)
-    (λ (e : x ≡ k). subst (λ (y : ℕ). times k (removed k (y ∷ ks)) ≡ times k (y ∷ ks) - 1) (sym e) (let a : times k (removed k (k ∷ ks)) ≡ times k ks = ap (times k) (removed_same k ks) in omega (arith, times_same k ks)))
-    (λ ne. ap (times k) (removed_other k x ks ne) ∙ times_other k x (removed k ks) ne ∙ times_removed_same k ks ∙ ap (λ (n : ℕ). n - 1) (sym (times_other k x ks ne)))
-
-pub times_removed_other : (k j : ℕ) (ks : List ℕ) → j ≢ k → times j (removed k ks) ≡ times j ks
-times_removed_other k j [] ne = refl
-times_removed_other k j (x ∷ ks) ne = dite (ℕ_discrete x k)
-    (λ (e : x ≡ k). subst (λ (y : ℕ). times j (removed k (y ∷ ks)) ≡ times j (y ∷ ks)) (sym e) (ap (times j) (removed_same k ks) ∙ sym (times_other j k ks (λ y. ne (sym y)))))
-    (λ no. let a : times j (removed k (x ∷ ks)) ≡ times j (x ∷ removed k ks) = ap (times j) (removed_other k x ks no) in a ∙ ap (λ (n : ℕ). cond (eqb x j) 1 0 + n) (times_removed_other k j ks ne))
-
-pub times_removed_le : (k j : ℕ) (ks : List ℕ) → times j (removed k ks) ≤ times j ks
-times_removed_le k j ks = dite (ℕ_discrete j k)
-    (λ (e : j ≡ k). subst (λ (i : ℕ). times i (removed k ks) ≤ times i ks) (sym e) (omega (arith, times_removed_same k ks))) (λ ne. omega (arith, times_removed_other k j ks ne))
-
 pub frees : (n id : ℕ) (m : Sat) (i : ℕ) (more : List (ℕ × Option ℕ)) → m.1 ≡ (i, Some i) ∷ more → 0 < times i m.0.held → Allows IsOrderly n id m i (λ _. 0) (λ _. freed (step n i 0 0 none) m 0)
 frees n id m i more e h s o wide me _ = let v : View = m.0 in let x : ℕ = get_or s.words i 0 in let w = lost v i in
     let is : x ≡ v.number + 1 = own_word v.number x (times i v.held) (o.held id v me i) h in
@@ -210,14 +174,8 @@ frees n id m i more e h s o wide me _ = let v : View = m.0 in let x : ℕ = get_
       tt,
       moved s o id v w me refl (omega arith) (λ note had. had) ws hs (length-set s.words i 0) (length-set s.homes i (some (Some i)))
           (λ k. dite (ℕ_discrete k i) (λ (y : k ≡ i). inl (subst (λ (j : ℕ). get_or ws j 0 ≡ 0) (sym y) here)) (λ ne. inr (inr (other k ne))))
-          (λ k. dite (ℕ_discrete k i)
-          (λ (y : k ≡ i). subst (λ (j : ℕ). times j (removed i v.held) ≡ once_for v.number (get_or ws j 0)) (sym y)
-          (omega (arith, times_removed_same i v.held, o.held id v me i, once_at_most v.number x, once_no v.number (get_or ws i 0) (λ q. omega arith))))
-          (λ ne. times_removed_other i k v.held ne ∙ (o.held id v me k ∙ ap (once_for v.number) (sym (other k ne)))))
-          (λ a k ne. dite (ℕ_discrete k i)
-          (λ (y : k ≡ i). subst (λ (j : ℕ). once_for a (get_or ws j 0) ≡ once_for a (get_or s.words j 0)) (sym y)
-          (once_no a (get_or ws i 0) (λ q. omega arith) ∙ sym (once_no a x (λ q. ne (omega arith)))))
-          (λ no. ap (once_for a) (other k no)))
+          (λ k. times_given (word_in s.words) (word_in ws) i other v.number v.held is here k (o.held id v me k))
+          (λ a k ne. once_kept (word_in s.words) (word_in ws) i other a (λ q. ne (omega arith)) (λ q. omega arith) k)
           (λ k short q. dite (ℕ_discrete k i) (λ (y : k ≡ i). subst (λ (j : ℕ). get_elem? hs j ≡ some (some (Some j))) (sym y) (set_here s.homes i (some (Some i)) room))
           (λ no. set_else s.homes i k (some (Some i)) no ∙ o.home k short (sym (other k no) ∙ q)))
           (λ k short q. dite (ℕ_discrete k i) (λ (y : k ≡ i). absurd (q (subst (λ (j : ℕ). get_or ws j 0 ≡ 0) (sym y) here)))
@@ -240,17 +198,10 @@ splits id v z s o me = let w = elder v in
     (λ i u e. ⊎_elim (λ (t : (i ≡ id) × (w ≡ u)). let n : v.number ≡ u.number = ap (λ (x : View). x.number) t.1 in let lt = o.below id v me in omega arith)
     (λ (t : (i ≢ id) × (get_elem? s.views i ≡ some u)). let lt = o.below i u t.1 in omega arith) (at_set s.views id i w u e))
 
-none_some : (j : ℕ) → None ≡ Some j → ⊥
-none_some j e = cc
-
 at_or : (xs : List (Option ℕ)) (k j : ℕ) → get_or xs k None ≡ Some j → get_elem? (map some xs) k ≡ some (some (Some j))
-at_or [] k j e = absurd (none_some j e)
+at_or [] k j e = absurd (none-some j e)
 at_or (x ∷ xs) zero j e = ap (λ (o : Option ℕ). some (some o)) e
 at_or (x ∷ xs) (suc k) j e = at_or xs k j e
-
-only : (v u : View) (i : ℕ) → get_elem? (v ∷ []) i ≡ some u → (i ≡ 0) × (v ≡ u)
-only v u zero e = (refl, some-injective v u e)
-only v u (suc i) e = absurd (some-ne-none u (sym e))
 
 pub starts : (ws : List ℕ) (xs : List (Option ℕ)) → ((k : ℕ) → get_or ws k 0 ≡ 0) → length xs ≡ length ws → ((k : ℕ) → k < length ws → get_or xs k None ≡ Some k) → IsOrderly (opening ws xs (view 0 1 [] []))
 starts ws xs free long rights = let v = view 0 1 [] [] in record {
@@ -267,11 +218,6 @@ starts ws xs free long rights = let v = view 0 1 [] [] in record {
   taken = λ i u e k h. let none : Holds (view 0 1 [] []) k = subst (λ (x : View). Holds x k) (sym (only v u i e).1) h in absurd (omega (arith, none));
   noted = λ i u e k word ne has. absurd (none_in (k, word) (subst (λ (x : View). Contains x.notes (k, word)) (sym (only v u i e).1) has));
 }
-
-pub zeros : (n k : ℕ) → ◌≡◌ {A = ℕ} (get_or (replicate n 0) k 0) 0
-zeros zero k = refl
-zeros (suc n) zero = refl
-zeros (suc n) (suc k) = zeros n k
 
 pub held_once : HeldOnce
 held_once s o i j v w a b k h g = let x : ℕ = get_or s.words k 0 in

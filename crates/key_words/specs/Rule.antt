@@ -1,26 +1,18 @@
 -- The rule of the words, which holds between any two atomic steps.
-use Rattle.std.specs.Prelude.{◌≡◌, ◌≢◌, ℕ, ◌+◌, ◌<◌, ◌==◌, ◌⊎◌, cond, List, [], ◌∷◌, length, slice_index, Contains, Option, Some}
+use Rattle.std.specs.Prelude.{◌≡◌, ◌≢◌, ℕ, ◌+◌, ◌<◌, ◌⊎◌, List, length, slice_index, Contains, Option, Some}
 use mathlib.Core.Option.{some, none}
 use lib.ListN.{get_elem?}
 use Rattle.atomic_table.specs.Table.{State}
+use Rattle.txn_words.specs.Held.{times, once_for}
 use Rattle.key_words.specs.declared.view.View.{View}
 
 -- A view by its parts.
 abbrev pub view : ℕ → ℕ → List ℕ → List (ℕ × ℕ) → View
 view number made held notes = record { number = number; made = made; held = held; notes = notes }
 
--- How often a stripe occurs in a list.
-abbrev pub times : ℕ → List ℕ → ℕ
-times stripe [] = 0
-times stripe (first ∷ rest) = cond (first == stripe) 1 0 + times stripe rest
-
 -- The seat of the view holds the stripe.
 abbrev pub Holds : View → ℕ → Type 0
 Holds v stripe = 0 < times stripe v.held
-
--- 1 if the word is that of the seat with this number, else 0.
-abbrev pub once_for : ℕ → ℕ → ℕ
-once_for number word = cond (word == number + 1) 1 0
 
 -- The word is 0, or one more than the number of a seat.
 abbrev pub IsNamed : List View → ℕ → Type 0

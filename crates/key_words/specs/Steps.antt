@@ -1,6 +1,7 @@
 -- The steps at the words: the seat after each.
-use Rattle.std.specs.Prelude.{◌≡◌, ◌≢◌, ◌↔◌, ℕ, ◌+◌, ◌==◌, cond, List, [], ◌∷◌, ◌++◌, Option, Some, None}
+use Rattle.std.specs.Prelude.{◌≡◌, ◌≢◌, ◌↔◌, ℕ, ◌+◌, List, [], ◌∷◌, ◌++◌, Option, Some, None}
 use Rattle.atomic_table.specs.Table.{Me, Step, rest}
+use Rattle.txn_words.specs.Held.{removed}
 use Rattle.key_words.specs.declared.view.View.{View}
 use Rattle.key_words.specs.Rule.{view, Holds}
 
@@ -19,11 +20,6 @@ with_note v stripe word = view v.number v.made v.held (v.notes ++ (stripe, word)
 -- The stripe is held, and noted as free.
 abbrev pub gained : View → ℕ → View
 gained v stripe = view v.number v.made (stripe ∷ v.held) (v.notes ++ (stripe, 0) ∷ [])
-
--- The list without the first occurrence of the stripe.
-abbrev pub removed : ℕ → List ℕ → List ℕ
-removed stripe [] = []
-removed stripe (first ∷ others) = cond (first == stripe) others (first ∷ removed stripe others)
 
 -- The stripe is no longer held.
 abbrev pub lost : View → ℕ → View

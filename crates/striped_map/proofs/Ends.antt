@@ -4,6 +4,7 @@ use Rattle.txn_words.specs.declared.entry.Entry.{Entry}
 use Rattle.txn_words.specs.declared.entry.Entry.TheVariants.{Asked, Did, Busy, Aborted}
 use Rattle.txn_words.specs.declared.holder.Holder.TheVariants.{Begun}
 use Rattle.txn_words.specs.declared.op.Op.{Op}
+use Rattle.txn_words.specs.Held.{times}
 use Rattle.txn_trace.specs.Legal.{IsLegal}
 use Rattle.stripe_part.specs.PartAt.{PartAt}
 use Rattle.striped_map.specs.declared.hand.Hand.{Hand}
@@ -11,7 +12,7 @@ use Rattle.striped_map.specs.declared.map.StripedMap.{StripedMap}
 use Rattle.striped_map.specs.declared.view.View.{View}
 use Rattle.striped_map.specs.Handling.{idle}
 use Rattle.striped_map.specs.Hands.{Moves}
-use Rattle.striped_map.specs.Rule.{times, Holds}
+use Rattle.striped_map.specs.Rule.{Holds}
 use Rattle.striped_map.specs.Seats.{IsOf, known, stripes_of}
 use Rattle.striped_map.specs.Steps.{Standing, Extends, AddsIn, SeesIn, TakesIn, FindsIn, undoing}
 use Rattle.striped_map.specs.Additions.{due, entries_of}

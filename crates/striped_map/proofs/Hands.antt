@@ -1,5 +1,5 @@
 -- How each step changes the parts that a caller holds.
-use Rattle.std.proofs.Common.{◌≡◌, ◌≢◌, ℕ, zero, suc, ◌+◌, ◌*◌, ◌/◌, ◌%◌, ◌<◌, ◌⊎◌, Bool, true, false, cond, List, [], ◌∷◌, ◌++◌, length, get_or, set, map, reverse, take, drop, Option, None, Some, slice_get, sym, refl, ◌∙◌, ap, subst, inl, inr, ⊎_elim, arith, eq-eqb, ne_eqb, append-nil, append_assoc}
+use Rattle.std.proofs.Common.{◌≡◌, ◌≢◌, ℕ, zero, suc, ◌+◌, ◌*◌, ◌/◌, ◌%◌, ◌<◌, ◌⊎◌, Bool, true, false, cond, List, [], ◌∷◌, ◌++◌, length, get_or, set, map, reverse, take, drop, Option, Some, slice_get, sym, refl, ◌∙◌, ap, subst, inl, inr, ⊎_elim, arith, eq-eqb, ne_eqb, append-nil, append_assoc}
 use mathlib.Core.Logic.{dite}
 use native.Mathlib.Decide.{ℕ_discrete}
 use Rattle.std.specs.Option.{option_eq}
@@ -7,47 +7,43 @@ use Rattle.std.specs.Prelude.{nat_eq}
 use Rattle.std.proofs.Math.Nat.{div-add-mod}
 use Rattle.std.proofs.lemmas.Bool.{false≢true}
 use Rattle.std.proofs.lemmas.List.{reverse-append}
+use Rattle.std.proofs.lemmas.Option.{none-some, same_Some, slice_get_within}
 use Rattle.txn_words.specs.declared.entry.Entry.{Entry}
 use Rattle.txn_words.specs.declared.holder.Holder.TheVariants.{Begun}
 use Rattle.txn_words.specs.declared.op.Op.{Op}
 use Rattle.txn_words.specs.declared.op.Op.TheVariants.{Put, Take, Get, PutIf}
+use Rattle.txn_words.specs.Held.{times, removed}
 use Rattle.txn_words.specs.Map.{Map, get, insert, after, key_of, set_at}
 use Rattle.txn_trace.specs.Now.{now}
 use Rattle.txn_trace.specs.Locks.{stripe_of}
 use Rattle.txn_trace.specs.Legal.{IsLegal}
 use Rattle.txn_words.specs.Shape.{changes, own}
 use Rattle.txn_words.proofs.Effects.{get-after_other}
+use Rattle.txn_words.proofs.Holding.{times_reverse, times_at, at_times, removed_same}
 use Rattle.txn_words.proofs.Maps.{get-insert-here, get-remove-here, get-set_at}
 use Rattle.stripe_part.specs.PartAt.{PartAt}
 use Rattle.stripe_part.specs.Calls.{Does, TakesBack}
 use Rattle.striped_map.specs.declared.view.View.{View}
 use Rattle.striped_map.specs.declared.seat.MapSeat.{MapSeat}
-use Rattle.striped_map.specs.Rule.{times, Holds, Fits}
+use Rattle.striped_map.specs.Rule.{Holds, Fits}
 use Rattle.striped_map.specs.Seats.{HoldsAll, LeavesOthers, part_in}
-use Rattle.striped_map.specs.Steps.{Extends, TakesIn, removed, lost, undone}
+use Rattle.striped_map.specs.Steps.{Extends, TakesIn, lost, undone}
 use Rattle.striped_map.specs.Handling.{under}
 use Rattle.striped_map.specs.Sound.{Held, parts_of, stripes_in, with_part, owed_in, at_place, of_job, Change, Spot, AreHeld, AreLogged}
 use Rattle.striped_map.proofs.Lands.{own-append, own-none}
-use Rattle.striped_map.proofs.Moves.{times_same, times_other}
 
 abbrev pub Job : Type 0
 Job = ℕ × Option ℕ
 
-pub some_same : {A : Type 0} (a b : A) → Some a ≡ Some b → a ≡ b
-some_same a b e = cc (e)
-
-pub none_some : {A : Type 0} (a : A) → None ≡ Some a → ⊥
-none_some a e = cc (e)
-
 -- Places of lists.
 pub push_at : {A : Type 0} (xs : List A) (x a : A) (i : ℕ) → slice_get (xs ++ x ∷ []) i ≡ Some a → (slice_get xs i ≡ Some a) ⊎ ((i ≡ length xs) × (x ≡ a))
-push_at [] x a zero e = inr (refl, some_same x a e)
-push_at [] x a (suc i) e = absurd (none_some a e)
+push_at [] x a zero e = inr (refl, same_Some x a e)
+push_at [] x a (suc i) e = absurd (none-some a e)
 push_at (y ∷ xs) x a zero e = inl e
 push_at {A} (y ∷ xs) x a (suc i) e = ⊎_elim (λ (t : slice_get xs i ≡ Some a). inl t) (λ (t : (i ≡ length xs) × (x ≡ a)). inr (omega arith, t.1)) (push_at xs x a i e)
 
 pub push_old : {A : Type 0} (xs : List A) (x a : A) (i : ℕ) → slice_get xs i ≡ Some a → slice_get (xs ++ x ∷ []) i ≡ Some a
-push_old [] x a i e = absurd (none_some a e)
+push_old [] x a i e = absurd (none-some a e)
 push_old (y ∷ xs) x a zero e = e
 push_old (y ∷ xs) x a (suc i) e = push_old xs x a i e
 
@@ -56,16 +52,11 @@ push_last [] x = refl
 push_last (y ∷ xs) x = push_last xs x
 
 set_place : {A : Type 0} (xs : List A) (j i : ℕ) (y a : A) → slice_get (set xs j y) i ≡ Some a → ((i ≡ j) × (y ≡ a)) ⊎ ((i ≢ j) × (slice_get xs i ≡ Some a))
-set_place [] j i y a e = absurd (none_some a e)
-set_place (x ∷ xs) zero zero y a e = inl (refl, some_same y a e)
+set_place [] j i y a e = absurd (none-some a e)
+set_place (x ∷ xs) zero zero y a e = inl (refl, same_Some y a e)
 set_place (x ∷ xs) zero (suc i) y a e = inr ((λ z. omega arith), e)
 set_place (x ∷ xs) (suc j) zero y a e = inr ((λ z. omega arith), e)
 set_place {A} (x ∷ xs) (suc j) (suc i) y a e = ⊎_elim (λ (t : (i ≡ j) × (y ≡ a)). inl (omega arith, t.1)) (λ (t : (i ≢ j) × (slice_get xs i ≡ Some a)). inr ((λ z. t.0 (omega arith)), t.1)) (set_place xs j i y a e)
-
-pub place_in : {A : Type 0} (xs : List A) (i : ℕ) (a : A) → slice_get xs i ≡ Some a → i < length xs
-place_in [] i a e = absurd (none_some a e)
-place_in (x ∷ xs) zero a e = omega arith
-place_in (x ∷ xs) (suc i) a e = let lt : i < length xs = place_in xs i a e in omega arith
 
 -- The element read at a place.
 pub read_at : (xs : List ℕ) (k h : ℕ) → k < length xs → h ≡ get_or xs k h → slice_get xs k ≡ Some h
@@ -79,13 +70,13 @@ stripes_push [] h = refl
 stripes_push (x ∷ held) h = ap (λ (l : List ℕ). x.stripe ∷ l) (stripes_push held h)
 
 pub stripe_at : (held : List Held) (i : ℕ) (h : Held) → slice_get held i ≡ Some h → slice_get (stripes_in held) i ≡ Some h.stripe
-stripe_at [] i h e = absurd (none_some h e)
-stripe_at (x ∷ held) zero h e = ap (λ (y : Held). Some y.stripe) (some_same x h e)
+stripe_at [] i h e = absurd (none-some h e)
+stripe_at (x ∷ held) zero h e = ap (λ (y : Held). Some y.stripe) (same_Some x h e)
 stripe_at (x ∷ held) (suc i) h e = stripe_at held i h e
 
 pub stripes_set : (held : List Held) (j : ℕ) (h new : Held) → slice_get held j ≡ Some h → new.stripe ≡ h.stripe → stripes_in (set held j new) ≡ stripes_in held
 stripes_set [] j h new at same = refl
-stripes_set (x ∷ held) zero h new at same = ap (λ (k : ℕ). k ∷ stripes_in held) (same ∙ ap (λ (y : Held). y.stripe) (sym (some_same x h at)))
+stripes_set (x ∷ held) zero h new at same = ap (λ (k : ℕ). k ∷ stripes_in held) (same ∙ ap (λ (y : Held). y.stripe) (sym (same_Some x h at)))
 stripes_set (x ∷ held) (suc j) h new at same = ap (λ (l : List ℕ). x.stripe ∷ l) (stripes_set held j h new at same)
 
 -- Stripes with their parts.
@@ -94,8 +85,8 @@ stripes_with f [] = refl
 stripes_with f (k ∷ ks) = ap (λ (l : List ℕ). k ∷ l) (stripes_with f ks)
 
 pub with_at : (f : ℕ → PartAt) (ks : List ℕ) (i k : ℕ) → slice_get ks i ≡ Some k → slice_get (map (with_part f) ks) i ≡ Some (with_part f k)
-with_at f [] i k e = absurd (none_some k e)
-with_at f (x ∷ ks) zero k e = ap (λ (y : ℕ). Some (with_part f y)) (some_same x k e)
+with_at f [] i k e = absurd (none-some k e)
+with_at f (x ∷ ks) zero k e = ap (λ (y : ℕ). Some (with_part f y)) (same_Some x k e)
 with_at f (x ∷ ks) (suc i) k e = with_at f ks i k e
 
 pub with_push : (f : ℕ → PartAt) (ks : List ℕ) (k : ℕ) → map (with_part f) (ks ++ k ∷ []) ≡ map (with_part f) ks ++ with_part f k ∷ []
@@ -108,33 +99,11 @@ with_same f g [] same = refl
 with_same f g (x ∷ ks) same = ap (λ (p : PartAt). (record { stripe = x; part = p }) ∷ map (with_part g) ks) (same 0 x refl) ∙ ap (λ (l : List Held). with_part f x ∷ l) (with_same f g ks (λ i k at. same (suc i) k at))
 
 pub with_set : (f g : ℕ → PartAt) (ks : List ℕ) (j k : ℕ) → slice_get ks j ≡ Some k → ((i : ℕ) → slice_get ks i ≡ Some k → i ≡ j) → ((other : ℕ) → other ≢ k → g other ≡ f other) → map (with_part g) ks ≡ set (map (with_part f) ks) j (with_part g k)
-with_set f g [] j k at apart same = absurd (none_some k at)
-with_set f g (x ∷ ks) zero k at apart same = ap (λ (y : ℕ). with_part g y ∷ map (with_part g) ks) (some_same x k at)
+with_set f g [] j k at apart same = absurd (none-some k at)
+with_set f g (x ∷ ks) zero k at apart same = ap (λ (y : ℕ). with_part g y ∷ map (with_part g) ks) (same_Some x k at)
     ∙ ap (λ (l : List Held). with_part g k ∷ l) (with_same f g ks (λ i other there. same other (λ e. absurd (let z = apart (suc i) (there ∙ ap (λ (y : ℕ). Some y) e) in omega arith))))
 with_set f g (x ∷ ks) (suc j) k at apart same = ap (λ (p : PartAt). (record { stripe = x; part = p }) ∷ map (with_part g) ks) (same x (λ e. absurd (let z = apart 0 (ap (λ (y : ℕ). Some y) e) in omega arith)))
     ∙ ap (λ (l : List Held). with_part f x ∷ l) (with_set f g ks j k at (λ i there. let z = apart (suc i) there in omega arith) same)
-
-times_append : (k : ℕ) (xs ys : List ℕ) → times k (xs ++ ys) ≡ times k xs + times k ys
-times_append k [] ys = omega arith
-times_append k (x ∷ xs) ys = let more : times k (xs ++ ys) ≡ times k xs + times k ys = times_append k xs ys in dite (ℕ_discrete x k)
-    (λ (e : x ≡ k). subst (λ (j : ℕ). times k (j ∷ xs ++ ys) ≡ times k (j ∷ xs) + times k ys) (sym e) (omega (arith, more, times_same k xs, times_same k (xs ++ ys))))
-    (λ ne. omega (arith, more, times_other k x xs ne, times_other k x (xs ++ ys) ne))
-
-pub times_reverse : (k : ℕ) (ks : List ℕ) → times k (reverse ks) ≡ times k ks
-times_reverse k [] = refl
-times_reverse k (x ∷ ks) = ap (times k) (reverse-append (x ∷ []) ks) ∙ times_append k (reverse ks) (x ∷ []) ∙ ap (λ (n : ℕ). n + times k (x ∷ [])) (times_reverse k ks)
-    ∙ dite (ℕ_discrete x k) (λ (e : x ≡ k). subst (λ (j : ℕ). times k ks + times k (j ∷ []) ≡ times k (j ∷ ks)) (sym e) (omega (arith, times_same k [], times_same k ks)))
-    (λ ne. omega (arith, times_other k x [] ne, times_other k x ks ne))
-
-times_at : (ks : List ℕ) (i k : ℕ) → slice_get ks i ≡ Some k → 0 < times k ks
-times_at [] i k e = absurd (none_some k e)
-times_at (x ∷ ks) zero k e = let same : x ≡ k = some_same x k e in subst (λ (j : ℕ). 0 < times k (j ∷ ks)) (sym same) (omega (arith, times_same k ks))
-times_at (x ∷ ks) (suc i) k e = let more : 0 < times k ks = times_at ks i k e in omega arith
-
-pub at_times : (ks : List ℕ) (k : ℕ) → 0 < times k ks → (i : ℕ) × (slice_get ks i ≡ Some k)
-at_times [] k h = absurd (omega arith)
-at_times (x ∷ ks) k h = dite (ℕ_discrete x k) (λ (e : x ≡ k). (0, ap (λ (y : ℕ). Some y) e))
-    (λ ne. let more : 0 < times k ks = omega (arith, h, times_other k x ks ne) in let deep = at_times ks k more in (suc deep.0, deep.1))
 
 -- A part at a place is of a stripe that is held.
 pub holds_at : (n : ℕ) (v : View) (held : List Held) (m : Map) → AreHeld n v held m → (i k : ℕ) → slice_get (stripes_in held) i ≡ Some k → Holds v k
@@ -195,7 +164,7 @@ parts_worked n v a b ks m s j k at others = with_set (part_in a) (part_in b) ks 
 pub parts_less : (n : ℕ) (v : View) (a b : MapSeat) (ks : List ℕ) (k : ℕ) (m : Map) → AreHeld n v (parts_of a (ks ++ k ∷ [])) m → LeavesOthers k a b → parts_of b ks ≡ parts_of a ks
 parts_less n v a b ks k m s others = with_same (part_in a) (part_in b) ks (λ i other at. others other (λ e.
     let last : i ≡ length ks = apart_in n v a (ks ++ k ∷ []) m s i (length ks) k (push_old ks k k i (at ∙ ap (λ (x : ℕ). Some x) e)) (push_last ks k) in
-    let lt : i < length ks = place_in ks i other at in omega arith))
+    let lt : i < length ks = slice_get_within ks i other at in omega arith))
 
 -- The changes of a stripe.
 owed_mine : (n k : ℕ) (job : Job) (jobs : List Job) → stripe_of n job.0 ≡ k → owed_in n k (job ∷ jobs) ≡ owed_in n k jobs + 1
@@ -362,7 +331,7 @@ newest n held order change jobs s = newest_of n change (stripes_in held) (revers
 pub newest_owed : (n : ℕ) (held : List Held) (order : List Change) (change : Change) (jobs : List Job) (s : AreLogged n held (order ++ change ∷ []) jobs) (h : Held) → slice_get held change.0 ≡ Some h
     → let new = newest n held order change jobs s in h.part.owed ≡ owed_in n h.stripe new.older + 1
 newest_owed n held order change jobs s h at = let new = newest n held order change jobs s in
-    let in_k : stripe_of n new.job.0 ≡ h.stripe = some_same _ _ (sym new.place_is ∙ stripe_at held change.0 h at) in
+    let in_k : stripe_of n new.job.0 ≡ h.stripe = same_Some _ _ (sym new.place_is ∙ stripe_at held change.0 h at) in
     s.owed change.0 h at ∙ ap (owed_in n h.stripe) new.jobs_are ∙ owed_mine n h.stripe new.job new.older in_k
 
 -- A change of a held part is taken back.
@@ -377,12 +346,9 @@ parts_back n v held m s j h part job at in_k back = parts_changed n v held m (se
 pub logged_back : (n : ℕ) (v : View) (held : List Held) (m : Map) (order : List Change) (jobs : List Job) → AreHeld n v held m → (change : Change) (s : AreLogged n held (order ++ change ∷ []) jobs) (h : Held) (part : PartAt) → slice_get held change.0 ≡ Some h
     → let new = newest n held order change jobs s in part.owed ≡ owed_in n h.stripe new.older → AreLogged n (set held change.0 (record { stripe = h.stripe; part = part })) order new.older
 logged_back n v held m order jobs p change s h part at owed = let new = newest n held order change jobs s in
-    let in_k : stripe_of n new.job.0 ≡ h.stripe = some_same _ _ (sym new.place_is ∙ stripe_at held change.0 h at) in
+    let in_k : stripe_of n new.job.0 ≡ h.stripe = same_Some _ _ (sym new.place_is ∙ stripe_at held change.0 h at) in
     logged_changed n v held m (order ++ change ∷ []) order jobs new.older p s change.0 h (record { stripe = h.stripe; part = part }) at refl owed
     (λ k ne. sym (ap (owed_in n k) new.jobs_are ∙ owed_other n k new.job new.older (λ e. ne (sym e ∙ in_k)))) new.ordered
-
-removed_first : (k : ℕ) (ks : List ℕ) → removed k (k ∷ ks) ≡ ks
-removed_first k ks = ap (λ b. cond b ks (k ∷ removed k ks)) (eq-eqb k k refl)
 
 -- The newest part is given back.
 pub newest_stripe : (n : ℕ) (v : View) (held : List Held) (m : Map) (h : Held) → AreHeld n v (held ++ h ∷ []) m → Holds v h.stripe
@@ -393,14 +359,14 @@ newest_fits n v held m h s = s.fits (length held) h (push_last held h)
 
 pub parts_given : (n : ℕ) (v : View) (held : List Held) (m : Map) (h : Held) → AreHeld n v (held ++ h ∷ []) m → AreHeld n (lost v h.stripe) held m
 parts_given n v held m h s = let ks : List ℕ = stripes_in held in let is = stripes_push held h in record {
-  kept = ap (removed h.stripe) (s.kept ∙ ap reverse is ∙ reverse-append ks (h.stripe ∷ [])) ∙ removed_first h.stripe (reverse ks);
+  kept = ap (removed h.stripe) (s.kept ∙ ap reverse is ∙ reverse-append ks (h.stripe ∷ [])) ∙ removed_same h.stripe (reverse ks);
   apart = λ i j stripe a b. s.apart i j stripe (ap (λ (l : List ℕ). slice_get l i) is ∙ push_old ks h.stripe stripe i a) (ap (λ (l : List ℕ). slice_get l j) is ∙ push_old ks h.stripe stripe j b);
   fits = λ i other at. s.fits i other (push_old held h other i at);
 }
 
 -- Nothing is held.
 pub parts_none : (n : ℕ) (v : View) (m : Map) → v.held ≡ [] → AreHeld n v [] m
-parts_none n v m is = record { kept = is; apart = λ i j k a b. absurd (none_some k a); fits = λ i h at. absurd (none_some h at) }
+parts_none n v m is = record { kept = is; apart = λ i j k a b. absurd (none-some k a); fits = λ i h at. absurd (none-some h at) }
 
 pub logged_none : (n : ℕ) (held : List Held) → ((i : ℕ) (h : Held) → slice_get held i ≡ Some h → ⊥) → AreLogged n held [] []
 logged_none n held none = record { owed = λ i h at. absurd (none i h at); ordered = refl }

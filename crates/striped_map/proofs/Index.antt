@@ -6,12 +6,13 @@ use Rattle.std.specs.List.{AllByRecursion, IsDistinct, list_any}
 use Rattle.std.proofs.Math.Dec.{eqb}
 use Rattle.std.proofs.lemmas.Bool.{false≢true}
 use Rattle.std.proofs.lemmas.Map.Steps.{length-le_from_distinct_below}
+use Rattle.std.proofs.lemmas.Option.{none-some, same_Some}
 use Rattle.striped_map.specs.Sound.{IsIndexed}
-use Rattle.striped_map.proofs.Hands.{none_some, some_same, push_at}
+use Rattle.striped_map.proofs.Hands.{push_at}
 
 -- The elements of a longer list, and of one with an element replaced.
 pub resized_at : (xs ys : List ℕ) (n i a : ℕ) → length xs ≤ n → slice_get xs i ≡ Some a → slice_get (take n xs ++ ys) i ≡ Some a
-resized_at [] ys n i a le e = absurd (none_some a e)
+resized_at [] ys n i a le e = absurd (none-some a e)
 resized_at (x ∷ xs) ys zero i a le e = absurd (omega arith)
 resized_at (x ∷ xs) ys (suc n) zero a le e = e
 resized_at (x ∷ xs) ys (suc n) (suc i) a le e = resized_at xs ys n i a (omega arith) e
@@ -30,24 +31,24 @@ set_away (x ∷ xs) (suc i) (suc j) a b ne e = set_away xs i j a b (λ same. ne 
 
 -- No place has a stripe for which the index has no place, a place past the end, or that of another.
 pub none_indexed : (ks index : List ℕ) → IsIndexed ks index → (stripe : ℕ) → slice_get index stripe ≡ None → (other : ℕ) → slice_get ks other ≢ Some stripe
-none_indexed ks index is stripe none other at = none_some other (sym none ∙ is other stripe at)
+none_indexed ks index is stripe none other at = none-some other (sym none ∙ is other stripe at)
 
 pub none_placed : (ks index : List ℕ) → IsIndexed ks index → (stripe place : ℕ) → slice_get index stripe ≡ Some place → slice_get ks place ≡ None → (other : ℕ) → slice_get ks other ≢ Some stripe
 none_placed ks index is stripe place found none other at =
-    let same : other ≡ place = some_same other place (sym (is other stripe at) ∙ found) in
-    none_some stripe (sym none ∙ ap (slice_get ks) (sym same) ∙ at)
+    let same : other ≡ place = same_Some other place (sym (is other stripe at) ∙ found) in
+    none-some stripe (sym none ∙ ap (slice_get ks) (sym same) ∙ at)
 
 pub none_other : (ks index : List ℕ) → IsIndexed ks index → (stripe place k : ℕ) → slice_get index stripe ≡ Some place → slice_get ks place ≡ Some k → k ≢ stripe → (other : ℕ) → slice_get ks other ≢ Some stripe
 none_other ks index is stripe place k found there ne other at =
-    let same : other ≡ place = some_same other place (sym (is other stripe at) ∙ found) in
-    ne (some_same k stripe (sym there ∙ ap (slice_get ks) (sym same) ∙ at))
+    let same : other ≡ place = same_Some other place (sym (is other stripe at) ∙ found) in
+    ne (same_Some k stripe (sym there ∙ ap (slice_get ks) (sym same) ∙ at))
 
 -- A longer index; no stripes; one stripe more.
 pub indexed_longer : (ks index later : List ℕ) → ((stripe place : ℕ) → slice_get index stripe ≡ Some place → slice_get later stripe ≡ Some place) → IsIndexed ks index → IsIndexed ks later
 indexed_longer ks index later keeps is place stripe at = keeps stripe place (is place stripe at)
 
 pub indexed_none : (ks index : List ℕ) → ks ≡ [] → IsIndexed ks index
-indexed_none ks index none place stripe at = absurd (none_some stripe (sym (ap (λ (l : List ℕ). slice_get l place) none) ∙ at))
+indexed_none ks index none place stripe at = absurd (none-some stripe (sym (ap (λ (l : List ℕ). slice_get l place) none) ∙ at))
 
 pub indexed_taken : (ks index : List ℕ) (k place : ℕ) → ((i : ℕ) → slice_get ks i ≢ Some k) → k < length index → place ≡ length ks → IsIndexed ks index → IsIndexed (ks ++ k ∷ []) (set index k place)
 indexed_taken ks index k place none lt long is i stripe at =

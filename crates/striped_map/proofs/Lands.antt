@@ -6,6 +6,7 @@ use Rattle.std.specs.List.{AllByRecursion}
 use Rattle.std.proofs.lemmas.Bool.{and_from, or_left}
 use Rattle.std.proofs.lemmas.List.Folds.{list_any-append}
 use Rattle.std.proofs.lemmas.List.Elements.{filter-append}
+use Rattle.std.proofs.lemmas.Option.{none-some}
 use Rattle.txn_words.specs.declared.entry.Entry.{Entry}
 use Rattle.txn_words.specs.declared.entry.Entry.TheVariants.{Began, Asked, Did, Saved, Leave, Undone, Returned, Committed, Busy, Aborted}
 use Rattle.txn_words.specs.declared.holder.Holder.TheVariants.{Begun}
@@ -113,10 +114,7 @@ some_cond true o c d P holds is = inr (cc, holds refl)
 some_cond false o c d P holds is = inl is
 
 none_cond : (b : Bool) (o : Option ℕ) (d : ℕ) → cond b None o ≡ Some d → o ≡ Some d
-none_cond true o d is = absurd (let no : None ≡ Some d = is in none_some d no)
-  where
-    none_some : (j : ℕ) → None ≡ Some j → ⊥
-    none_some j e = cc
+none_cond true o d is = absurd (let no : None ≡ Some d = is in none-some d no)
 none_cond false o d is = is
 
 -- An Asked is legal if no other caller holds the stripe.

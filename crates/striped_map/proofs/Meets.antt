@@ -9,10 +9,11 @@ use Rattle.atomic_table.specs.Table.{Splits, Joins}
 use Rattle.std.proofs.lemmas.Bool.{false≢true}
 use Rattle.atomic_table.proofs.Lists.{at_set, at_snoc, at_longer, set_here, set_else, set_again}
 use Rattle.txn_words.specs.declared.entry.Entry.{Entry}
+use Rattle.txn_words.proofs.Holding.{within}
 use Rattle.striped_map.specs.declared.view.View.{View}
 use Rattle.striped_map.specs.Rule.{Holds, HasSeen, IsKeptAt, IsKept}
 use Rattle.striped_map.specs.Steps.{SeesIn, witness, blank, heard}
-use Rattle.striped_map.proofs.Keeps.{St, board, within, viewed}
+use Rattle.striped_map.proofs.Keeps.{St, board, viewed}
 use Rattle.striped_map.proofs.Moves.{nothing_at}
 
 -- The view is a witness: no caller acts by it, and it has seen a beginning of the history.

@@ -10,16 +10,19 @@ use Rattle.std.proofs.lemmas.Nat.{div-add-mod', div-mul-add, mod-mul-add}
 use Rattle.std.proofs.lemmas.List.Sorted.{IsPermutation-refl, IsPermutation-sym, IsPermutation-trans, IsPermutation-cons, IsPermutation-middle, IsPermutation-append_right, length_permutation}
 use Rattle.std.proofs.lemmas.List.{length-map, length-append}
 use Rattle.std.proofs.lemmas.List.Sums.{sum_by-cons}
+use Rattle.std.proofs.lemmas.Option.{none-some, same_Some}
 use Rattle.txn_trace.specs.Locks.{stripe_of}
+use Rattle.txn_words.specs.Held.{times}
 use Rattle.txn_words.specs.Map.{Map, get}
+use Rattle.txn_words.proofs.Holding.{times_same, times_other, times_reverse, at_times}
 use Rattle.txn_words.proofs.Order.{pair_parts, pair_both}
 use Rattle.stripe_part.proofs.Rows.{below_is}
 use Rattle.stripe_part.specs.PartAt.{PartAt}
 use Rattle.striped_map.specs.declared.view.View.{View}
-use Rattle.striped_map.specs.Rule.{times, Holds, Fits}
+use Rattle.striped_map.specs.Rule.{Holds, Fits}
 use Rattle.striped_map.specs.Sound.{Held, AreHeld, stripes_in, with_part}
 use Rattle.striped_map.specs.Contents.{count_at, pairs_at, pairs_in, whole}
-use Rattle.striped_map.proofs.Hands.{at_times, holds_at, none_some, some_same, stripe_at, times_reverse}
+use Rattle.striped_map.proofs.Hands.{holds_at, stripe_at}
 
 abbrev Pair : Type 0
 Pair = ℕ × ℕ
@@ -110,30 +113,24 @@ whole_sub n k (row ∷ rows) =
 abbrev by_stripes : ℕ → List ℕ → List Pair → List Pair
 by_stripes n ks rows = flat_map (λ k. filter (is_in n k) rows) ks
 
-times_first : (k : ℕ) (ks : List ℕ) → times k (k ∷ ks) ≡ 1 + times k ks
-times_first k ks = ap (λ b. cond b 1 0 + times k ks) (eq-eqb k k refl)
-
-times_else : (k j : ℕ) (ks : List ℕ) → j ≢ k → times k (j ∷ ks) ≡ times k ks
-times_else k j ks ne = ap (λ b. cond b 1 0 + times k ks) (ne_eqb j k ne) ∙ (omega arith)
-
 none_more : (n : ℕ) (row : Pair) (rows : List Pair) (ks : List ℕ) → times (stripe_of n row.0) ks ≡ 0 → by_stripes n ks (row ∷ rows) ≡ by_stripes n ks rows
 none_more n row rows [] none = refl
 none_more n row rows (k ∷ ks) none = let s : ℕ = stripe_of n row.0 in let F : List Pair = filter (is_in n k) rows in
-    let other : s ≢ k = λ (e : s ≡ k). let here : times s (k ∷ ks) ≡ 1 + times s ks = subst (λ (j : ℕ). times s (j ∷ ks) ≡ 1 + times s ks) e (times_first s ks) in absurd (omega arith) in
+    let other : s ≢ k = λ (e : s ≡ k). let here : times s (k ∷ ks) ≡ 1 + times s ks = subst (λ (j : ℕ). times s (j ∷ ks) ≡ 1 + times s ks) e (times_same s ks) in absurd (omega arith) in
     ap (λ b. cond b (row ∷ F) F ++ by_stripes n ks (row ∷ rows)) (ne_eqb s k other)
-    ∙ ap (λ (l : List Pair). F ++ l) (none_more n row rows ks (sym (times_else s k ks (λ e. other (sym e))) ∙ none))
+    ∙ ap (λ (l : List Pair). F ++ l) (none_more n row rows ks (sym (times_other s k ks (λ e. other (sym e))) ∙ none))
 
 one_more : (n : ℕ) (row : Pair) (rows : List Pair) (ks : List ℕ) → times (stripe_of n row.0) ks ≡ 1 → IsPermutation (row ∷ by_stripes n ks rows) (by_stripes n ks (row ∷ rows))
 one_more n row rows [] once = absurd (omega arith)
 one_more n row rows (k ∷ ks) once = let s : ℕ = stripe_of n row.0 in let F : List Pair = filter (is_in n k) rows in
     dite (ℕ_discrete s k)
-    (λ (e : s ≡ k). let here : times s (k ∷ ks) ≡ 1 + times s ks = subst (λ (j : ℕ). times s (j ∷ ks) ≡ 1 + times s ks) e (times_first s ks) in
+    (λ (e : s ≡ k). let here : times s (k ∷ ks) ≡ 1 + times s ks = subst (λ (j : ℕ). times s (j ∷ ks) ≡ 1 + times s ks) e (times_same s ks) in
     let same : row ∷ by_stripes n (k ∷ ks) rows ≡ by_stripes n (k ∷ ks) (row ∷ rows) = ap (λ (l : List Pair). row ∷ F ++ l) (sym (none_more n row rows ks (omega arith)))
     ∙ sym (ap (λ b. cond b (row ∷ F) F ++ by_stripes n ks (row ∷ rows)) (eq-eqb s k e)) in
     subst (IsPermutation (row ∷ by_stripes n (k ∷ ks) rows)) same (IsPermutation-refl _))
     (λ ne. subst (λ b. IsPermutation (row ∷ by_stripes n (k ∷ ks) rows) (cond b (row ∷ F) F ++ by_stripes n ks (row ∷ rows))) (sym (ne_eqb s k ne))
     (IsPermutation-trans _ (F ++ row ∷ by_stripes n ks rows) _ (IsPermutation-sym _ _ (IsPermutation-middle F row (by_stripes n ks rows)))
-    (IsPermutation-append_right F _ _ (one_more n row rows ks (sym (times_else s k ks (λ e. ne (sym e))) ∙ once)))))
+    (IsPermutation-append_right F _ _ (one_more n row rows ks (sym (times_other s k ks (λ e. ne (sym e))) ∙ once)))))
 
 no_rows : (n : ℕ) (ks : List ℕ) → by_stripes n ks [] ≡ []
 no_rows n [] = refl
@@ -157,9 +154,9 @@ parts_pairs n m (h ∷ held) fit = let first = fit 0 h refl in
 times_once : (k : ℕ) (ks : List ℕ) → ((i j stripe : ℕ) → slice_get ks i ≡ Some stripe → slice_get ks j ≡ Some stripe → i ≡ j) → times k ks ≤ 1
 times_once k [] apart = omega arith
 times_once k (x ∷ ks) apart = dite (ℕ_discrete x k)
-    (λ (e : x ≡ k). let here : times k (x ∷ ks) ≡ 1 + times k ks = subst (λ (j : ℕ). times k (j ∷ ks) ≡ 1 + times k ks) (sym e) (times_first k ks) in
+    (λ (e : x ≡ k). let here : times k (x ∷ ks) ≡ 1 + times k ks = subst (λ (j : ℕ). times k (j ∷ ks) ≡ 1 + times k ks) (sym e) (times_same k ks) in
     le_of_eq (here ∙ ap (λ (c : ℕ). 1 + c) (no_other e (times k ks) refl)))
-    (λ ne. let more : times k ks ≤ 1 = times_once k ks (λ i j stripe a b. suc_same i j (apart (suc i) (suc j) stripe a b)) in omega (arith, more, times_else k x ks ne))
+    (λ ne. let more : times k ks ≤ 1 = times_once k ks (λ i j stripe a b. suc_same i j (apart (suc i) (suc j) stripe a b)) in omega (arith, more, times_other k x ks ne))
   where
     suc_same : (i j : ℕ) → suc i ≡ suc j → i ≡ j
     suc_same i j e = omega arith
@@ -181,13 +178,13 @@ all_pairs n v held m some s all inside = subst (IsPermutation m.rows)
 -- The parts up to a place, one after the other: how many pairs are left to count, and which were
 -- added.
 pub sum_drop : (f : ℕ → PartAt) (ks : List ℕ) (i k : ℕ) → slice_get ks i ≡ Some k → sum_by count_at (map (with_part f) (drop i ks)) ≡ count_at (with_part f k) + sum_by count_at (map (with_part f) (drop (suc i) ks))
-sum_drop f [] i k at = absurd (none_some k at)
-sum_drop f (x ∷ ks) zero k at = sum_by-cons count_at (with_part f x) (map (with_part f) ks) ∙ ap (λ (y : ℕ). count_at (with_part f y) + sum_by count_at (map (with_part f) ks)) (some_same x k at)
+sum_drop f [] i k at = absurd (none-some k at)
+sum_drop f (x ∷ ks) zero k at = sum_by-cons count_at (with_part f x) (map (with_part f) ks) ∙ ap (λ (y : ℕ). count_at (with_part f y) + sum_by count_at (map (with_part f) ks)) (same_Some x k at)
 sum_drop f (x ∷ ks) (suc i) k at = sum_drop f ks i k at
 
 pub pairs_take : (n : ℕ) (f : ℕ → PartAt) (ks : List ℕ) (i k : ℕ) → slice_get ks i ≡ Some k → pairs_in n (map (with_part f) (take (suc i) ks)) ≡ pairs_in n (map (with_part f) (take i ks)) ++ pairs_at n (with_part f k)
-pairs_take n f [] i k at = absurd (none_some k at)
-pairs_take n f (x ∷ ks) zero k at = append-nil (pairs_at n (with_part f x)) ∙ ap (λ (y : ℕ). pairs_at n (with_part f y)) (some_same x k at)
+pairs_take n f [] i k at = absurd (none-some k at)
+pairs_take n f (x ∷ ks) zero k at = append-nil (pairs_at n (with_part f x)) ∙ ap (λ (y : ℕ). pairs_at n (with_part f y)) (same_Some x k at)
 pairs_take n f (x ∷ ks) (suc i) k at = ap (λ (l : List Pair). pairs_at n (with_part f x) ++ l) (pairs_take n f ks i k at)
     ∙ sym (append_assoc (pairs_at n (with_part f x)) (pairs_in n (map (with_part f) (take i ks))) (pairs_at n (with_part f k)))
 

@@ -4,3 +4,4 @@ pub mod OrderedPairs
 pub mod Levels
 pub mod Packing
 pub mod Effects
+pub mod Holding

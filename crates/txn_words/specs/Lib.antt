@@ -11,3 +11,4 @@ pub mod Owed
 pub mod Packed
 pub mod Entries
 pub mod Kinds
+pub mod Held

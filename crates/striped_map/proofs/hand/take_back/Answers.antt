@@ -1,5 +1,6 @@
 use Rattle.std.specs.Prelude.{vec_len}
 use Rattle.std.proofs.Common.{◌≡◌, ℕ, suc, ◌-◌, ◌/◌, ◌<◌, List, [], ◌∷◌, ◌++◌, Some, slice_get, length, sym, refl, ap, subst, ◌∙◌, arith}
+use Rattle.std.proofs.lemmas.Option.{same_Some, slice_get_within}
 use Rattle.txn_trace.specs.Locks.{stripe_of}
 use Rattle.txn_trace.specs.Now.{now}
 use Rattle.txn_words.specs.Map.{set_at}
@@ -9,7 +10,7 @@ use Rattle.striped_map.specs.Additions.{due}
 use Rattle.striped_map.specs.Rule.{Holds}
 use Rattle.striped_map.specs.Seats.{known, part_in}
 use Rattle.striped_map.specs.Sound.{AreHeld, AreLogged, Change, Held, parts_of, with_part}
-use Rattle.striped_map.proofs.Hands.{Job, newest, newest_owed, holds_in, place_in, read_at, stripes_with, with_at, some_same, parts_back, logged_back, parts_worked, back_step, back_done}
+use Rattle.striped_map.proofs.Hands.{Job, newest, newest_owed, holds_in, read_at, stripes_with, with_at, parts_back, logged_back, parts_worked, back_step, back_done}
 use Rattle.striped_map.proofs.hand.take_back.Goals as goal
 
 pub loop-order-init : goal.loop-order-init
@@ -22,7 +23,7 @@ index-requires c = let inv = c.loop-order.invariant in let n = c.args.map.now.ta
     let logged : AreLogged n (parts_of a ks) (rest ++ change ∷ []) inv.1 = subst (λ (l : List Change). AreLogged n (parts_of a ks) l inv.1) c.in-Some.ensures.items inv.5 in
     let first = newest n (parts_of a ks) rest change inv.1 logged in
     let there : slice_get ks place ≡ Some (stripe_of n first.job.0) = ap (λ (l : List ℕ). slice_get l place) (sym (stripes_with (part_in a) ks)) ∙ first.place_is in
-    let within : place < length ks = place_in ks place _ there in let o = c.args.held.now.ok.0 in omega arith
+    let within : place < length ks = slice_get_within ks place _ there in let o = c.args.held.now.ok.0 in omega arith
 
 pub take_back-requires-clause-held : goal.take_back-requires-clause-held
 take_back-requires-clause-held c = let inv = c.loop-order.invariant in let n = c.args.map.now.table.shared.table_id.slots in let v = known c.args.seat.now in let a = c.loop-order.seat in let ks = c.args.held.now.items in
@@ -31,7 +32,7 @@ take_back-requires-clause-held c = let inv = c.loop-order.invariant in let n = c
     let first = newest n (parts_of a ks) rest change inv.1 logged in
     let there : slice_get ks place ≡ Some (stripe_of n first.job.0) = ap (λ (l : List ℕ). slice_get l place) (sym (stripes_with (part_in a) ks)) ∙ first.place_is in
     let k : ℕ = c.index.result.now in
-    let at_k : slice_get ks place ≡ Some k = read_at ks place k (place_in ks place _ there) c.index.ensures in
+    let at_k : slice_get ks place ≡ Some k = read_at ks place k (slice_get_within ks place _ there) c.index.ensures in
     subst (λ (u : View). Holds u k) (sym inv.9) (holds_in n v a ks inv.0 inv.4 place k at_k)
 
 pub take_back-requires-clause-some : goal.take_back-requires-clause-some
@@ -41,7 +42,7 @@ take_back-requires-clause-some c = let inv = c.loop-order.invariant in let n = c
     let first = newest n (parts_of a ks) rest change inv.1 logged in
     let there : slice_get ks place ≡ Some (stripe_of n first.job.0) = ap (λ (l : List ℕ). slice_get l place) (sym (stripes_with (part_in a) ks)) ∙ first.place_is in
     let k : ℕ = c.index.result.now in
-    let at_k : slice_get ks place ≡ Some k = read_at ks place k (place_in ks place _ there) c.index.ensures in
+    let at_k : slice_get ks place ≡ Some k = read_at ks place k (slice_get_within ks place _ there) c.index.ensures in
     let at : slice_get (parts_of a ks) place ≡ Some (with_part (part_in a) k) = with_at (part_in a) ks place k at_k in
     let owed = newest_owed n (parts_of a ks) rest change inv.1 logged (with_part (part_in a) k) at in
     omega arith
@@ -53,11 +54,11 @@ loop-order-preserved c = let inv = c.loop-order.invariant in let n = c.args.map.
     let first = newest n (parts_of a ks) rest change inv.1 logged in
     let there : slice_get ks place ≡ Some (stripe_of n first.job.0) = ap (λ (l : List ℕ). slice_get l place) (sym (stripes_with (part_in a) ks)) ∙ first.place_is in
     let k : ℕ = c.index.result.now in
-    let at_k : slice_get ks place ≡ Some k = read_at ks place k (place_in ks place _ there) c.index.ensures in
+    let at_k : slice_get ks place ≡ Some k = read_at ks place k (slice_get_within ks place _ there) c.index.ensures in
     let at : slice_get (parts_of a ks) place ≡ Some (with_part (part_in a) k) = with_at (part_in a) ks place k at_k in
     let owed = newest_owed n (parts_of a ks) rest change inv.1 logged (with_part (part_in a) k) at in
     let b = c.take_back.new.seat in
-    let in_k : k ≡ stripe_of n first.job.0 = some_same _ _ (sym at_k ∙ there) in
+    let in_k : k ≡ stripe_of n first.job.0 = same_Some _ _ (sym at_k ∙ there) in
     let back : TakesBack (part_in a k) (part_in b k) (first.job.0 / n) first.job.1 = subst (λ (j : Job). TakesBack (part_in a k) (part_in b k) j.0 j.1) first.what_is c.take_back.ensures.back in
     let less_owed = back.owed_is in
     let worked = sym (parts_worked n v a b ks inv.0 inv.4 place k at_k c.take_back.ensures.others) in

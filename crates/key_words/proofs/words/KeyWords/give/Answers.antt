@@ -1,9 +1,11 @@
 use Rattle.std.proofs.Common.{ℕ, Some, ◌∷◌, ◌∙◌, sym, ap, subst, arith, ◌≡◌, ◌<◌}
 use Rattle.atomic_table.specs.Table.{rest}
+use Rattle.txn_words.specs.Held.{removed}
+use Rattle.txn_words.proofs.Holding.{times_removed_le}
 use Rattle.key_words.specs.declared.view.View.{View}
-use Rattle.key_words.specs.Steps.{Sat, lost, removed, emptied}
+use Rattle.key_words.specs.Steps.{Sat, lost, emptied}
 use Rattle.key_words.specs.Rule.{Holds}
-use Rattle.key_words.proofs.Moves.{brings, frees, times_removed_le}
+use Rattle.key_words.proofs.Moves.{brings, frees}
 use Rattle.key_words.proofs.words.KeyWords.give.Goals as goal
 
 pub load-requires : goal.load-requires
