@@ -1,119 +1,66 @@
 -- A worker's turn is taken.
-use Rattle.std.proofs.Common.{◌≡◌, ◌<◌, ℕ, List, Option, Some, None, refl, sym, subst, ◌∙◌, arith}
+use Rattle.std.proofs.Common.{◌≡◌, ℕ, List, Option, Some, None, sym, subst, ◌∙◌}
+use Rattle.std.specs.Option.{option_or}
 use Rattle.txn_words.specs.declared.action.Action.{Action}
 use Rattle.txn_words.specs.declared.answer.Answer.{Answer}
-use Rattle.txn_words.specs.declared.answer.Answer.TheVariants.{Placed}
 use Rattle.txn_words.specs.declared.step.Step.{Step}
 use Rattle.txn_drive.specs.declared.turn.Turn.{Turn}
 use Rattle.txn_drive.specs.declared.turn.Turn.TheVariants.{One, Two, Ended}
-use Rattle.txn_drive.specs.Turns.{TakesSecond, TakesTurn}
+use Rattle.txn_drive.specs.Turns.{TakesTurn, HasTaken}
 use Rattle.txn_drive.proofs.TurnLemmas.{turn_maps}
 use Rattle.script_worker.specs.declared.attempt.Finish.{Finish}
-use Rattle.script_worker.specs.Workers.{Standing, sized_by, turn_by, Working, TakesStep, TakesIn, TakesNext}
+use Rattle.script_worker.specs.Workers.{Standing, sized_by, turn_by, told_by, finish_told, IsTurnBy, Working, TakesStep, TakesIn, TakesNext}
 
--- The second step of a turn follows the answer `placed`.
-abbrev pub after : Answer → Option Step → Option Step
-after Placed second = second
-after answer second = None
+-- A step of the worker, told by scripts and tries that are those of the turn.
+pub told_step : {X : Type 0} (takes : X → Step → Answer → X → Type 0) (scripts : List (List Action)) (tries : ℕ) (x : Working X)
+    (s : Step) (a : Answer) (y : Working X) (each : List (List Action)) (times : ℕ) → each ≡ scripts → times ≡ tries
+    → takes x.taker s a y.taker → y.worker ≡ told_by each times x.worker a
+    → y.finish ≡ option_or (finish_told each times x.worker a) x.finish → TakesStep takes scripts tries x s a y
+told_step takes scripts tries x s a y each times each_is times_is taken told ended = record {
+  taken = taken;
+  told = subst (λ e. y.worker ≡ told_by e tries x.worker a) each_is (subst (λ t. y.worker ≡ told_by each t x.worker a) times_is told);
+  ended =
+      subst (λ e. y.finish ≡ option_or (finish_told e tries x.worker a) x.finish) each_is
+      (subst (λ t. y.finish ≡ option_or (finish_told each t x.worker a) x.finish) times_is ended);
+}
 
-after_none : (answer : Answer) → after answer None ≡ None
-after_none Placed = refl
-after_none answer = refl
+-- A turn that the worker takes is its next.
+module _ {X : Type 0} (takes : X → Step → Answer → X → Type 0) (size : ℕ) (scripts : List (List Action)) (tries : ℕ) (old : X)
+    (before : Standing) where
+  abbrev begun : Standing → Option Finish → Working X
+  begun v f = record { taker = old; worker = v; finish = f }
 
-after_other : (answer : Answer) (second : Option Step) → (answer ≡ Placed → ⊥) → after answer second ≡ None
-after_other Placed second not = absurd (not refl)
-after_other answer second not = refl
+  taken_in : (w : Standing) (x : Working X) (turn : Turn) (y : Working X) → IsTurnBy w (Some turn)
+      → TakesTurn (TakesStep takes scripts tries) x turn y → TakesIn takes scripts tries x (Some turn) y
+  taken_in w x (One step) y is taken = taken
+  taken_in w x (Two first second) y is taken = taken
+  taken_in w x (Ended outcome) y is taken = absurd is
 
--- The rest of a turn: its next step, and the step that may follow that one.
-abbrev pub TakesThen : {X : Type 0} → (X → Step → Answer → X → Type 0) → X → Option Step → X → Type 0
-TakesThen takes y None z = z ≡ y
-TakesThen takes y (Some step) z = (answer : Answer) × takes y step answer z
-
-abbrev pub TakesLeft : {X : Type 0} → (X → Step → Answer → X → Type 0) → X → Option Step → Option Step → X → Type 0
-TakesLeft takes x None second z = z ≡ x
-TakesLeft {X} takes x (Some step) second z = (answer : Answer) × (y : X) × takes x step answer y × TakesThen takes y (after answer second) z
-
--- How many steps are left.
-abbrev pub left_of : Option Step → Option Step → ℕ
-left_of None second = 0
-left_of (Some step) None = 1
-left_of (Some step) (Some then) = 2
-
-fewer_placed : (step : Step) (second : Option Step) → left_of second None < left_of (Some step) second
-fewer_placed step None = omega arith
-fewer_placed step (Some then) = omega arith
-
-fewer : (step : Step) (second other : Option Step) → left_of None other < left_of (Some step) second
-fewer step None other = omega arith
-fewer step (Some then) other = omega arith
-
-pub smaller_placed : (next second now other : Option Step) (step : Step) → next ≡ Some step → now ≡ second → other ≡ None → left_of now other < left_of next second
-smaller_placed next second now other step next_is now_is other_is =
-    subst (λ n. left_of now other < left_of n second) (sym next_is)
-    (subst (λ n. left_of n other < left_of (Some step) second) (sym now_is) (subst (λ o. left_of second o < left_of (Some step) second) (sym other_is) (fewer_placed step second)))
-
-pub smaller : (next second other : Option Step) (step : Step) → next ≡ Some step → left_of None other < left_of next second
-smaller next second other step next_is = subst (λ n. left_of None other < left_of n second) (sym next_is) (fewer step second other)
-
-module _ {X : Type 0} (takes : X → Step → Answer → X → Type 0) where
-  one_taken : (x : X) (step : Step) (z : X) → TakesLeft takes x (Some step) None z → TakesTurn takes x (One step) z
-  one_taken x step z (answer, y, taken, rest) =
-      (answer, subst (λ q. takes x step answer q) (sym (subst (λ o. TakesThen takes y o z) (after_none answer) rest)) taken)
-
-  second_taken : (y : X) (answer : Answer) (then : Step) (z : X) → TakesThen takes y (after answer (Some then)) z → TakesSecond takes y then answer z
-  second_taken y Placed then z rest = rest
-  second_taken y answer then z rest = rest
-
-  two_taken : (x : X) (step then : Step) (z : X) → TakesLeft takes x (Some step) (Some then) z → TakesTurn takes x (Two step then) z
-  two_taken x step then z (answer, y, taken, rest) = (answer, y, taken, second_taken y answer then z rest)
-
-  -- One more step is taken.
-  placed_left : (x y : X) (step : Step) (answer : Answer) (second : Option Step) (z : X) → takes x step answer y → answer ≡ Placed → TakesLeft takes y second None z → TakesLeft takes x (Some step) second z
-  placed_left x y step answer None z taken is rest = (answer, y, taken, subst (λ o. TakesThen takes y o z) (sym (after_none answer)) rest)
-  placed_left x y step answer (Some then) z taken is rest =
-      (Placed, y, subst (λ a. takes x step a y) is taken, one_taken y then z rest)
-
-  pub nothing_left : (x : X) (next second : Option Step) → next ≡ None → TakesLeft takes x next second x
-  nothing_left x next second is = subst (λ n. TakesLeft takes x n second x) (sym is) refl
-
-  pub on_placed : (x y : X) (next second now other : Option Step) (step : Step) (answer : Answer) (z : X) → next ≡ Some step → now ≡ second → other ≡ None → takes x step answer y → answer ≡ Placed
-      → TakesLeft takes y now other z → TakesLeft takes x next second z
-  on_placed x y next second now other step answer z next_is now_is other_is taken is rest =
-      subst (λ n. TakesLeft takes x n second z) (sym next_is)
-      (placed_left x y step answer second z taken is (subst (λ n. TakesLeft takes y n None z) now_is (subst (λ o. TakesLeft takes y now o z) other_is rest)))
-
-  pub on_other : (x y : X) (next second other : Option Step) (step : Step) (answer : Answer) (z : X) → next ≡ Some step → takes x step answer y → (answer ≡ Placed → ⊥)
-      → TakesLeft takes y None other z → TakesLeft takes x next second z
-  on_other x y next second other step answer z next_is taken not rest =
-      subst (λ n. TakesLeft takes x n second z) (sym next_is) (answer, y, taken, subst (λ o. TakesThen takes y o z) (sym (after_other answer second not)) rest)
-
--- A worker's turn, once nothing of it is left.
-module _ {X : Type 0} (takes : X → Step → Answer → X → Type 0) (size : ℕ) (scripts : List (List Action)) (tries : ℕ) (old : X) (before : Standing) (w : Standing) (o : Option Turn)
-    (w_is : w ≡ sized_by size before) (turn_is : o ≡ turn_by w) (new : X) (finish : Option Finish) (after_that : Standing) where
-  abbrev begun : Standing → Working X
-  begun v = record { taker = old; worker = v; finish = None }
-
-  abbrev done : Working X
-  done = record { taker = new; worker = after_that; finish = finish }
-
-  taken_next : (turn : Turn) → o ≡ Some turn → TakesIn takes scripts tries (begun w) (Some turn) done → TakesNext takes size scripts tries old before finish new after_that
-  taken_next turn some taken = record {
+  taken_next : (w v : Standing) (o : Option Turn) (f : Option Finish) (turn : Turn) (y : Working X) → w ≡ sized_by size before
+      → o ≡ turn_by w → IsTurnBy w o → o ≡ Some turn → w ≡ v → f ≡ None → TakesTurn (TakesStep takes scripts tries) (begun v f) turn y
+      → TakesNext takes size scripts tries old before y.finish y.taker y.worker
+  taken_next w v o f turn y w_is turn_is by some v_is none taken = record {
     steps =
-        subst (λ (v : Standing). TakesIn takes scripts tries (begun v) (turn_by v) done) w_is
-        (subst (λ t. TakesIn takes scripts tries (begun w) t done) (sym some ∙ turn_is) taken);
+        subst (λ (v : Standing). TakesIn takes scripts tries (begun v None) (turn_by v) y) w_is
+        (subst (λ t. TakesIn takes scripts tries (begun w None) t y) (sym some ∙ turn_is)
+        (taken_in w (begun w None) turn y (subst (IsTurnBy w) some by)
+        (subst (λ (v : Standing). TakesTurn (TakesStep takes scripts tries) (begun v None) turn y) (sym v_is)
+        (subst (λ f. TakesTurn (TakesStep takes scripts tries) (begun v f) turn y) none taken))));
   }
 
-  pub one_next : (step : Step) (first : Step × Option Step) → o ≡ Some (One step) → first ≡ (step, None) → TakesLeft (TakesStep takes scripts tries) (begun w) (Some first.0) first.1 done
-      → TakesNext takes size scripts tries old before finish new after_that
-  one_next step first some first_is left =
-      taken_next (One step) some
-      (one_taken (TakesStep takes scripts tries) (begun w) step done (subst (λ (f : Step × Option Step). TakesLeft (TakesStep takes scripts tries) (begun w) (Some f.0) f.1 done) first_is left))
-
-  pub two_next : (step then : Step) (first : Step × Option Step) → o ≡ Some (Two step then) → first ≡ (step, Some then) → TakesLeft (TakesStep takes scripts tries) (begun w) (Some first.0) first.1 done
-      → TakesNext takes size scripts tries old before finish new after_that
-  two_next step then first some first_is left =
-      taken_next (Two step then) some
-      (two_taken (TakesStep takes scripts tries) (begun w) step then done (subst (λ (f : Step × Option Step). TakesLeft (TakesStep takes scripts tries) (begun w) (Some f.0) f.1 done) first_is left))
+-- A turn of which each step is one of the worker's is the worker's next.
+pub turn_next : {X F : Type 0} (takes : X → Step → Answer → X → Type 0) (R : F → Step → Answer → F → Type 0) (I : F → F → Type 0)
+    (p : F → Working X) (size : ℕ) (scripts : List (List Action)) (tries : ℕ) (before w : Standing) (o : Option Turn) (turn : Turn)
+    (x y : F) → w ≡ sized_by size before → o ≡ turn_by w → IsTurnBy w o → o ≡ Some turn → w ≡ (p x).worker → (p x).finish ≡ None
+    → I x x → HasTaken R x turn y
+    → ((z : F) (s : Step) (a : Answer) (y : F) → I x z → R z s a y → TakesStep takes scripts tries (p z) s a (p y) × I x y)
+    → TakesNext takes size scripts tries (p x).taker before (p y).finish (p y).taker (p y).worker × I x y
+turn_next takes R I p size scripts tries before w o turn x y w_is turn_is by some worker_is none i taken each =
+    let mapped = turn_maps R (TakesStep takes scripts tries) (I x) p x turn y i taken each in (
+      taken_next takes size scripts tries (p x).taker before w (p x).worker o (p x).finish turn (p y) w_is turn_is by some worker_is none
+          mapped.0,
+      mapped.1,
+    )
 
 -- A worker's turn, as a turn on the part that each step changes.
 module _ {X F : Type 0} (takes : X → Step → Answer → X → Type 0) (R : F → Step → Answer → F → Type 0) (I : F → Type 0) (p : F → X)

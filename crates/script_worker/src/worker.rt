@@ -123,22 +123,22 @@ impl Worker {
         let Some(turn) = self.turn(size) else {
             return None;
         };
-        let (first, mut second) = match turn {
-            Turn::One(only) => (only, None),
-            Turn::Two(first, then) => (first, Some(then)),
-            Turn::Ended(_) => return None,
-        };
-        let mut next = Some(first);
         let mut finish = None;
-        // One call of `step` in a loop, so that it can be compiled into this function.
-        'steps: while let Some(now) = next {
-            let answer = step(now);
-            finish = self.told(scripts, tries, answer).or(finish);
-            next = match answer {
-                Answer::Placed => second.take(),
-                _ => None,
-            };
-        }
+        turn.take(
+            &mut |now|
+                requires { (f : F) (s : _) → F.pre f s }
+                ensures taken { F.step step.entry.now now result step.exit.now }
+                ensures told { self.exit.now
+                    ≡ told_by scripts.entry.now tries self.entry.now result }
+                ensures ended { finish.exit
+                    ≡ option_or (finish_told scripts.entry.now tries self.entry.now result)
+                    finish.entry }
+            {
+                let answer = step(now);
+                finish = self.told(scripts, tries, answer).or(finish);
+                answer
+            },
+        );
         finish
     }
 

@@ -35,16 +35,18 @@ impl Turn {
         requires { MayTake (λ f s. F.pre f s) (λ f s answer g. F.step f s answer g) step.old self }
         ensures { HasTaken (λ f s answer g. F.step f s answer g) step.old self step.new }
     {
-        match self {
-            Turn::One(only) => {
-                step(only);
-            }
-            Turn::Two(first, second) => {
-                if let Answer::Placed = step(first) {
-                    step(second);
-                }
-            }
-            Turn::Ended(_) => {}
+        let (first, mut second) = match self {
+            Turn::One(only) => (only, None),
+            Turn::Two(first, then) => (first, Some(then)),
+            Turn::Ended(_) => return,
+        };
+        let mut next = Some(first);
+        // One call of `step` in a loop, so that it can be compiled into this function.
+        'steps: while let Some(now) = next {
+            next = match step(now) {
+                Answer::Placed => second.take(),
+                _ => None,
+            };
         }
     }
 }

@@ -1,38 +1,19 @@
-use Rattle.std.proofs.Common.{rules, of_calls, Some, ap, ◌∙◌}
-use Rattle.std.specs.Option.{option_or}
-use Rattle.script_worker.specs.Workers.{Working, TakesStep}
-use Rattle.script_worker.proofs.Taking.{nothing_left, one_next, two_next, smaller_placed, smaller, on_placed, on_other}
+use Rattle.std.proofs.Common.{◌≡◌, rules, of_calls, refl, ap}
+use Rattle.script_worker.proofs.Taking.{told_step, turn_next, next_at}
 use Rattle.script_worker.proofs.worker.Worker.take_turn.Goals as goal
-use Rattle.script_worker.proofs.worker.Worker.take_turn.Goals.{in-One, in-Two}
-
-pub steps-init : goal.steps-init
-steps-init g c = λ last left. left
-
-pub steps-smaller-in-Placed : goal.steps-smaller-in-Placed
-steps-smaller-in-Placed g c = smaller_placed c.steps.next c.steps.second c.take-next.result c.take-next.new.self c.in-Some-next.now c.in-Some-next.is c.take-next.ensures.value c.take-next.ensures.after
-
-pub steps-preserved-in-Placed : goal.steps-preserved-in-Placed
-steps-preserved-in-Placed g c = λ last left. c.steps.invariant last
-    (on_placed (TakesStep (λ f s answer e. goal.F-step g f s answer e) c.args.scripts.now c.args.tries) (record { taker = c.steps.step; worker = c.steps.self; finish = c.steps.finish }) (record { taker = c.step-answer.new.self; worker = c.told.new.self; finish = c.or-finish.result })
-    c.steps.next c.steps.second c.take-next.result c.take-next.new.self c.in-Some-next.now c.step-answer.result last c.in-Some-next.is c.take-next.ensures.value c.take-next.ensures.after
-    (record { taken = search (rules, of_calls); told = c.told.ensures.worker; ended = c.or-finish.ensures ∙ ap (λ o. option_or o c.steps.finish) c.told.ensures.finish }) c.in-Placed.is left)
-
-pub steps-smaller : goal.steps-smaller
-steps-smaller g c = smaller c.steps.next c.steps.second c.steps.second c.in-Some-next.now c.in-Some-next.is
-
-pub steps-preserved : goal.steps-preserved
-steps-preserved g c = λ last left. c.steps.invariant last
-    (on_other (TakesStep (λ f s answer e. goal.F-step g f s answer e) c.args.scripts.now c.args.tries) (record { taker = c.steps.step; worker = c.steps.self; finish = c.steps.finish }) (record { taker = c.step-answer.new.self; worker = c.told.new.self; finish = c.or-finish.result })
-    c.steps.next c.steps.second c.steps.second c.in-Some-next.now c.step-answer.result last c.in-Some-next.is
-    (record { taken = search (rules, of_calls); told = c.told.ensures.worker; ended = c.or-finish.ensures ∙ ap (λ o. option_or o c.steps.finish) c.told.ensures.finish }) c.in_default-answer.not-Placed left)
 
 pub returns-clause-takes : goal.returns-clause-takes
 returns-clause-takes g c =
-    let now : Working g.row.F.Denot = record { taker = c.steps.step; worker = c.steps.self; finish = c.steps.finish } in
-    let left = c.steps.invariant now (nothing_left (TakesStep (λ f s answer e. goal.F-step g f s answer e) c.args.scripts.now c.args.tries) now c.steps.next c.steps.second c.in_default-next.is) in
-    elim c.match-turn-2.branch [
-      | in-One w ↦ one_next (λ f s answer e. goal.F-step g f s answer e) c.args.size c.args.scripts.now c.args.tries c.args.step.now c.args.self.now c.turn.new.self c.turn.result c.turn.ensures.worker
-          c.turn.ensures.turn c.steps.step c.steps.finish c.steps.self w.in-One.only c.match-turn-2.first (c.in-Some.is ∙ ap Some w.in-One.is) w.first-is left
-      | in-Two w ↦ two_next (λ f s answer e. goal.F-step g f s answer e) c.args.size c.args.scripts.now c.args.tries c.args.step.now c.args.self.now c.turn.new.self c.turn.result c.turn.ensures.worker
-          c.turn.ensures.turn c.steps.step c.steps.finish c.steps.self w.in-Two.first w.in-Two.then c.match-turn-2.first (c.in-Some.is ∙ ap Some w.in-Two.is) w.first-is left
-    ]
+    let taken = turn_next (λ f s answer e. goal.F-step g f s answer e) _
+    (λ x f. (f.0.ghost_name ≡ x.0.ghost_name) × (f.1.ghost_name ≡ x.1.ghost_name) × (f.2.ghost_name ≡ x.2.ghost_name)
+    × (f.3 ≡ x.3) × (f.4 ≡ x.4))
+    (λ f. record { taker = f.0.now; worker = f.2.now; finish = f.1.now }) c.args.size c.args.scripts.now c.args.tries c.args.self.now
+    c.turn.new.self c.turn.result c.in-Some.turn _ _ c.turn.ensures.worker c.turn.ensures.turn c.turn.ensures.step c.in-Some.is refl refl
+    (refl, refl, refl, refl, refl) c.take.ensures (λ z s a y i taken. (
+      told_step (λ f s answer e. goal.F-step g f s answer e) c.args.scripts.now c.args.tries
+          (record { taker = z.0.now; worker = z.2.now; finish = z.1.now }) s a
+          (record { taker = y.0.now; worker = y.2.now; finish = y.1.now }) z.3.now z.4.now (ap (λ b. b.now) i.3) (ap (λ b. b.now) i.4)
+          (search (rules, of_calls)) (search (rules, of_calls)) (search (rules, of_calls)),
+      search (rules, of_calls),
+    )) in
+    next_at _ _ _ _ _ _ _ _ _ _ _ _ taken.0 (search (rules, taken)) (search (rules, taken)) (search (rules, taken))
