@@ -134,8 +134,8 @@ keep_or_drop() {
     mkdir -- "$kept" && mv -- "$work"/*.rlib "$kept" && "${RT:-rt}" version >"$kept/toolchain"
 }
 
-# Proves a crate over the libraries that it names, by this many processes, and builds it in $work. It takes
-# over the process that calls it.
+# Proves a crate over the libraries that it names, by this many processes, and builds it in $work. For a
+# library, the prover takes over the process that calls this.
 prove() {
     local name=$1 jobs=$2 library kit
     local -a words

@@ -4,13 +4,13 @@
  * A transaction holds each of its stripes from the operation that took it to its end. So each stamp is
  * taken while the stripes are held: for an operation after its answer, for a commit and an abort before
  * the call, and for an operation that is busy before its call, which ends the transaction. If two
- * transactions take one stripe, all stamps of the first up to its end are less than those of the second
- * from its operation there on. So the replies fit in the order of the stamps.
+ * transactions take one stripe, each stamp of the first, up to its end, is less than each stamp of the
+ * second from its operation on that stripe on. So the replies fit in the order of the stamps.
  *
  * Commits that run at the same time may be placed in another order than that of their stamps. A commit
  * therefore gets the latest stamp of all commits up to its place. Each of these stamps was taken before
- * its commit was placed, hence before this one gave its stripes back. So whoever takes one of these
- * stripes afterwards has a greater stamp.
+ * its own commit was placed, hence before the commit that gets the latest one gave its stripes back. So
+ * a transaction that takes one of these stripes afterwards has a greater stamp.
  *
  * A busy entry names a caller that has begun a transaction: each caller runs one before the threads
  * start. Transactions get their numbers when the entries are merged.

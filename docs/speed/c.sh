@@ -16,7 +16,8 @@ rounds=${1:-9}
 quietly bindings/install.sh "$work/usr"
 quietly "${CXX:-c++}" -std=c++17 -O2 -I"$work/usr/include" docs/speed/c_map.cpp -L"$work/usr/lib" -lboostmap -pthread -o "$work/c_map"
 
-# The median of the first column of the lines of a file, and the one sum of their second, or the file's name if they differ.
+# The median of the first column of a file, and the sum that each line has in its second column, or the file's name if these
+# sums differ.
 median() {
   sort -n "$1" | awk -v middle=$(((rounds + 1) / 2)) -v file="$1" '
     NR == middle { printf "%s", $1 }

@@ -290,9 +290,10 @@ template <class Map> static void in_threads(word keys, word count, word threads)
     print(began, count / threads * threads, sum);
 }
 
-// The transactions that the program `bench` makes inside Rattle, by the same draws. GCC gets its machine
-// code in the form that LLVM gives it there: a draw is divided in 32 bits (LLVM tests that both numbers
-// fit), and the four operations are unrolled, so that the branches of each are predicted apart.
+// The transactions that the program `bench` makes inside Rattle, by the same draws. The source makes GCC
+// give them the form of machine code that LLVM gives them there: a draw is divided in 32 bits (LLVM tests
+// that both numbers fit), and the four operations are unrolled, so that the branches of each are
+// predicted apart.
 [[gnu::noinline]] static void as_bench(word keys, word count) {
     auto callers = striped::open(1, 1024);
     striped &map = *callers[0];

@@ -1,7 +1,7 @@
 //! Writes a history with an entry a line, as `judge watch` reads it: 64 callers, each in a transaction of one to eight
-//! operations, whose entries are interleaved. Half of the operations are puts. One transaction of 30 saves and goes
-//! back, one of ten is given up, and so is each that finds a lock held. It is legal by 4,096 locks, and so by the order of
-//! commits too.
+//! operations, whose entries are interleaved. Half of the operations are puts. One transaction in 30 saves and goes
+//! back. One in ten is given up, and so is each that finds a lock held. It is legal by 4,096 locks, and so by the order
+//! of commits too.
 //!
 //! Usage: entries ENTRIES KEYS
 use std::env;

@@ -2,9 +2,9 @@
 # Puts rising keys, each in a separate transaction, on one thread, on each map: in a table that grows on the way and in one that is
 # large already (rising.rt.txt). Prints for each the median of the rounds in microseconds, by the clock and of the processor, and the
 # ratio of small to large in processor time: 1 is as fast. Then the same of the striped map that grows and of one that was opened with
-# room for all keys (roomy): only the puts, and the whole from before the map is opened to the last put. Last, the map that was used
-# before beside one that grows into memory that another map has used and given back (again): malloc returns none of it to the system.
-# All run in turn, in random order in each round.
+# room for all keys (roomy): only the puts, and the whole from before the map is opened to the last put. The last table has the
+# striped map that was used before (large), and beside it one that grows into memory that another map has used and given back (again):
+# malloc returns none of this memory to the system. All run in turn, in random order in each round.
 # Usage: docs/speed/rising.sh [PUTS [ROUNDS]]
 source "$(dirname "${BASH_SOURCE[0]}")/common.sh"
 puts=${1:-100000}

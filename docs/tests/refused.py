@@ -189,9 +189,9 @@ class Runner:
     def refuse_in_turn(self, name, words, lengths, kind_of):
         """Refuses one allocation after the other until a run meets none, and prints a line.
 
-        `kind_of` names the kind of an end, from the end with all memory and that end; None if it is
-        wrong. The answer is whether no end was wrong and an allocation was refused: a test that does
-        not exist asks for none.
+        `kind_of` is given the end with all memory and another end, and names the kind of the latter;
+        None if it is wrong. The answer is whether no end was wrong and an allocation was refused: a
+        test that does not exist asks for none.
         """
         calm, _ = self.run(words)
         kinds, count = collections.Counter(), 0

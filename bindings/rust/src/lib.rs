@@ -190,7 +190,7 @@ pub enum Error {
     Leaving,
     /// The level is above the number of savepoints.
     NoSuchLevel,
-    /// Memory was refused. Nothing has changed, except what the call names.
+    /// Memory was refused. Nothing has changed, unless the comment of the call says so.
     NoMemory,
     /// All stamps are used up: 2^64 - 2 nodes were made.
     StampsUsedUp,

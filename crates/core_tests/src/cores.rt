@@ -149,8 +149,8 @@ const EACH_KIND: [(Call, Answer); 17] = [
     (Call::Step(Step::Sweep), Answer::Clean),
 ];
 
-/// An abort from each phase; one that has left to the end continues, one that has left to a level
-/// is refused.
+/// Plain aborts. They are refused if there is no transaction or no such caller, and on the way to a
+/// level. On the way to the end, after a busy operation or a step `abort`, they continue.
 const ABORTS: [(Call, Answer); 15] = [
     (Call::Abort(0), Answer::Refused(Refusal::NotOpen)),
     (Call::Abort(3), Answer::Refused(Refusal::NoSuchCaller)),
@@ -195,7 +195,8 @@ const SWEEPS_AND_CURSORS: [(Call, Answer); 20] = [
     (Call::Run(Step::InitLink(0)), Answer::Linked),
 ];
 
-/// `keys_of_64_bits`, by calls, and committed: a put that expects another value puts nothing.
+/// The transaction of `examples/keys_of_64_bits.json`, by calls, and committed: a put that expects
+/// another value puts nothing.
 const WIDE_KEYS: [(Call, Answer); 9] = [
     (Call::Step(Step::Begin(0)), Answer::Began(1)),
     (
@@ -225,7 +226,7 @@ const WIDE_PAIRS: [(u64, u64); 4] = [
     (18_446_744_073_709_551_615, 7),
 ];
 
-/// `keys_of_64_bits`, by steps, and aborted by steps: five changes are taken back.
+/// The same transaction, by steps, and aborted by steps: five changes are taken back.
 const WIDE_KEYS_ABORTED: [(Call, Answer); 34] = [
     (Call::Step(Step::Begin(0)), Answer::Began(1)),
     (
@@ -520,8 +521,8 @@ fn owed_entries(rt: HostRuntime) -> Result<(), Fail> {
     owed_are(&rt, &mut core_of(&rt, rt.alloc(), 2), &OWED)
 }
 
-/// A call for help doubles a table with more than two keys for each bucket, and initialises the
-/// bucket of its key: the key, the size after it, and the bucket.
+/// Rows of a key, the size after the call for help with it, and its bucket. The call doubles a
+/// table with more than two keys for each bucket, and initialises the bucket of its key.
 static HELPED: [(u64, u32, u64); 9] = [
     (0, 2, 0),
     (1, 2, 1),

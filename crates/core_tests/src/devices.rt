@@ -109,7 +109,7 @@ pub(crate) fn pairs_of(alloc: Global, core: &Core) -> Result<Vec<(u64, u64)>, Al
     core.regular_list(alloc)
 }
 
-/// Checks that the map also has this number of pairs, and these values at these keys.
+/// Checks that the map, too, has exactly these pairs.
 pub(crate) fn has_map(
     rt: &impl Abort,
     alloc: Global,

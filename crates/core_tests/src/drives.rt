@@ -78,7 +78,7 @@ fn take_turns(rt: &impl Abort, drive: &mut Drive, turns: Turns) {
 /// A caller's call, whether the limits take only half keys, the turns of its drive, and its end.
 type Row = (u64, Call, bool, &'static [Turns], End);
 
-/// The drives take their turns and then no step, which each later turn says too.
+/// Each drive takes its turns. Then it has ended: its next two turns, at two sizes, both say so.
 fn drive_rows(rt: &impl Abort, rows: &[Row]) {
     for (caller, call, takes_half_keys, turns, end) in rows {
         let mut drive = drive_of(rt, *caller, *call, *takes_half_keys);
@@ -171,8 +171,7 @@ const ONE_STEP: [Row; 10] = [
     ),
 ];
 
-/// `drive_of_a_put`: a put that takes its last two steps in one turn after 8 positions that did not
-/// fit.
+/// A put that takes its last two steps in one turn, after 8 positions that did not fit.
 const DRIVE_OF_A_PUT: &[Turns] = &[
     Turns::One(Step::Ask(0, Op::Put(2, 20)), Answer::Asked),
     Turns::Again(8, Step::Seek(0), Step::Act(0)),
@@ -299,8 +298,8 @@ const PAST_READY: &[Turns] = &[
     Turns::One(Step::InitSeek(0, 27), Answer::Ready),
 ];
 
-/// A helper makes the buckets ready that its own doubling added, although another caller doubles
-/// the table once more.
+/// A helper goes to the bucket that its key has after its own doubling, although another caller
+/// doubles the table once more.
 const BY_ITS_SIZE: &[Turns] = &[
     Turns::At(2, Step::Double(2), Answer::Doubled(4)),
     Turns::At(8, Step::InitSeek(2, 1), Answer::Ready),

@@ -1,6 +1,7 @@
 //! Histories that are judged by `history_check`, whole and entry by entry. The verdicts on the
 //! worked ones were found by hand, and are also compared with those of the slow program in `plain`.
-//! So are the verdicts on the histories that `generated` draws from a thousand seeds.
+//! The verdicts on the histories that `generated` draws from a thousand seeds are only compared
+//! with that program's.
 mod generated;
 mod plain;
 
@@ -45,7 +46,8 @@ fn verdict_so_far(checker: &Checker) -> Verdict {
     checker.verdict()
 }
 
-/// The verdict of the plain program on the first entries, from the first bad one of all.
+/// The verdict of the plain program on the entries up to this place, if `bad` is the first bad one
+/// of all entries.
 fn plain_at(entries: &[Entry], place: usize, bad: Option<(usize, Rule)>) -> Verdict {
     match bad {
         Some(bad) if bad.0 <= place => plain::verdict(entries, Some(bad)),
@@ -183,7 +185,7 @@ const HOLDER_HAS_BEGUN: [Entry; 6] = [
     Entry::Busy(1, Op::Get(9), 0),
 ];
 
-/// A Busy that names a caller before any other entry.
+/// A Busy that names a caller without any entry.
 const BUSY_AT_FIRST: [Entry; 2] = [Entry::Began(1, 1), Entry::Busy(1, Op::Get(9), 0)];
 
 /// A reply that no map gives.
@@ -259,7 +261,7 @@ type Row = (&'static [Entry], Option<(usize, Entry)>, u64, Verdict);
 
 /// The verdicts if a Busy must name a holder of now.
 static BY_HOLDERS_OF_NOW: [Row; 19] = [
-    // `checker_replies`.
+    // Of replies, as `checker_replies` in `crates/txn_trace/proofs/Cases.antt`.
     (
         &REPLIES,
         None,
@@ -287,7 +289,7 @@ static BY_HOLDERS_OF_NOW: [Row; 19] = [
             rule: Rule::Shape,
         },
     ),
-    // `checker_locks`.
+    // Of locks.
     (
         &ON_A_CHANGE,
         None,
@@ -306,7 +308,8 @@ static BY_HOLDERS_OF_NOW: [Row; 19] = [
             rule: Rule::Locks,
         },
     ),
-    // `holder_has_begun`, if the holder must be one of now.
+    // `holder_has_begun` of `crates/txn_trace/proofs/HolderCases.antt`, if the holder must be one
+    // of now.
     (
         &HOLDER_HAS_BEGUN,
         None,
@@ -316,7 +319,7 @@ static BY_HOLDERS_OF_NOW: [Row; 19] = [
             rule: Rule::Locks,
         },
     ),
-    // `forged_histories`.
+    // Forged histories.
     (
         &[],
         None,
@@ -380,7 +383,8 @@ static BY_HOLDERS_OF_NOW: [Row; 19] = [
             running: 2,
         },
     ),
-    // `put_if_history`; and one with a reply that the map does not give.
+    // `put_if_history` of `crates/txn_trace/proofs/WideCases.antt`; and one with a reply that the
+    // map does not give.
     (
         &PUT_IF,
         None,
@@ -566,8 +570,8 @@ fn start_checker(rt: &impl Abort, alloc: Global) -> Option<Checker> {
     None
 }
 
-/// Whether it took an entry, which it is fed once more if that is refused. A refused entry changes
-/// nothing.
+/// Feeds a checker an entry, and once more if that is refused. Answers whether the checker took it.
+/// A refused entry changes nothing.
 fn is_fed(rt: &impl Abort, checker: &mut Checker, entry: &Entry) -> bool {
     let before = verdict_so_far(checker);
     for _ in 0..2 {

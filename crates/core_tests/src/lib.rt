@@ -1,5 +1,6 @@
-//! Tests of the crates from histories up to the mixing of scripts: of the core and its drives, and
-//! of the checker that judges histories.
+//! Tests of `txn_words`, `txn_drive`, `script_worker`, `history_check`, `boost_core` and
+//! `script_mix`: of the words of transactions, drives, workers, the checker that judges histories,
+//! the core, and mixes of scripts.
 //!
 //! A crate with tests is proved twice, so they are a separate crate. Each call of a library is made
 //! once, in a small function without a contract: a test that uses these has only its own safety to

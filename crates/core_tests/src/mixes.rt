@@ -126,8 +126,9 @@ fn mixed_history(alloc: Global, seed: u64, scripts: &str) -> Result<Vec<Entry>, 
     Ok(Unpacked::new(trace.as_slice()).collect(alloc)?)
 }
 
-/// Checks that the workers, drawn by the generator, take their turns, by rising place among those
-/// that have one left, until none has, and that they add these entries.
+/// Draws a place in the list of workers that have a turn left, which are in rising order, and takes
+/// that worker's turn, until no worker has one left. Checks that the turns add exactly the entries
+/// of the history.
 fn take_turns(
     rt: &impl Abort,
     history: &[Entry],

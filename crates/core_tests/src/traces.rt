@@ -109,7 +109,8 @@ fn numbers_and_texts(rt: HostRuntime) -> Result<(), Fail> {
     Ok(())
 }
 
-/// The numbers of callers, stripes and buckets of the limits of these numbers.
+/// Makes limits of these numbers of callers, stripes and buckets, and answers the numbers that the
+/// limits have.
 fn numbers_of(callers: u64, stripes: u64, buckets: u64) -> Result<(u64, u64, u64), Refusal> {
     let limits = Limits::new(callers, stripes, buckets)?;
     Ok((

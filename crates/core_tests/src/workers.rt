@@ -353,7 +353,8 @@ static CASES: [Case; 9] = [
     },
 ];
 
-/// Checks that a help with a bad key has left at once, with its refusal.
+/// Checks that a worker whose first action is a help with a bad key is leaving as soon as it has
+/// begun, with the refusal of the help.
 fn leaves_after_a_bad_help(rt: &impl Abort, alloc: Global) -> Result<(), Fail> {
     let scripts = scripts_of(alloc, &[&[Action::Help(1 << 63), Action::Save]])?;
     let mut worker = worker_of(0, 1, true, &scripts)?;

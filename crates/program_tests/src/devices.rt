@@ -173,7 +173,7 @@ impl<'a> Desk<'a> {
     }
 }
 
-/// Adds the words of a text, with blanks between them.
+/// Adds each word of a text in which blanks separate the words.
 fn push_words(alloc: Global, words: &mut Vec<String>, text: &str) -> Result<(), AllocError> {
     for word in text.split(' ') {
         words.push(word.to_string(alloc)?)?;

@@ -30,8 +30,8 @@ enum Command {
     Run,
 }
 
-/// Similar files of one command: each piece, one for each line, fills the gap `#` of the frame, and
-/// each filling, separated by blanks, the gap `@` of that.
+/// Similar files of one command. Each line of the pieces fills the gap `#` of the frame, and then
+/// each word of the fillings, which blanks separate, fills the gap `@`.
 #[derive(Clone, Copy)]
 struct Files {
     command: Command,
@@ -83,8 +83,8 @@ fn run_on<T: Threads + Wait + Sync, R: Read>(
     }
 }
 
-/// Compares the output of a command for a file, and the status. For a fault there is the line, and
-/// nothing is printed.
+/// Compares the output of a command for a file, and the status. If it ends by a fault, standard
+/// error has the fault's line, and nothing is written to standard output.
 fn compare_file<T: Abort + Threads + Wait + Sync>(
     rt: &T,
     alloc: Global,

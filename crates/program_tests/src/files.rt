@@ -22,8 +22,8 @@ enum Kind {
     History,
 }
 
-/// Similar files: each piece, one for each line, fills the gap `#` of the frame, and each filling,
-/// separated by blanks, the gap `@` of that.
+/// Similar files. Each line of the pieces fills the gap `#` of the frame, and then each word of the
+/// fillings, which blanks separate, fills the gap `@`.
 #[derive(Clone, Copy)]
 struct Files {
     kind: Kind,
@@ -102,9 +102,9 @@ const NOT_JSON: Option<FileFault> = Some(FileFault::NotJson);
 
 const WRONG_STEP: Option<FileFault> = Some(FileFault::Piece(Part::Step, 0));
 
-/// Values nested in more than 127 levels; the object of the file is one level, and the array of its
-/// steps another; and more than 10,000 scripts or actions, which is found only after the wrong
-/// script behind them.
+/// Values nested in up to 127 levels, and in more: the object of the file is one level, and the
+/// array of its steps another. Then up to 10,000 scripts or actions, and more: too many are found
+/// only after a wrong script behind them.
 const GROWN: &[Grown] = &[
     (Kind::Steps, "#", 200, ["[", "", "]"], NOT_JSON),
     (Kind::Steps, BEYOND_STEPS, 125, ["[", "0", "]"], None),
@@ -193,7 +193,7 @@ fn compare_grown(rt: &impl Abort, alloc: Global, row: Grown) -> Result<(), Fail>
     Ok(())
 }
 
-/// A file of step files' largest size and one byte more is too long; without that byte these spaces
+/// A file one byte longer than the largest step file is too long. Without that byte these spaces
 /// are no JSON.
 fn compare_spaces(rt: &impl Abort, alloc: Global, spaces: &[u8]) {
     let too_long = fault_of(alloc, Kind::Steps, spaces);
@@ -246,7 +246,7 @@ fn cut_files(rt: HostRuntime) -> Result<(), Fail> {
     Ok(())
 }
 
-/// A file of each kind, with texts that are written with escapes.
+/// A file of each kind; the step file has texts that are written with escapes.
 const OF_EACH_KIND: [(Kind, &str); 3] = [
     (
         Kind::Steps,

@@ -53,7 +53,7 @@ const WRITE_SKEW: [Entry; 16] = [
     Entry::Committed(1, 2),
 ];
 
-/// One with a wrong reply aborts, another stays open.
+/// Two transactions get a wrong reply: one aborts, the other stays open.
 const WRONG_BUT_ABORTED: [Entry; 8] = [
     Entry::Began(0, 1),
     Entry::Asked(0, Op::Get(1)),
@@ -90,7 +90,7 @@ const WRONG_BUT_TAKEN_BACK: [Entry; 9] = [
     Entry::Committed(0, 1),
 ];
 
-/// A transaction goes back to a savepoint while another one writes beside it, and aborts.
+/// A transaction goes back to a savepoint and commits. Another one writes beside it, and aborts.
 const BACK_TO_A_SAVEPOINT: [Entry; 20] = [
     Entry::Began(0, 1),
     Entry::Asked(0, Op::Put(1, 10)),
@@ -114,7 +114,8 @@ const BACK_TO_A_SAVEPOINT: [Entry; 20] = [
     Entry::Aborted(1),
 ];
 
-/// Keys are put, put over, taken, and read by the next transaction; the last reads an old value.
+/// One transaction puts three keys. The next one takes the first, puts over the second and reads
+/// the third. The last one reads an old value.
 const NEW_KEYS: [Entry; 22] = [
     Entry::Began(0, 1),
     Entry::Asked(0, Op::Put(1, 10)),

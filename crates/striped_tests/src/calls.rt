@@ -32,7 +32,7 @@ pub(crate) enum Told {
 /// The place of a caller, what it is asked for, and what it must answer.
 pub(crate) type Row = (usize, Ask, Told);
 
-/// A key that had no value, and was given one or looked up.
+/// The reply to an operation on a key that had no value.
 pub(crate) const NEW: Told = Told::Replied(None);
 
 /// Does an operation.

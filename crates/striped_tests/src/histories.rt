@@ -22,7 +22,8 @@ use txn_words::{Entry, Holder, Op};
 enum Plan {
     /// Each runs four transactions that look random.
     Drawn,
-    /// Each puts, takes and puts each of a hundred keys that no other has, in a transaction each.
+    /// Each has a hundred keys that no other has. It puts, takes and puts each of them, in one
+    /// transaction for each key.
     Scripts,
 }
 
@@ -386,7 +387,8 @@ impl Merge {
     }
 }
 
-/// Feeds entries of callers below 64; whether all are. Transactions are numbered here.
+/// Feeds the entries up to the first of a caller that is not below 64; whether there is none.
+/// Transactions are numbered here.
 fn feed_all(checker: &mut Checker, lines: &[Line]) -> Result<bool, AllocError> {
     let mut begun = 0u64;
     for line in lines {
@@ -451,7 +453,7 @@ fn run_and_judge<R: Threads + Wait + Abort + Sync>(
     commits.expect(rt, "memory")
 }
 
-/// Callers of a new map run so.
+/// The callers of a new map run by the plan. Answers as `run_and_judge` does.
 fn commits_of<R: Threads + Wait + Abort + Sync>(
     rt: &R,
     alloc: Global,

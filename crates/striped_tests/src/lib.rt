@@ -1,5 +1,6 @@
-//! Tests of `striped_map` and `sided_caller`: what no contract says, that each call succeeds while
-//! there is memory, and worked runs of callers side by side with their values.
+//! Tests of `striped_map` and `sided_caller`, and of `transfer` of `accounts`. They test what no
+//! contract says: that each call succeeds while there is memory. Worked runs have callers side by
+//! side, with their values.
 //!
 //! They are not in the crates of the map, whose proofs would then be run twice. A device is a
 //! function without a clause: it makes one call and tells what it answered.

@@ -90,7 +90,8 @@ const NO_KEYS: &[Row] = &[
     (0, Ask::Abort, Told::Done),
 ];
 
-/// Puts a thousand rising keys, each in a separate transaction, and half as many again in one.
+/// Puts a thousand rising keys, each in a separate transaction, and then 500 more in one
+/// transaction.
 fn put_a_thousand<R: Abort>(rt: &R, home: &mut Home) {
     for key in 0..1_000u64 {
         let rows = [
@@ -249,7 +250,7 @@ fn a_thousand_savepoints(rt: HostRuntime) {
     play_savepoints(&rt, &mut open(&rt, rt.alloc(), 1, 1));
 }
 
-/// The pairs that are there before a hundred thousand keys are put, two of which are among them.
+/// The two pairs that are there before a hundred thousand keys are put. Their keys are among those.
 const FEW: &[Row] = &[
     (0, Ask::Begin, Told::Done),
     (0, Ask::Do(Op::Put(7, 70)), NEW),
@@ -352,7 +353,7 @@ fn sees<R: Abort>(rt: &R, home: &mut Home, wanted: &[(u64, u64)]) {
     assert!(rt; is_seen);
 }
 
-/// Puts the pairs, which are there before the commit to the caller and after it to the host.
+/// Puts the pairs. The caller sees them before the commit, and the host after it.
 fn play_scattered<R: Abort>(rt: &R, home: &mut Home, wanted: &[(u64, u64)]) {
     put_scattered(rt, home);
     sees(rt, home, wanted);

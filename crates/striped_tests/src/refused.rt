@@ -70,7 +70,7 @@ const CALLS: &[Row] = &[
     (0, Ask::Commit, Told::Number(1)),
 ];
 
-/// Puts twenty keys, within which the part grows, and takes half of them.
+/// Puts twenty keys, for which a part without room grows, and takes half of them.
 const GROWS: &[Row] = &[
     (0, Ask::Begin, Told::Done),
     (0, Ask::Do(Op::Put(10, 10)), NEW),

@@ -188,8 +188,8 @@ static NINE_UNDONE: Worked<'static> = Worked {
     left: &[],
 };
 
-/// The refusals of a caller in each phase. A busy stripe ends the transaction; none of its calls
-/// finds a stripe busy that the caller itself holds.
+/// The refusals of a caller in each phase. A busy stripe ends the transaction. No call finds a
+/// stripe busy that its own caller holds.
 static REFUSALS_IN_ORDER: Worked<'static> = Worked {
     stripes: 4,
     callers: 2,

@@ -260,8 +260,8 @@ static EACH_CALL: Worked<'static> = Worked {
     left: &[(2, 20)],
 };
 
-/// The refusals of a caller without a transaction and within one. The side value is unchanged, also
-/// as a change outside of a transaction left it.
+/// The refusals of a caller without a transaction and within one. They leave the side value
+/// unchanged, also one that a change outside of a transaction has set.
 static REFUSALS: Worked<'static> = Worked {
     callers: 1,
     rows: &[
@@ -470,7 +470,7 @@ fn handed_back_in_a_transaction(rt: HostRuntime) {
     play_handed_back(&rt, rt.alloc(), &mut open(&rt, rt.alloc(), 4, 1));
 }
 
-/// Begins, and puts the key at itself and in the side value.
+/// Begins, puts the key with itself as its value, and gives the side value the words of the key.
 fn begins(caller: &mut Sided, key: u64) -> Result<(), Stop>
     ensures same_map { OnOk result (caller.new.caller.map.value ≡ caller.old.caller.map.value) }
 {

@@ -62,7 +62,8 @@ type Line = (Call, Answer);
 /// A key that was not there.
 const NONE: Answer = Answer::Replied(None);
 
-/// Each kind of call, over the pair (1, 5) that was there; the last takes every stripe.
+/// Each kind of call, over the pair (1, 5) that was there. `Empty`, `Len` and `Pairs` take every
+/// stripe.
 const CALLS: &[Line] = &[
     (Call::Do(Op::Get(1)), Answer::Replied(Some(5))),
     (Call::Has(1), Answer::Is(true)),
@@ -132,7 +133,7 @@ fn ask_and_end<R: Abort>(
     end_so(t, end)
 }
 
-/// Begins a transaction, and does so.
+/// Begins a transaction, asks it as the table says, and ends it.
 fn play_value<R: Abort>(
     rt: &R,
     caller: &mut Caller,

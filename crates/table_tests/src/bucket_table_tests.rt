@@ -79,7 +79,7 @@ fn help_few_keys(rt: &impl Abort, home: &mut Home) {
     }
 }
 
-/// The doublings with four keys, and with five.
+/// The doublings with five keys.
 const DOUBLINGS: [(Call, Answer); 3] = [
     (Call::Double(2), Answer::Double(Double::Doubled(4))),
     (Call::Double(2), Answer::Double(Double::Moved(4))),
@@ -102,7 +102,8 @@ fn has_five_keys(rt: &impl Abort, home: &mut Home) -> bool {
     true
 }
 
-/// Buckets 1 and 3 are initialised by two helpers in turn.
+/// Four refused calls; then helper 0 initialises bucket 1, and both helpers initialise bucket 3 in
+/// turn.
 const INITIALISED: [(Call, Answer); 16] = [
     (
         Call::Seek(0, 3),
@@ -193,7 +194,7 @@ fn nodes_after_initialisation(rt: HostRuntime) {
     nodes_are(&rt, &mut home_for_two(rt.alloc()).expect(&rt, "a table"));
 }
 
-/// A list that has given all stamps but one.
+/// Calls on a list that has no stamp left.
 const STAMPS_USED_UP: [(Call, Answer); 5] = [
     (Call::Seek(0, 1), Answer::Seek(Ok(InitSeek::Placed))),
     (Call::Link(0), Answer::Link(Err(InitRefusal::StampsUsedUp))),

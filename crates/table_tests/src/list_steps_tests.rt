@@ -157,8 +157,8 @@ fn link_fitting(
     }
 }
 
-/// Links a spare of a key at a cursor that does not fit: it is returned, and is linked at a new
-/// cursor, which is behind the last node.
+/// Tries to link a spare of a key at a cursor that does not fit: `link` returns the spare. Then
+/// links it at a new cursor, which is behind the last node.
 fn link_stale(
     list: &mut NodeList,
     cursor: Cursor,
@@ -220,7 +220,8 @@ fn take_there(list: &mut NodeList, number: u64) -> Result<Answer, Fail> {
 }
 
 /// Writes the value of a key that is there and marks its node, both at one cursor, which fits until
-/// then. Answers the value before, the one in between, and the one of the mark.
+/// the mark. Answers the value before the write, the value after it, and the value that the mark
+/// answers.
 fn write_and_take(list: &mut NodeList, number: u64, value: u64) -> Result<Answer, Fail> {
     let at = at(number);
     let cursor = seek_from_head(list, at);
@@ -521,8 +522,8 @@ fn plain_nodes(alloc: Global, plain: &[Plain; 8]) -> Result<Vec<(Kind, u64, bool
     Ok(nodes)
 }
 
-/// The split key at which the marked nodes of a plain list begin. Keys below 8 are in different
-/// regions.
+/// The split key at which the marked nodes of a plain list begin. Marks are counted by region of
+/// 2^52 split keys, and keys below 8 are in different regions.
 fn plain_marks_begin(plain: &[Plain; 8]) -> Option<u64> {
     for (rank, state) in plain.iter().enumerate() {
         if *state == Plain::Marked {

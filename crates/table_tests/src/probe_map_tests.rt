@@ -1,14 +1,15 @@
 //! Tests of `probe_map`: drawn calls compared with a plain list, keys that share a home, growth,
 //! removed keys, and refused allocations. No contract says that room is made while there is memory.
-//! Contracts hide the slots, so keys are chosen here whose homes are the first and the last.
+//! Contracts hide the slots, so keys are chosen here whose homes (the slots at which a probe
+//! begins) are the first slot and the last.
 use crate::draws::{Draws, draw};
 use probe_map::ProbeMap;
 use std::alloc::{AllocError, Global};
 use std::process::Abort;
 use std::test::Fail;
 
-/// A key whose product with the map's multiplier is 1, so that a small multiple of it has the first
-/// slot as its home, and the opposite of one the last slot.
+/// A key whose product with the map's multiplier is 1, modulo 2^64. So the home of a small multiple
+/// of it is the first slot, and that of the negative of one the last slot.
 const APART: u64 = 0xf1de_83e1_9937_733d;
 
 /// Makes room for a key, and asks once more if memory is refused: the map is unchanged then.
@@ -257,8 +258,8 @@ fn put_and_remove(rt: &impl Abort, map: &mut ProbeMap) -> Result<(), Fail> {
     Ok(())
 }
 
-/// Keys that are removed take no room for good: of 100,000 keys ten are there at a time. The
-/// largest allocation is that of 64 slots, which docs/tests/refused.py looks at.
+/// Keys that are removed take no room for good: of 100,000 keys at most eleven are there at a time.
+/// The largest allocation is that of 64 slots, which docs/tests/refused.py looks at.
 #[test]
 fn removed_keys(rt: HostRuntime) -> Result<(), Fail> {
     put_and_remove(&rt, &mut ProbeMap::new(rt.alloc()))

@@ -39,7 +39,7 @@ fn answer(call: Call) -> Result<Option<u64>, Fail> {
     }
 }
 
-/// The split key of the key with this number, if `number` answers it again.
+/// The split key of the key with this number. Fails if the key answers another `number`.
 fn split_of_number(number: u64) -> Result<u64, Fail> {
     let key = Key::new(number);
     if key.number() != number {

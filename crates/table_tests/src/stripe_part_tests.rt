@@ -44,7 +44,8 @@ fn set(plain: &mut Plain, key: u64, value: Option<u64>) -> Result<(), Fail> {
     Ok(())
 }
 
-/// The value to which an operation sets its key, if it changes a key with this value.
+/// What an operation makes of its key, which has the value `was`: a value, or none if it removes
+/// the key. `None` if it changes nothing.
 fn setting(op: Op, was: Option<u64>) -> Option<Option<u64>> {
     match op {
         Op::Put(_, value) => Some(Some(value)),
@@ -71,7 +72,7 @@ fn do_plain(plain: &mut Plain, op: Op) -> Result<Reply, Fail> {
     Ok(was)
 }
 
-/// A drawn operation on one of the keys below a limit, and on those that are higher by 2^63.
+/// A drawn operation on a key below a limit, or on one that is higher by 2^63.
 fn draw_op(draws: &mut Draws, keys: u64) -> Op {
     let high = draw(draws, 2) << 63;
     let key = high | draw(draws, keys);
@@ -236,7 +237,7 @@ fn put_keys(rt: &impl Abort, alloc: Global, one: &mut Logged, keys: u64) -> Resu
     Ok(())
 }
 
-/// Takes the keys from one on.
+/// Takes the keys from `first` up to `end`, without `end`.
 fn take_keys(
     rt: &impl Abort,
     alloc: Global,

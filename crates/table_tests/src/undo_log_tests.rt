@@ -33,7 +33,8 @@ fn is_refused(alloc: Global) -> bool {
     Box::new(alloc, 0).is_err()
 }
 
-/// Whether it pushed the job, after asking for room twice if memory is refused once.
+/// Pushes the job of this number, and asks for room twice if memory is refused once. Answers
+/// whether the job was pushed.
 fn is_pushed(rt: &impl Abort, log: &mut UndoLog<Raised>, number: u64) -> bool {
     let jobs = log.len();
     if log.reserve_one().is_err() {

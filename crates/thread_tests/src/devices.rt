@@ -1,6 +1,6 @@
 //! Shared parts of the tests: a map under its own ledger, its calls and its end, each in one
 //! function. `Shared` keeps the number of its ledger's parts, which `close` requires, so a test
-//! closes a map without a clause. A part for tests with refused memory asks twice.
+//! closes a map without a clause. The functions for tests with refused memory ask for memory twice.
 ghost use Rattle.std.specs.Prelude.{◌≡◌, ◌<◌, true, All};
 ghost use Rattle.txn_words.specs.Kinds.{caller_of};
 

@@ -1,6 +1,7 @@
 //! The calls of a gate, all of them and in their order, compared with tables made by hand: no
-//! contract counts the calls of a caller's own type. `run_tests` has a gate that forces an order;
-//! the one here also notes what it is told. The calls of two workers are compared worker by worker.
+//! contract counts the calls on a type that the user of a library brings. `run_tests` has a gate
+//! that forces an order; the one here also notes what it is told. The calls of two workers are
+//! compared worker by worker.
 use crate::run_tests::{await_flag, put, run, scripts_of};
 use std::alloc::{AllocError, Global};
 use std::process::Abort;

@@ -113,7 +113,8 @@ impl<R: Abort + Clock + Sync> Gate for Meeting<'_, R> {
     }
 }
 
-/// The commit number of a script that is committed with no reply to any operation, else 0.
+/// The commit number of a script that is committed, and whose operations all found keys without a
+/// value; else 0.
 fn place_of(outcome: &Outcome) -> u64 {
     match outcome {
         Outcome::Committed { place, replies, .. } if replies.iter().all(|r| r.is_none()) => *place,
@@ -121,7 +122,8 @@ fn place_of(outcome: &Outcome) -> u64 {
     }
 }
 
-/// Two workers with a script each; worker 1 commits first, though worker 0 began.
+/// Two workers with a script each. Worker 1 commits first, while the transaction of worker 0 is
+/// open.
 fn meet<R: Threads + Wait + Abort + Clock + Sync>(
     rt: &R,
     alloc: Global,
@@ -149,8 +151,8 @@ fn crossing_scripts(alloc: Global) -> Result<Vec<Script>, AllocError> {
     scripts_of(alloc, [first.as_slice(), second.as_slice()].as_slice())
 }
 
-/// Worker 1's second action waits for worker 0's second action to begin, and that for worker 1's
-/// script to be done.
+/// Worker 1 waits before its second action until worker 0 is about to do its second action. Worker
+/// 0 waits there until worker 1's script is done.
 #[test]
 fn crossing_gate(rt: HostRuntime) -> Result<(), Fail> {
     let scripts = crossing_scripts(rt.alloc())?;

@@ -12,7 +12,8 @@ use std::test::Fail;
 use std::thread;
 use std::thread::Threads;
 
-/// A seat that has done nothing, at its words, and the number of these.
+/// A seat that has done nothing: its words, the number of stripes that these have, and its own
+/// number.
 #[derive(Drop)]
 struct Fresh {
     words: Arc<KeyWords, Global>,
@@ -140,8 +141,8 @@ fn take(seated: &mut Seated, stripe: usize) -> Option<u64> {
     }
 }
 
-/// Gives back the right that was granted last. Answers whether there is one: the stripe's word is
-/// the seat's own.
+/// Gives back the right that was granted last, if there is one and the stripe's word is the seat's
+/// own. Answers whether it did.
 fn give(seated: &mut Seated) -> bool {
     let Some(right) = seated.right.take() else {
         return false;
@@ -159,8 +160,7 @@ fn give(seated: &mut Seated) -> bool {
     }
 }
 
-/// A seat takes stripe 1 and finds its own word there, as the other one does until the stripe is
-/// given back.
+/// A seat takes stripe 1. Until it gives the stripe back, both seats find its word there.
 #[test]
 fn words_of_stripes(rt: HostRuntime) -> Result<(), Fail> {
     let mut seats = seats_of(rt.alloc(), 8, 2)?;
@@ -256,7 +256,8 @@ fn take_and_give_back_by_all<R: Threads + Wait + Abort + Sync>(rt: &R, seats: &m
     });
 }
 
-/// The first seat is then granted each stripe.
+/// After eight threads have taken stripes and given them back, the first seat is granted each
+/// stripe.
 #[test]
 fn eight_threads_leave_all_words_free(rt: HostRuntime) -> Result<(), Fail> {
     let mut seats = seats_of(rt.alloc(), 64, 8)?;

@@ -153,7 +153,8 @@ fn grow(rt: &impl Abort, map: &mut OwnedMap) {
     assert_eq!(rt; counts_of(map), (0, 2, true));
     let count = fill(rt, map);
     if count == KEYS {
-        // It doubles if there are more than two keys for each bucket: at 6, 10, 18 and 34.
+        // A bucket is due for every two keys, and the table doubles if the next bucket that is due
+        // is not below its size: at 6, 10, 18 and 34.
         assert_eq!(rt; counts_of(map), (40, 32, false));
     }
     has_keys(rt, map, count);

@@ -1,5 +1,5 @@
-//! Tests of transactions on the map with one owner at the limits of keys, values and savepoints. No
-//! contract says that a call at a limit does not give up. The tables are those of `lines`. The
+//! Tests of transactions on the map with one owner at the limits of keys, values and savepoints. By
+//! contract a call at a limit may give up; here none may. The tables are those of `lines`. The
 //! functions that are given a transaction have a clause, which the closure of `transact` needs.
 ghost use Rattle.std.specs.Prelude.{◌≡◌};
 ghost use Rattle.owned_map.specs.Keeps.{Keeps};

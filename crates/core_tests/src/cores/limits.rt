@@ -162,8 +162,8 @@ fn change_often(rt: &impl Abort, core: &mut Core, times: u64) -> Result<(), Fail
 /// Numbers of jobs in a log: as many as fit into the log itself, one more, and very many.
 static JOBS: [u64; 3] = [8, 9, 100_000];
 
-/// Caller 0 changes a key that is 0 this number of times in one transaction, and takes all changes
-/// back.
+/// Caller 0 changes key 5, whose value is 0, in its transaction as often as `times` says, and takes
+/// these changes back.
 fn jobs_are(rt: &impl Abort, core: &mut Core, times: u64) -> Result<(), Fail> {
     change_often(rt, core, times)?;
     assert_eq!(rt; operate(core, 0, Op::Get(5))?, Answer::Done(Some(times)));
@@ -182,7 +182,7 @@ fn logs_are(rt: &impl Abort, alloc: Global, core: &mut Core, rows: &[u64]) -> Re
     Ok(())
 }
 
-/// A key that is 0, and a savepoint.
+/// A key with the value 0, and a savepoint.
 const FIRST_VALUE: [(Call, Answer); 3] = [
     (Call::Step(Step::Begin(0)), Answer::Began(1)),
     (Call::Op(0, Op::Put(5, 0)), Answer::Done(None)),
@@ -240,8 +240,8 @@ const LAST_PLACE: [(Call, Answer); 7] = [
     (Call::Run(Step::Commit(0)), Answer::Committed(1)),
 ];
 
-/// A table of 65,536 buckets, each initialised by help, with 65,538 keys, and a run of more than
-/// 100,000 steps on it.
+/// A table that help has grown to 65,536 buckets, with 65,538 keys, and a run of more than 100,000
+/// steps on it.
 fn fill_and_run(rt: &impl Abort, alloc: Global, core: &mut Core) -> Result<(), Fail> {
     begin(rt, core)?;
     put_helped(rt, core, 65_538)?;

@@ -12,7 +12,8 @@ use txn_words::{Answer, Op, Step};
 /// The number of pairs on which the orders are tried, one after the other.
 const PAIRS: u64 = 24;
 
-/// The orders of two lists of seven steps: bit by bit, whose step is next.
+/// The orders of two lists of seven steps are the numbers below this one with seven bits set. They
+/// say, bit by bit, whose step is next.
 const ORDERS: u32 = 1 << 14;
 
 /// The operations of a caller on its own key, or on both keys of the pair.

@@ -1,6 +1,6 @@
-//! Operations that are asked for when stripes are words, on a core made by `Core::with_words`. A
-//! step cannot ask there, so this module asks with the right to a stripe or with its word. The
-//! answers and the history were worked out by hand.
+//! Operations that are asked for when stripes are words, on cores made by `Core::with_words` and
+//! `Core::with_capacity`. A step cannot ask there, so this module asks with the right to a stripe
+//! or with its word. The answers and the history were worked out by hand.
 use crate::devices::{core_of, is_history, limits_of, take_step};
 use boost_core::Core;
 use key_locks::StripeRight;
@@ -68,8 +68,9 @@ fn answer(core: &mut Core, right: &StripeRight, ask: Ask) -> Result<Answer, Fail
     }
 }
 
-/// Caller 0 puts with the right to stripe 1. Caller 1 finds its word there and is busy; a right to
-/// that stripe, the word of a caller that has never begun, and its own word are stale.
+/// Caller 0 puts with the right to stripe 1. For caller 1 a right to that stripe, the word of
+/// caller 2, which has never begun, and the word of caller 1 itself are stale. With the word of
+/// caller 0 it is busy.
 static ASKS: [(Ask, Answer); 11] = [
     (Ask::Step(Step::Begin(0)), Answer::Began(1)),
     (Ask::Right(0, Op::Put(1, 10)), Answer::Asked),

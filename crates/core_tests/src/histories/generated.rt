@@ -5,7 +5,7 @@ use super::plain::{self, Place};
 use std::alloc::{AllocError, Global};
 use txn_words::{Entry, Holder, Op};
 
-/// The callers of a history, if it has this number of them.
+/// The callers of a history, which has one to four of them: the first of these.
 const CALLERS: [u64; 4] = [0, 1, 7, 63];
 
 /// Numbers that a seed determines, by Knuth's linear congruential generator (MMIX).
@@ -45,7 +45,7 @@ impl Draws {
     }
 }
 
-/// A legal history of this number of entries, whose Busy entries name such a caller.
+/// A legal history of this number of entries. Its Busy entries name callers that `holder` allows.
 pub(super) fn legal_history(
     alloc: Global,
     draws: &mut Draws,

@@ -12,7 +12,7 @@ use txn_words::{Entry, Holder, Op, Reply};
 
 type Values = BTreeMap<u64, u64>;
 
-/// The state of a caller in the state table.
+/// The phase of a caller, by the rule of shape.
 #[derive(Clone, Copy, PartialEq, Eq)]
 pub(super) enum Place {
     Closed,
@@ -40,7 +40,7 @@ pub(super) fn last_of(
     Ok(entries)
 }
 
-/// The state of a caller after a transaction's entries: the last entry other than an Undone says
+/// The phase of a caller after a transaction's entries: the last entry other than an Undone says
 /// it.
 pub(super) fn place_after(entries: &[Entry]) -> Place {
     for entry in entries.iter().rev() {
@@ -127,7 +127,7 @@ pub(super) fn counts_of(history: &[Entry]) -> Counts {
     counts
 }
 
-/// Whether the state table has a row for one more entry, and its number is right.
+/// Whether the rule of shape has a row for one more entry, and the number of that entry is right.
 fn has_shape(alloc: Global, history: &[Entry], entry: &Entry) -> Result<bool, AllocError> {
     let entries = last_of(alloc, entry.caller(), history)?;
     let kept = standing_at_levels(alloc, &entries)?;

@@ -12,7 +12,8 @@ pub const CHECKED: &str =
     [\"leave\",1,null],[\"undone\",1],[\"aborted\",1],[\"began\",0,3],[\"asked\",0,\"get\",1],\
     [\"did\",0,10],[\"committed\",0,2]]}";
 
-/// The history `CHECKED` with gaps for the last reply and for the step that takes back.
+/// The history `CHECKED` with gaps for the last reply and for the entry of the change that is taken
+/// back.
 const CHECKED_OF: &str =
     "{\"version\":1,\"stripes\":8,\"entries\":[[\"began\",0,1],[\"asked\",0,\"put\",1,10],\
     [\"did\",0,null],[\"committed\",0,1],[\"began\",1,2],[\"asked\",1,\"put\",1,99],[\"did\",1,10],\
@@ -39,7 +40,7 @@ const IN_VERSION: &str = r#"{"version":@,"stripes":8,"entries":[#]}"#;
 
 /// History files, and the output for each.
 pub const FILES: &[Files] = &[
-    // `checker_replies`; and a wrong shape behind it.
+    // Replies, as `checker_replies` in `crates/txn_trace/proofs/Cases.antt`; and a wrong entry.
     Files {
         command: Command::Check,
         frame: CHECKED_OF,
@@ -97,7 +98,7 @@ pub const FILES: &[Files] = &[
         printed: "refused 22\n",
         status: 3,
     },
-    // `checker_locks`.
+    // Locks.
     Files {
         command: Command::Check,
         frame: OF_EIGHT,
@@ -115,7 +116,7 @@ pub const FILES: &[Files] = &[
         printed: "illegal entry 1 rule 2\n",
         status: 1,
     },
-    // `forged_histories`.
+    // Forged histories.
     Files {
         command: Command::Check,
         frame: OF_EIGHT,
@@ -180,8 +181,8 @@ pub const FILES: &[Files] = &[
         printed: "refused 22\n",
         status: 3,
     },
-    // `put_if_history`: a change by `put_if` is taken back once, a `put_if` that changed nothing
-    // never.
+    // `put_if_history` of `crates/txn_trace/proofs/WideCases.antt`: a change by `put_if` is taken
+    // back once, a `put_if` that changed nothing never.
     Files {
         command: Command::Check,
         frame: OF_VERSION_2,
@@ -227,8 +228,8 @@ pub const FILES: &[Files] = &[
         printed: "refused 22\n",
         status: 3,
     },
-    // `holder_has_begun`: a Busy that names a caller which holds nothing now. The version says
-    // whether it may.
+    // `holder_has_begun` of `crates/txn_trace/proofs/HolderCases.antt`: a Busy that names a caller
+    // which holds nothing now. The version says whether it may.
     Files {
         command: Command::Check,
         frame: IN_VERSION,

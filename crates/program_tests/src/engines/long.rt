@@ -10,10 +10,10 @@ use std::io::Write;
 use std::process::Abort;
 use std::test::Fail;
 
-/// Numbers of puts, each with the least and the greatest number of further digits: those that the
-/// keys of the four gets have together, beside one each. With the first number of puts the last
-/// entry ends within 10 bytes of the border of a piece, so the end of the line is before it or
-/// behind it. With the second the border is at each byte of an entry.
+/// Numbers of puts, each with the least and the greatest number of further digits. The keys of the
+/// four gets have together four digits and the further ones. With the first number of puts the last
+/// entry ends within 10 bytes of the border of a piece, so the end of the line is before the border
+/// or behind it. With the second the border is at each byte of an entry in turn.
 const LENGTHS: [(u64, u32, u32); 2] = [(1916, 36, 56), (1930, 0, 36)];
 
 /// The number of puts whose history fills two pieces and a part.
@@ -63,7 +63,8 @@ impl Write for Expecting<'_> {
     }
 }
 
-/// The key of a get: a power of ten. All four together have this many digits beside one each.
+/// The key of a get: a power of ten. The keys of the four gets have together this many digits and
+/// four more.
 fn key(get: u32, digits: u32) -> u64 {
     let more = digits.saturating_sub(get.saturating_mul(18)).min(18);
     10u64.checked_pow(more).unwrap_or(0)

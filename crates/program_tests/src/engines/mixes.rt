@@ -107,7 +107,7 @@ const THREE_WORKERS: &str =
     10],[\"put\",2,20]],[[\"put\",2,21],[\"take\",1]],[[\"get\",1],[\"save\"],[\"put\",3,30],\
     [\"back\",1]],[[\"take\",2],[\"help\",5]],[[\"put\",4,40],[\"abort\"]],[[\"get\",2]]]}";
 
-/// The empty history is legal and plays scripts as they are asked for, but is not printed.
+/// The empty history: it is legal and plays scripts as the contract asks, but must not be printed.
 const NOTHING: &str = "{\"entries\":[],\"stripes\":2,\"version\":1}\n";
 
 /// The output of `mix` for three workers.

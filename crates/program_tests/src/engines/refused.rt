@@ -1,8 +1,9 @@
 //! Callers of a core that is refused memory: in one test five take their changes back in turn, in
 //! the other a caller acts at its cursor after another's refused step. The tests call the core and
 //! not an engine, since an engine does not show the core between its steps. The first compares the
-//! entries, the numbers of buckets, keys and owed entries, the pairs and, after the changes, the
-//! holders of stripes with what a table of entries gives; then the checker judges the history.
+//! core with what a table of entries gives: the entries, the numbers of buckets, keys and owed
+//! entries, the pairs and, after the changes, the holders of stripes. Then the checker judges the
+//! history.
 
 use boost_core::Core;
 use history_check::{Verdict, check};

@@ -38,7 +38,7 @@ const PUT_IF: &str =
 
 /// Step files, and the output for each.
 pub const FILES: &[Files] = &[
-    // `empty_file`; and too many callers.
+    // No steps; and too many callers.
     Files {
         command: Command::Replay,
         frame: EMPTY_FILE,
@@ -55,7 +55,7 @@ pub const FILES: &[Files] = &[
         printed: "refused 22\n",
         status: 3,
     },
-    // `first_commit`.
+    // The steps of `examples/first_commit.json`.
     Files {
         command: Command::Replay,
         frame: FIRST_COMMIT_OF,
@@ -64,7 +64,7 @@ pub const FILES: &[Files] = &[
         printed: FIRST_REPORT,
         status: 0,
     },
-    // `bad_input`: a file that ends too early, a step whose number is a text, and too many callers;
+    // Bad input: a file that ends too early, a step whose number is a text, and too many callers;
     // and other similar files.
     Files {
         command: Command::Replay,
@@ -99,8 +99,8 @@ pub const FILES: &[Files] = &[
         printed: "refused 21\n",
         status: 3,
     },
-    // `wrong_shapes`: wrong numbers, a missing member, another version, a wrong step before too
-    // many callers, and a member that no step file has.
+    // Wrong shapes: wrong numbers, a missing member, another version, a wrong step before too many
+    // callers, and a member that no step file has.
     Files {
         command: Command::Replay,
         frame: MEMBERS_OF,

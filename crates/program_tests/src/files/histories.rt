@@ -169,7 +169,7 @@ fn contents_of_histories(rt: HostRuntime) -> Result<(), Fail> {
     Ok(())
 }
 
-/// Histories with the same kind of fault.
+/// Groups of history files: the files of a group have the same fault, or none.
 pub const FILES: &[Files] = &[
     Files {
         kind: Kind::History,
@@ -208,7 +208,8 @@ pub const FILES: &[Files] = &[
         fillings: "",
         fault: Some(FileFault::Limit),
     },
-    // The caller and the stripes are out of range, which is found only after the entries.
+    // The caller of the first entry is out of range, and with the filling 0 the stripes are too:
+    // both are found only after the entries.
     Files {
         kind: Kind::History,
         frame: BETWEEN_ENTRIES,

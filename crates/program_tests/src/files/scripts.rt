@@ -21,8 +21,8 @@ const BETWEEN_SCRIPTS: &str =
     "{\"version\":@,\"workers\":1,\"stripes\":2,\"buckets\":8,\"tries\":3,\"scripts\":[[],\
     [[\"get\",1]],#,[0]]}";
 
-/// Files with a gap for scripts, or for the actions of a script; and those with a wrong one behind
-/// it.
+/// Files with a gap for scripts, or for the actions of a script. The last two have a wrong script
+/// or action behind the gap.
 pub const SCRIPTS: &str =
     r#"{"version":1,"workers":1,"stripes":2,"buckets":8,"tries":3,"scripts":[#]}"#;
 
@@ -156,7 +156,7 @@ fn contents_of_script_files(rt: HostRuntime) -> Result<(), Fail> {
     gives_back(&rt, rt.alloc(), &[Action::Save, Action::Back(0)])
 }
 
-/// Script files with the same kind of fault.
+/// Groups of script files: the files of a group have the same fault, or none.
 pub const FILES: &[Files] = &[
     Files {
         kind: Kind::Scripts,

@@ -80,10 +80,10 @@ fn put_all(
     Ok(())
 }
 
-/// The call that is refused memory after these pairs were put.
+/// The call that may be refused memory.
 #[derive(Clone, Copy)]
 enum Refused {
-    /// One of the puts.
+    /// One of the puts of the pairs.
     Puts,
     /// The preparation of a take, beside a prepared put.
     Preparation,
@@ -125,8 +125,8 @@ fn refused_memory_for_puts(rt: HostRuntime) -> Result<(), Fail> {
     refuse(&rt, rt.alloc(), &PAIRS, Refused::Puts)
 }
 
-/// Prepares a put of key 6, and then a take of key 2, which is done. If memory is refused to the
-/// take, the table is unchanged, and the put is done. Answers the pairs of the table.
+/// Prepares a put of key 6, and then prepares and does a take of key 2. If memory is refused to the
+/// take, the table is unchanged, and the put is done instead. Answers the pairs of the table.
 fn do_second(
     rt: &impl Abort,
     alloc: Global,

@@ -56,8 +56,8 @@ enum Step {
     TakeBack,
     /// Takes the one key that is there, and takes that back.
     TakeThereAndBack(u64),
-    /// Prepares and places a put, puts value 40 at key 4, reads the key, and then does the put;
-    /// keeps both jobs, that of key 4 as the newer one.
+    /// Prepares and places a put, puts value 40 at key 4, reads the key of the first put, and then
+    /// does that put. Keeps both jobs, that of key 4 as the newer one.
     PutLate(u64, u64),
     /// Looks at the newest of the jobs that are kept.
     Newest,
@@ -244,7 +244,8 @@ fn keep_unput(jobs: &mut Vec<MapJob>, job: Option<MapJob>) -> Result<(), Fail> {
     Ok(())
 }
 
-/// Prepares and places a put, puts value 40 at key 4, reads the key, and then does the put.
+/// Prepares and places a put, puts value 40 at key 4, reads the key of the first put, and then does
+/// that put.
 fn put_late(
     table: &mut Table,
     jobs: &mut Vec<MapJob>,

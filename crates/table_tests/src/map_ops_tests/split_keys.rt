@@ -16,8 +16,8 @@ fn are_put(table: &mut Table, key: u64) -> Result<bool, Refusal> {
     Ok(higher.is_none() && do_at_once(table, Op::Put(key, key))?.is_none())
 }
 
-/// Takes a key out, and changes it and the higher one and takes that back. Answers whether each
-/// reply is that of the right key.
+/// Takes a key out. Then changes it and the higher one, and takes each of these changes back.
+/// Answers whether each reply is that of the right key.
 fn is_one_taken(table: &mut Table, key: u64) -> Result<bool, Refusal> {
     let (high, value) = (key.wrapping_add(HALF), key.wrapping_add(100));
     let low_replies = [

@@ -118,7 +118,8 @@ fn lay_core<L: Ledger>(rt: &impl Abort, booked: &mut Booked<L>, core: Core) {
     assert!(rt; booked.core.words() && booked.core.trace().is_empty());
 }
 
-/// Begins a transaction with a core of 4 stripes under the lock, and with one of 8.
+/// Tries to begin a transaction with a core of 4 stripes under the lock, and then with one of 8.
+/// Both are refused.
 fn begin_with_others<L: Ledger, R: Abort>(
     rt: &R,
     alloc: Global,

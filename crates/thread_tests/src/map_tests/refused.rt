@@ -74,7 +74,8 @@ fn give_up<L: Ledger, R: Wait + Abort>(
 }
 
 /// Calls that are made up to the first that is refused memory twice; then all callers give up. If a
-/// call was refused so, no key is left, and if none was, one key, with this number of entries.
+/// call was refused so, no key is left. If none was, one key is left, and the history has this
+/// number of entries.
 #[derive(Drop)]
 struct Refused {
     calls: &'static [Wanted],

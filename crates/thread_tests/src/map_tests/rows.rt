@@ -43,8 +43,8 @@ pub(super) fn play_row<L: Ledger, R: Wait + Abort>(
     assert_eq!(rt; told, wanted, "caller {}: {call:?}", number_of(me));
 }
 
-/// Closes a map without caller 0, which is missing: map and caller 1 are returned. Then closes it
-/// with both.
+/// Tries to close a map without caller 0, which is missing: map and caller 1 are returned. Then
+/// closes it with both.
 fn close_missing_caller<L: Ledger, R: Abort>(
     rt: &R,
     alloc: Global,
@@ -147,9 +147,8 @@ fn figures_of<L: Ledger>(callers: &[Caller<L, NoSide>], place: usize) -> Option<
     Some((number_of(me), seen_by(me)))
 }
 
-/// Caller 1 finds caller 0's stripe held, begins again and commits first. The map is then closed
-/// without caller 0, which is missing, and with both: see `close_missing_caller` and
-/// `counted_entries`.
+/// Caller 1 finds caller 0's stripe held, begins again and commits first. The map then does not
+/// close without caller 0, and closes with both: see `close_missing_caller` and `counted_entries`.
 #[test]
 fn busy_between_callers(rt: HostRuntime) -> Result<(), Fail> {
     play_with(&rt, rt.alloc(), 2, &BusyBetween)

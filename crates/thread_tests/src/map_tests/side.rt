@@ -122,7 +122,7 @@ fn room_for_one<T: Drop>(alloc: Global) -> Option<Vec<T>> {
     Some(list)
 }
 
-/// Closes the map of a caller that has put nothing, which this list has room for.
+/// Closes the map of a caller that has put nothing. The list of callers has room for it.
 fn close_in<L: Ledger, S: Side, R: Abort>(
     rt: &R,
     alloc: Global,

@@ -41,7 +41,7 @@ fn put_four<L: Ledger, R: Wait + Abort>(rt: &R, shared: &Shared<L>, me: &mut Cal
     }
 }
 
-/// Caller 0 begins and puts 20 at key 2, whose releases of the lock are heard.
+/// Caller 0 begins, and puts 20 at key 2. `between` hears each release of the lock by the put.
 fn begin_and_put<L: Ledger, R: Wait + Abort>(
     rt: &R,
     shared: &Shared<L>,
@@ -53,7 +53,7 @@ fn begin_and_put<L: Ledger, R: Wait + Abort>(
     assert_eq!(rt; end, End::Answered(Answer::Done(None)));
 }
 
-/// Caller 0 begins and puts, and the other caller acts in between. It is returned.
+/// Caller 0 begins and puts, and the other caller acts in between. The other caller is returned.
 fn put_two<L: Ledger, R: Wait + Abort>(
     rt: &R,
     shared: &Shared<L>,

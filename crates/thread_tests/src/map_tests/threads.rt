@@ -25,7 +25,7 @@ enum Plan<'a> {
     /// Each makes its calls of these, and its thread begins when that of the caller before has
     /// ended.
     InTurn(&'a [Row]),
-    /// All make calls at the same time that look random, by a seed.
+    /// All make calls at the same time. The calls look random, by a seed.
     AtOnce(u64),
 }
 
