@@ -83,7 +83,8 @@ impl Callers {
             .count() as u64
     }
 
-    /// Whether the entry has the right shape: it follows the state table, and has the right number.
+    /// Whether the entry has the right shape: the rule of shape (`row` of `txn_words`) has a row for
+    /// it after its caller's entries, and its number is right.
     ///
     /// # Cost
     ///

@@ -2,7 +2,7 @@
 //!
 //! A history is a list of `txn_trace`'s entries. It is legal if each open transaction has the
 //! replies of running alone after the committed ones, a stripe of keys belongs to one open
-//! transaction at a time, and each caller's entries follow the state table: `IsLegal` of
+//! transaction at a time, and each caller's entries have the right shape: `IsLegal` of
 //! `txn_trace`. In the usual terms these are serializability in the order of commits (which open
 //! transactions must have too), strict two-phase locking of stripes, and well-formed callers. The
 //! checker says whether a history is legal, and if it is not, names the first entry that breaks a

@@ -16,8 +16,8 @@ pub enum Rule {
     /// A stripe of keys belongs to one open transaction at a time: an Asked finds no other holder,
     /// and a Busy names another caller that holds the stripe, or that has begun a transaction.
     Locks = 2,
-    /// Each caller's entries follow the state table, and transactions and commits are numbered from
-    /// 1.
+    /// Each caller's entries have the right shape (`row` of `txn_words`), and transactions and
+    /// commits are numbered from 1.
     Shape = 3,
 }
 

@@ -2,7 +2,7 @@
 //!
 //! A history, a list of `txn_trace`'s entries, is serializable in the order of its commits if each
 //! transaction that commits has the replies of running alone on the map of those that committed
-//! before it, and if each caller's entries follow the state table: `IsSerializable`. The rule of
+//! before it, and if each caller's entries have the right shape: `IsSerializable`. The rule of
 //! shape is that of `history_check`; there is no rule of locks, and transactions that abort or stay
 //! open may have read anything. So it judges stores whose readers share locks or that validate at
 //! the commit (optimistic, or multi-version), while `history_check` judges those that lock each key
