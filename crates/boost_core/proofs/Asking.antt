@@ -11,10 +11,10 @@ use Rattle.txn_words.specs.declared.op.Op.{Op}
 use Rattle.txn_words.specs.declared.refusal.Refusal.{Refusal}
 use Rattle.txn_words.specs.declared.refusal.Refusal.TheVariants as refusals
 use Rattle.txn_words.specs.Map.{key_of}
-use Rattle.txn_trace.specs.Locks.{stripe_of, is_locked, LocksHold}
+use Rattle.txn_trace.specs.Locks.{stripe_of, is_locked, LocksHold, holder_of}
 use Rattle.txn_trace.proofs.Now.{same_is}
 use Rattle.txn_trace.proofs.Holders.{is_locked-asked, is_locked-busy}
-use Rattle.map_ops.specs.Jobs.{takes_node}
+use Rattle.map_ops.specs.Jobs.{takes_node, PendingAt}
 use Rattle.map_ops.specs.Changes.{Prepares, IsRefused}
 use Rattle.txn_words.specs.declared.entry.Entry.TheVariants as entry
 use Rattle.txn_words.specs.declared.step.Step.{Step}
@@ -23,30 +23,26 @@ use Rattle.txn_words.specs.declared.answer.Answer.TheVariants as answers
 use Rattle.txn_trace.specs.Serial.{serial}
 use Rattle.txn_words.specs.Entries.{entries_of}
 use Rattle.txn_trace.specs.Now.{now}
-use Rattle.txn_trace.specs.Locks.{holder_of}
 use Rattle.txn_words.specs.declared.seat.Phase.{Phase}
 use Rattle.txn_words.specs.declared.seat.Phase.TheVariants.{Opened, Waiting, LeavingToEnd}
 use Rattle.txn_words.specs.Shape.{RoomySeat}
 use Rattle.txn_trace.proofs.Next.{Next}
 use Rattle.txn_trace.proofs.Entries as laws
 use Rattle.key_locks.specs.Locks.{holder_of as held_by}
-use Rattle.map_ops.specs.Jobs.{PendingAt}
 use Rattle.map_ops.specs.TableAt.{TableAt, Cursor, cursor_changes, map_of}
 use Rattle.boost_core.specs.declared.session.Session.{Session}
 use Rattle.boost_core.specs.State.{Owner, Caller, Helper, holder_by}
-use Rattle.boost_core.specs.Refusals.{refusal_of}
+use Rattle.boost_core.specs.Refusals.{refusal_of, has_stamp_for, MayLack}
 use Rattle.boost_core.specs.Spares.{times_of, times_in, times_out, IsCovered}
 use Rattle.boost_core.specs.Core.{World, Tells, IsFresh, state_of, session_changes, gap_if}
 use Rattle.boost_core.proofs.Numbers.{no_more}
-use Rattle.boost_core.proofs.Moves.{Runs, state_is, changes_same, gaps_same}
+use Rattle.boost_core.proofs.Moves.{Runs, state_is, changes_same, gaps_same, lacks}
 use Rattle.boost_core.proofs.Grow.{Stays, world_after, seated_as, set_cases}
 use Rattle.boost_core.proofs.Outcomes.{Comes, Called, CalledBy, move_is, same_world}
-use Rattle.boost_core.specs.Refusals.{has_stamp_for, MayLack}
 use Rattle.boost_core.specs.Answers.{may_stand}
 use Rattle.boost_core.specs.Machine.{Move}
 use Rattle.boost_core.specs.Words.{Claim, Lock, Goes}
 use Rattle.boost_core.specs.Sessions.{Side, side_of, target_in, IsSoughtAt, KeepsPlaced, Waits, spare_if, times_kept, StaysIn, AsksIn, MeetsIn}
-use Rattle.boost_core.proofs.Moves.{lacks}
 use Rattle.boost_core.proofs.Spares.{spent}
 use Rattle.boost_core.proofs.Refused.{seat_free, ask_open, save_open}
 use Rattle.boost_core.proofs.Quiet.{idle_cursor, nothing_waits}

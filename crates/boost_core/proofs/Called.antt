@@ -14,7 +14,7 @@ use Rattle.map_ops.specs.TableAt.{TableAt, Cursor, cursor_changes, table_changes
 use Rattle.boost_core.specs.declared.counts.Counts.{Counts}
 use Rattle.boost_core.specs.declared.session.Session.{Session}
 use Rattle.boost_core.specs.State.{Caller, caller_changes}
-use Rattle.boost_core.specs.Refusals.{refusal_of}
+use Rattle.boost_core.specs.Refusals.{refusal_of, owner_of}
 use Rattle.boost_core.specs.Words.{Claim, Lock, Right, Held, Stale, IsClaim}
 use Rattle.boost_core.specs.Spares.{times_of, times_in, times_out}
 use Rattle.boost_core.specs.Core.{World, Tells, state_of, session_changes, all_times}
@@ -23,7 +23,6 @@ use Rattle.txn_words.specs.declared.refusal.Refusal.TheVariants as refusals
 use Rattle.txn_words.specs.Map.{key_of}
 use Rattle.txn_words.specs.declared.op.Op.{Op}
 use Rattle.txn_trace.specs.Locks.{stripe_of}
-use Rattle.boost_core.specs.Refusals.{owner_of}
 use Rattle.boost_core.specs.Sessions.{side_of, Does, ActsIn, ReturnsIn, Saves, IsAsked, AsksBy, unless_busy, KeepsPlaced, Takes, AreDue, spare_if, times_kept}
 use Rattle.boost_core.proofs.Spares.{owns_if}
 use Rattle.boost_core.proofs.Grow.{one_of_sum}

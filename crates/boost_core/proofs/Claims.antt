@@ -1,7 +1,7 @@
 -- An operation that is asked for when stripes are words: the outcome with a stale right, and with a
 -- word.
-use Rattle.std.proofs.Common.{◌≡◌, ℕ, ◌<◌, ◌==◌, ◌&&◌, ◌||◌, Bool, true, false, cond, List, [], ◌∷◌, ◌++◌, length, Option, Some, None, refl, sym, ap, subst, ◌∙◌, arith}
-use Rattle.std.specs.Prelude.{slice_get, slice_set, map, not, if◌then◌else◌}
+use Rattle.std.proofs.Common.{◌≡◌, ℕ, ◌<◌, ◌==◌, ◌&&◌, ◌||◌, Bool, true, cond, List, [], ◌∷◌, ◌++◌, length, Option, Some, None, refl, sym, ap, subst, ◌∙◌, arith}
+use Rattle.std.specs.Prelude.{slice_get, slice_set, map, not}
 use Rattle.std.specs.Option.{option_map}
 use Rattle.std.proofs.lemmas.Bool.{false≢true, and_from, eq-eqb, ne_eqb, or_left}
 use Rattle.std.proofs.lemmas.List.{append-nil}
@@ -16,7 +16,6 @@ use Rattle.txn_words.specs.declared.seat.Phase.{Phase}
 use Rattle.txn_words.specs.declared.seat.Phase.TheVariants.{Opened, LeavingToEnd}
 use Rattle.txn_words.specs.Map.{key_of}
 use Rattle.txn_trace.specs.Serial.{serial}
-use Rattle.txn_trace.specs.Now.{now}
 use Rattle.txn_trace.specs.Log.{log_of}
 use Rattle.txn_trace.specs.Locks.{stripe_of, holder_of}
 use Rattle.txn_words.specs.Shape.{RoomySeat}
@@ -25,10 +24,10 @@ use Rattle.txn_trace.proofs.Holders.{is_locked-asked}
 use Rattle.node_list.specs.Nodes.{node_of, next_of}
 use Rattle.list_steps.specs.Found.{fits as list_fits, pred_of, is_noted, is_next_noted}
 use Rattle.map_ops.specs.Jobs.{PendingAt}
-use Rattle.map_ops.specs.TableAt.{TableAt, Cursor, cursor_changes, fits, nodes_of, table_changes, last_of, map_of, helper_cursor}
+use Rattle.map_ops.specs.TableAt.{TableAt, Cursor, cursor_changes, fits, nodes_of, last_of, map_of, helper_cursor}
 use Rattle.map_ops.specs.Buckets.{helper_fits}
 use Rattle.boost_core.specs.declared.session.Session.{Session}
-use Rattle.boost_core.specs.State.{State, Owner, Caller, Helper, holder_by}
+use Rattle.boost_core.specs.State.{Owner, Caller, Helper, holder_by}
 use Rattle.boost_core.specs.Refusals.{refusal_of, has_stamp_for}
 use Rattle.boost_core.specs.Answers.{may_stand}
 use Rattle.boost_core.specs.Words.{Right, Held, Stale, is_taken}

@@ -1,10 +1,10 @@
 -- The jobs of a caller stay due while others work on other keys.
-use Rattle.std.proofs.Common.{◌≡◌, ℕ, ◌+◌, ◌==◌, true, false, cond, List, [], ◌∷◌, ◌++◌, length, Option, Some, None, is_some, refl, sym, ap, subst, ◌∙◌}
+use Rattle.std.proofs.Common.{◌≡◌, ℕ, ◌+◌, ◌==◌, true, false, cond, List, [], ◌∷◌, ◌++◌, Option, Some, None, is_some, refl, sym, ap, subst, ◌∙◌}
 use Rattle.std.specs.Prelude.{IsSome, map, reverse, option_to_list, nat_eq}
 use Rattle.std.specs.Option.{option_eq}
 use Rattle.std.specs.List.{AllByRecursion}
 use Rattle.std.proofs.lemmas.Bool.{cases_Bool, cases_eq, eq-eqb, ne_eqb}
-use Rattle.std.proofs.lemmas.List.{reverse-append, append-nil, length_push}
+use Rattle.std.proofs.lemmas.List.{reverse-append, append-nil}
 use mathlib.Core.Logic.{inl, inr}
 use Rattle.map_ops.specs.TableAt.{SpareAt}
 use Rattle.txn_words.specs.declared.op.Op.{Op}
@@ -92,11 +92,6 @@ changes_noted m op spare jobs None is = ap (λ b. cond b ((key_of op, reply_of m
 changes_noted m op spare jobs (Some job) is =
     ap (λ b. cond b ((key_of op, reply_of m op) ∷ changes_of jobs) (changes_of jobs)) is.is_change ∙ ap (λ (change : ℕ × Option ℕ). change ∷ changes_of jobs) (sym is.change)
     ∙ ap (map change_of) (sym (reverse-append jobs (job ∷ [])))
-
-pub standing_noted : (m : Map) (op : Op) (spare : Option SpareAt) (jobs : List MapJob) (job : Option MapJob) → NotedIf m op spare job
-    → cond (changes op (reply_of m op)) (length jobs + 1) (length jobs) ≡ length (jobs ++ option_to_list job)
-standing_noted m op spare jobs None is = ap (λ b. cond b (length jobs + 1) (length jobs)) is ∙ ap length (sym (append-nil jobs))
-standing_noted m op spare jobs (Some job) is = ap (λ b. cond b (length jobs + 1) (length jobs)) is.is_change ∙ sym (length_push jobs job)
 
 no_change : (m : Map) (op : Op) → changes op (reply_of m op) ≡ false → after m op ≡ m
 no_change m op same = after_unchanged m op (sym (changes-reply m op) ∙ same)

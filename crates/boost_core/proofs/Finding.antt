@@ -5,11 +5,10 @@ use Rattle.std.specs.Option.{option_map}
 use Rattle.std.proofs.lemmas.Bool.{false≢true, cases_Bool, cases_eq, ne_eqb, and_from, and_parts, eqb-true, ltb-true}
 use Rattle.std.proofs.lemmas.Option.{slice_get_within}
 use mathlib.Core.Logic.{inl, inr}
-use Rattle.map_ops.specs.TableAt.{fits}
+use Rattle.map_ops.specs.TableAt.{fits, TableAt, Cursor, cursor_changes, map_of, table_changes, IsPlaced}
 use Rattle.txn_words.specs.declared.step.Step.TheVariants as steps
 use Rattle.txn_words.specs.declared.answer.Answer.TheVariants as answers
 use Rattle.txn_words.specs.Seats.{has_target}
-use Rattle.map_ops.specs.TableAt.{TableAt, Cursor, cursor_changes, map_of, table_changes, IsPlaced}
 use Rattle.boost_core.specs.declared.session.Session.{Session}
 use Rattle.boost_core.specs.State.{Owner, Caller, Helper, seat_in, caller_changes}
 use Rattle.boost_core.specs.Refusals.{refusal_of}

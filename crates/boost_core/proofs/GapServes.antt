@@ -1,6 +1,6 @@
 -- The effect of each step that is no caller's on the cursors.
-use Rattle.std.proofs.Common.{◌≡◌, ◌≢◌, ℕ, Some, None, Result, Ok, Err, refl, sym, ap, subst, ◌∙◌}
-use Rattle.std.specs.Prelude.{slice_get, slice_index_or}
+use Rattle.std.proofs.Common.{◌≡◌, ◌≢◌, ℕ, Some, Result, Ok, Err, refl, sym, ap, subst}
+use Rattle.std.specs.Prelude.{slice_get}
 use Rattle.split_key.specs.Sort.{dummy_at}
 use Rattle.bucket_table.specs.Dummies.{dummy_node}
 use Rattle.txn_words.specs.declared.refusal.Refusal.{Refusal}
@@ -21,8 +21,8 @@ use Rattle.node_list.specs.Sound.{IsSound}
 use Rattle.boost_core.specs.State.{Caller, Helper}
 use Rattle.boost_core.specs.Nodes.{Cursors, Fits, KeepsGaps, mover_of}
 use Rattle.boost_core.specs.Serves as said
-use Rattle.boost_core.specs.Serves.{Serves, Linking}
-use Rattle.boost_core.specs.Core.{World, Tells, state_of, gap_if}
+use Rattle.boost_core.specs.Serves.{Serves}
+use Rattle.boost_core.specs.Core.{World, Tells, state_of}
 use Rattle.boost_core.proofs.Linking.{has_sought, fits_where, stale_where}
 use Rattle.boost_core.proofs.GapLists.{Stay, stay_same, stay_swept, stay_sought}
 use Rattle.boost_core.proofs.Gaps.{gap_kept}

@@ -3,9 +3,8 @@ use Rattle.std.proofs.Common.{◌≡◌, ℕ, ◌+◌, ◌-◌, ◌^◌, ◌≤�
 use Rattle.std.specs.Prelude.{not}
 use Rattle.std.proofs.lemmas.Bool.{eq-eqb, ne_eqb}
 use mathlib.Core.Logic.{inl, inr, ◌⊎◌}
-use Rattle.map_ops.specs.TableAt.{SpareAt}
-use Rattle.map_ops.specs.Changes.{GivesFor, OwnsIf}
-use Rattle.map_ops.specs.TableAt.{TableAt, last_of}
+use Rattle.map_ops.specs.TableAt.{SpareAt, TableAt, last_of}
+use Rattle.map_ops.specs.Changes.{GivesFor}
 use Rattle.boost_core.specs.Spares.{times_of, times_out, IsCovered}
 use Rattle.boost_core.proofs.Spares.{given}
 
@@ -23,13 +22,6 @@ given_spare t t' true None gives = absurd gives
 given_spare t t' true (Some spare) gives = refl
 given_spare t t' false None gives = refl
 given_spare t t' false (Some spare) gives = absurd gives
-
--- The spare belongs to the table.
-pub given_owned : (t t' : TableAt) (takes : Bool) (spare : Option SpareAt) → GivesFor t t' takes spare → OwnsIf t' spare
-given_owned t t' true None gives = absurd gives
-given_owned t t' true (Some spare) gives = gives.owned
-given_owned t t' false None gives = tt
-given_owned t t' false (Some spare) gives = absurd gives
 
 pub stamped : (t t' : TableAt) (takes : Bool) (spare : Option SpareAt) → GivesFor t t' takes spare → (not takes || not (last_of t == 2 ^ 64 - 2)) ≡ true
 stamped t t' true None gives = absurd gives

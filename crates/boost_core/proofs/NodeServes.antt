@@ -21,7 +21,7 @@ use Rattle.map_ops.specs.TableAt.{Help, Nothing, Sought, NamesDummies, nodes_of,
 use Rattle.boost_core.specs.State.{help_in, bucket_at}
 use Rattle.boost_core.specs.Nodes.{Links, Lists}
 use Rattle.boost_core.specs.Serves as said
-use Rattle.boost_core.specs.Serves.{Serves, Sweeping, Seeking, Linking}
+use Rattle.boost_core.specs.Serves.{Serves, Sweeping}
 use Rattle.boost_core.specs.Core.{World, state_of}
 use Rattle.boost_core.proofs.Linking.{has_sought}
 use Rattle.boost_core.proofs.NodeLists as lists

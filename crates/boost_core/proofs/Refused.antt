@@ -9,14 +9,14 @@ use Rattle.txn_words.specs.declared.op.Op.{Op}
 use Rattle.txn_words.specs.declared.refusal.Refusal.{Refusal}
 use Rattle.txn_words.specs.declared.refusal.Refusal.TheVariants.{NoSuchCaller, Unplaced}
 use Rattle.txn_words.specs.declared.step.Step.{Step}
-use Rattle.txn_words.specs.declared.step.Step.TheVariants.{Begin, Ask, Seek, Act, Save, Back, Commit, Abort}
+use Rattle.txn_words.specs.declared.step.Step.TheVariants.{Begin, Ask, Act, Save, Back, Commit, Abort}
 use Rattle.txn_words.specs.declared.seat.Phase.{Phase}
 use Rattle.txn_words.specs.declared.seat.Phase.TheVariants.{Closed, Opened, Waiting, LeavingTo, LeavingToEnd}
 use Rattle.txn_words.specs.Shape.{Seat, closed_seat}
 use Rattle.map_ops.specs.TableAt.{TableAt, Cursor, cursor_changes}
 use Rattle.boost_core.specs.declared.session.Session.{Session}
 use Rattle.boost_core.specs.State.{State, Caller, seat_in, caller_changes}
-use Rattle.boost_core.specs.Refusals.{owner_of, is_closed, is_waiting, is_leaving, has_target, tests_in, tests_of, first_of, refusal_in, refusal_of, lacks_in, lacks_cursor}
+use Rattle.boost_core.specs.Refusals.{owner_of, is_closed, is_waiting, is_leaving, tests_in, tests_of, first_of, refusal_in, refusal_of, lacks_in, lacks_cursor}
 use Rattle.boost_core.specs.Sessions.{IsSoughtAt}
 use Rattle.boost_core.specs.Core.{World, Tells, state_of, session_changes}
 
@@ -69,8 +69,8 @@ free state c step owner none =
     let rest = or_else_none (refusal_in state.limits.half (seat_in state.history c) step) _ first.1 in
     record { within = first.0; seat = rest.0; cursor = (first_none _ Unplaced None rest.1).0 }
 
--- A phase, from the tests of it.
-not_false : (b : Bool) → not b ≡ false → b ≡ true
+-- What a negated test says.
+pub not_false : (b : Bool) → not b ≡ false → b ≡ true
 not_false true is = refl
 not_false false is = absurd (false≢true (sym is))
 
@@ -192,15 +192,3 @@ pub abort_runs : (half : Bool) (s : Seat) (c : ℕ) → refusal_in half s (Abort
 abort_runs half s c none =
     let first = first_none (is_closed s.phase) _ _ none in
     (first.0, (first_none (is_leaving s.phase) _ None first.1).0)
-
-pub seek_target : (half : Bool) (s : Seat) (c : ℕ) → refusal_in half s (Seek c) ≡ None → has_target s ≡ true
-seek_target half s c none =
-    let first = first_none (is_closed s.phase) _ _ none in
-    not_false (has_target s) (first_none (not (has_target s)) _ None first.1).0
-
-pub not_is_false : (b : Bool) → not b ≡ false → b ≡ true
-not_is_false b is = not_false b is
-
--- The caller of a step that nothing refuses, from an equal state.
-pub free_of : (state old : State) (step : Step) → state ≡ old → refusal_of old step ≡ None → refusal_of state step ≡ None
-free_of state old step is none = ap (λ (s : State). refusal_of s step) is ∙ none

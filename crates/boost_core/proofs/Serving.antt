@@ -26,7 +26,7 @@ use Rattle.boost_core.specs.Placed.{placed_then}
 use Rattle.boost_core.specs.Machine.{Move}
 use Rattle.std.specs.List.{slice_get}
 use Rattle.boost_core.specs.Serves as said
-use Rattle.boost_core.specs.Serves.{Serves, Sweeping, Seeking, Linking, Storing, Doubling}
+use Rattle.boost_core.specs.Serves.{Serves, Sweeping, Linking, Storing}
 use Rattle.boost_core.specs.Core.{World, Tells, state_of}
 use Rattle.boost_core.proofs.Refused.{le_false}
 use Rattle.boost_core.proofs.Helping.{served, sweep_tells, swept_move, clean_move, becomes_tells, becomes_state, double_tells, seek_refusal, refusal_in_result, seek_ready_move, seek_placed_move, helper_refused, store_refused_move, stored_move}

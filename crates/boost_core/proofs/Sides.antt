@@ -16,7 +16,7 @@ use Rattle.map_ops.specs.TableAt.{TableAt, Cursor, content}
 use Rattle.map_ops.specs.Changes.{OwnsIf}
 use Rattle.boost_core.specs.declared.session.Session.{Session}
 use Rattle.boost_core.specs.Sessions.{level_of, Waits, key_of_newest, target_in, target_of, spare_if, change_of, changes_of, AreDue, IsPlacedFor, IsSoughtAt, GoesWith, CanAct, CanUndo, CanArrive}
-use Rattle.boost_core.proofs.Refused.{not_is_false}
+use Rattle.boost_core.proofs.Refused.{not_false}
 use Rattle.boost_core.proofs.Settling.{newest_owned}
 
 pub record Last (jobs : List MapJob) : Type 0 where
@@ -105,7 +105,7 @@ or_left true b is none = refl
 or_left false b is none = absurd (false≢true (sym none ∙ is))
 
 and_true : (a b : Bool) → (a && not b) ≡ false → a ≡ true → b ≡ true
-and_true a b is both = not_is_false b (ap (λ v. v && not b) (sym both) ∙ is)
+and_true a b is both = not_false b (ap (λ v. v && not b) (sym both) ∙ is)
 
 module _ (x : Session) (t : TableAt) (goes : GoesWith x t) where
   -- The seat agrees with the log.

@@ -8,14 +8,12 @@ use Rattle.std.proofs.lemmas.List.Sums.{sum_by_push}
 use mathlib.Core.Logic.{inl, inr}
 use Rattle.txn_words.specs.declared.op.Op.{Op}
 use Rattle.txn_words.specs.declared.op.Op.TheVariants.{Put, Take, Get, PutIf}
-use Rattle.txn_words.specs.Map.{get}
+use Rattle.txn_words.specs.Map.{get, Map}
 use Rattle.map_ops.specs.declared.job.MapJob.TheVariants.{Unput, Restore, Relink}
 use Rattle.map_ops.specs.Jobs.{spare_of_job, unput, relink, job_of}
-use Rattle.map_ops.specs.TableAt.{SpareAt, KeepsSpares}
+use Rattle.map_ops.specs.TableAt.{SpareAt, KeepsSpares, TableAt}
 use Rattle.map_ops.specs.Changes.{Spends, SpendsFor}
-use Rattle.txn_words.specs.Map.{Map}
 use Rattle.map_ops.specs.declared.job.MapJob.{MapJob}
-use Rattle.map_ops.specs.TableAt.{TableAt}
 use Rattle.boost_core.specs.Spares.{times_of, times_in, times_out, IsCovered}
 use Rattle.boost_core.proofs.Numbers.{no_more}
 use Rattle.boost_core.proofs.Spares.{spent, still_covered}

@@ -6,33 +6,28 @@ use Rattle.std.specs.List.{AllByRecursion}
 use Rattle.std.proofs.lemmas.Bool.{false≢true, ne_eqb, ltb-true}
 use Rattle.std.proofs.lemmas.List.{reverse-append}
 use Rattle.std.proofs.lemmas.List.Sums.{sum_by_push}
-use Rattle.txn_words.specs.Map.{get, key_of, reply_of, after, set_at}
-use Rattle.txn_trace.specs.Locks.{stripe_of}
+use Rattle.txn_words.specs.Map.{get, key_of, reply_of, after, set_at, Map}
+use Rattle.txn_trace.specs.Locks.{stripe_of, holder_of}
 use Rattle.txn_trace.specs.Legal.{runs, is_running}
-use Rattle.txn_words.specs.Shape.{changes}
+use Rattle.txn_words.specs.Shape.{changes, Seat}
 use Rattle.txn_words.proofs.Effects.{get-after_other}
 use Rattle.txn_words.proofs.Maps.{get-set_at}
 use Rattle.txn_trace.proofs.Held.{waiting_held, log_held, held_apart}
-use Rattle.map_ops.specs.Jobs.{takes_node, key_of_job, value_before, spare_of_job, job_of}
-use Rattle.map_ops.specs.TableAt.{Keeps}
+use Rattle.map_ops.specs.Jobs.{takes_node, key_of_job, value_before, spare_of_job, job_of, PendingAt}
+use Rattle.map_ops.specs.TableAt.{Keeps, TableAt, content, cursor_changes, table_changes}
 use Rattle.txn_words.specs.declared.entry.Entry.TheVariants as entry
 use Rattle.txn_words.specs.declared.step.Step.TheVariants as steps
 use Rattle.txn_words.specs.declared.answer.Answer.TheVariants as answers
-use Rattle.txn_words.specs.Map.{Map}
 use Rattle.txn_trace.specs.Serial.{serial}
 use Rattle.txn_trace.specs.Now.{now}
-use Rattle.txn_trace.specs.Locks.{holder_of}
 use Rattle.txn_trace.specs.Log.{log_of}
 use Rattle.txn_words.specs.declared.seat.Phase.{Phase}
 use Rattle.txn_words.specs.declared.seat.Phase.TheVariants.{Closed, Opened, Waiting, LeavingTo, LeavingToEnd}
-use Rattle.txn_words.specs.Shape.{Seat}
 use Rattle.txn_words.specs.Seats.{has_job}
 use Rattle.txn_trace.proofs.Next.{Next}
 use Rattle.txn_trace.proofs.Entries as laws
 use Rattle.undo_log.specs.UndoLog.{kept_at}
 use Rattle.map_ops.specs.declared.job.MapJob.{MapJob}
-use Rattle.map_ops.specs.Jobs.{PendingAt}
-use Rattle.map_ops.specs.TableAt.{TableAt, content, cursor_changes, table_changes}
 use Rattle.boost_core.specs.declared.session.Session.{Session}
 use Rattle.boost_core.specs.State.{seat_in, holder_by}
 use Rattle.boost_core.specs.Refusals.{refusal_of}

@@ -6,7 +6,7 @@ use Rattle.boost_core.specs.Counts.{counts_after}
 use Rattle.boost_core.specs.State.{Owner}
 use Rattle.boost_core.specs.Sessions.{Does, Takes, owed_of}
 use Rattle.boost_core.specs.Words.{Goes, reserved_by}
-use Rattle.boost_core.specs.Core.{Tells, world_of, state_of}
+use Rattle.boost_core.specs.Core.{Tells, world_of, state_of, World}
 use Rattle.boost_core.proofs.Beginners.{noted_then}
 use Rattle.boost_core.proofs.Numbers.{began_bound, committed_bound, when_ok, when_err}
 use Rattle.boost_core.proofs.Refused.{at_free}
@@ -20,7 +20,6 @@ use Rattle.boost_core.proofs.Outcomes.{CalledBy, claims_of, goes_of, goes_lackin
 use Rattle.txn_words.specs.declared.answer.Answer.TheVariants as answers
 use Rattle.txn_words.specs.declared.refusal.Refusal.TheVariants as refusals
 use Rattle.txn_words.specs.Owed.{reserved}
-use Rattle.boost_core.specs.Core.{World}
 use Rattle.boost_core.proofs.machine.Core.call.Goals as goal
 
 pub overflow_add-self-inside : goal.overflow_add-self-inside
