@@ -1,5 +1,5 @@
 -- An operation that is asked for.
-use Rattle.std.proofs.Common.{◌≡◌, ℕ, ◌+◌, ◌-◌, ◌^◌, ◌<◌, ◌==◌, ◌||◌, true, false, cond, List, [], ◌∷◌, ◌++◌, length, Option, Some, None, refl, sym, ap, subst, ◌∙◌, arith}
+use Rattle.std.proofs.Common.{◌≡◌, ℕ, ◌+◌, ◌-◌, ◌^◌, ◌<◌, ◌==◌, ◌||◌, true, false, cond, List, [], ◌++◌, length, Option, Some, None, refl, sym, ap, subst, ◌∙◌, arith}
 use Rattle.std.specs.Prelude.{slice_get, slice_set, map, nat_eq, not}
 use Rattle.std.specs.Option.{option_eq, option_map}
 use Rattle.std.proofs.lemmas.Bool.{false≢true, cases_eq, eq-eqb, ne_eqb, and_from, or_right}
@@ -36,9 +36,9 @@ use Rattle.boost_core.specs.Refusals.{refusal_of, has_stamp_for, MayLack}
 use Rattle.boost_core.specs.Spares.{times_of, times_in, times_out, IsCovered}
 use Rattle.boost_core.specs.Core.{World, Tells, IsFresh, state_of, session_changes, gap_if}
 use Rattle.boost_core.proofs.Numbers.{no_more}
-use Rattle.boost_core.proofs.Moves.{Runs, state_is, changes_same, gaps_same, lacks}
+use Rattle.boost_core.proofs.Moves.{Runs, changes_same, gaps_same, lacks, none_dropped}
 use Rattle.boost_core.proofs.Grow.{Stays, world_after, seated_as, set_cases}
-use Rattle.boost_core.proofs.Outcomes.{Comes, Called, CalledBy, move_is, same_world}
+use Rattle.boost_core.proofs.Outcomes.{Comes, Called, CalledBy, same_world, entered}
 use Rattle.boost_core.specs.Answers.{may_stand}
 use Rattle.boost_core.specs.Machine.{Move}
 use Rattle.boost_core.specs.Words.{Claim, Lock, Goes}
@@ -46,7 +46,7 @@ use Rattle.boost_core.specs.Sessions.{Side, side_of, target_in, IsSoughtAt, Keep
 use Rattle.boost_core.proofs.Spares.{spent}
 use Rattle.boost_core.proofs.Refused.{seat_free, ask_open, save_open}
 use Rattle.boost_core.proofs.Quiet.{idle_cursor, nothing_waits}
-use Rattle.boost_core.proofs.Given.{prepared_covered, given_spare, stamped, one_stamp_more, open_to, last_rises}
+use Rattle.boost_core.proofs.Given.{given_for, open_to}
 
 module _ (w : World) (tells : Tells w) (c : ℕ) (x : Session) (at : slice_get w.sessions c ≡ Some x) where
   -- The step is refused, and nothing has changed but room.
@@ -124,7 +124,7 @@ module _ (w : World) (tells : Tells w) (c : ℕ) (x : Session) (at : slice_get w
     spares_before : (t' : TableAt) (pending : PendingAt) → Prepares w.table t' op pending → (others : ℕ → ℕ → ℕ) → IsCovered (λ place stamp. others place stamp + times_kept (side_of x) place stamp) w.table
         → IsCovered (λ place stamp. others place stamp + times_in x.log.jobs place stamp + times_of pending.spare place stamp) t'
     spares_before t' pending prepares others covered =
-        prepared_covered w.table t' (takes_node op) pending.spare prepares.given (λ p s. others p s + times_in x.log.jobs p s) (λ p s.
+        (given_for w.table t' (takes_node op) pending.spare prepares.given).covered (λ p s. others p s + times_in x.log.jobs p s) (λ p s.
         let same : times_of (spare_if x.pending) p s ≡ 0 = ap (λ (o : Option PendingAt). times_of (spare_if o) p s) nothing in
         let exact : others p s + (times_of (spare_if x.pending) p s + times_in x.log.jobs p s) ≡ times_out w.table p s = covered p s in
         regroup (others p s) (times_of (spare_if x.pending) p s) (times_in x.log.jobs p s) (times_out w.table p s) same exact)
@@ -139,8 +139,8 @@ module _ (w : World) (tells : Tells w) (c : ℕ) (x : Session) (at : slice_get w
       linked = prepares.nodes.linked;
       helps = prepares.nodes.buckets.helps;
       rises = let same = prepares.nodes.changes in omega arith;
-      last = last_rises w.table t' (takes_node op) pending.spare prepares.given;
-      one_last = one_stamp_more w.table t' (takes_node op) pending.spare prepares.given;
+      last = (given_for w.table t' (takes_node op) pending.spare prepares.given).rises;
+      one_last = (given_for w.table t' (takes_node op) pending.spare prepares.given).most;
     }
 
     -- The stripe is free or the caller's, and the operation waits.
@@ -171,39 +171,35 @@ module _ (w : World) (tells : Tells w) (c : ℕ) (x : Session) (at : slice_get w
           regroup a j s n exact = omega arith
 
       pub asked_called : Called w c x (steps.Ask c op) answers.Asked y t' locks'
-      asked_called = record {
-        comes = record {
-          seat = record { phase = Waiting op; standing = x.seat.seat.standing; kept = x.seat.seat.kept };
-          committed = serial w.history;
-          current = now w.history;
-          holder = holder;
-          side = asked_side;
-          becomes = asks.becomes ∙ (λ i. record asked_side { cursor = no_cursor_there i });
-          next = subst (λ l. Next (holder_by w.words) w.limits.stripes w.history (entry.Asked c op) (record { phase = Waiting op; standing = x.seat.seat.standing; kept = x.seat.seat.kept }) l (serial w.history) (now w.history) holder)
-              (tells.seated c x at).log (laws.asked w.limits.stripes w.history tells.legal c op x.seat.seat (tells.seated c x at).seat opened locked);
-          mine = refl;
-          saved = λ is. absurd (false≢true is);
-          kept = (tells.seated c x at).agrees.kept;
-          waits = (asks.prepares.op_is, asks.room, given_spare w.table t' (takes_node op) asks.pending.spare asks.prepares.given);
-          due = (tells.seated c x at).due;
-          content = ap map_of asks.prepares.nodes.regular ∙ tells.content;
-          apart = λ d other k held. refl;
-          placed = keeps;
-          spares = asked_covered;
-          largest = asks.prepares.nodes.buckets.largest;
-          helpers = ap length asks.prepares.nodes.buckets.helps;
-          begins = no_more w.counts.began;
-          commits = no_more w.counts.committed;
-          long = asks.grants.as_many;
-          holders = asked_holders;
-        };
-        move = λ seat'. move_is w (world_after w c (seated_as y seat') (w.history ++ entry.Asked c op ∷ []) w.counts t' locks' None) (steps.Ask c op) answers.Asked
-            (none, and_from (has_stamp_for (state_of w) op) (may_stand (state_of w) (entry.Asked c op)) (stamped w.table t' (takes_node op) asks.pending.spare asks.prepares.given) locked)
-            (state_is w (w.history ++ entry.Asked c op ∷ []) (w.history ++ entry.Asked c op ∷ []) w.counts t' (map session_changes w.sessions) (slice_set w.sessions c (seated_as y seat')) locks' None (prepared_runs t' asks.pending asks.prepares) refl
-            (changes_same w.sessions c x (seated_as y seat') at (ap (λ (s : Side). option_map cursor_changes s.cursor) asks.becomes)))
-            (prepared_runs t' asks.pending asks.prepares) (λ kept. asks.prepares.nodes.changes);
-        fresh = λ seat'. tt;
-      }
+      asked_called =
+          entered w c x y t' locks' (steps.Ask c op) answers.Asked (entry.Asked c op) (map session_changes w.sessions) refl refl refl (none_dropped w.sessions c x at no_cursor_there)
+          (none, and_from (has_stamp_for (state_of w) op) (may_stand (state_of w) (entry.Asked c op)) (given_for w.table t' (takes_node op) asks.pending.spare asks.prepares.given).stamped locked)
+          (prepared_runs t' asks.pending asks.prepares) (λ kept. asks.prepares.nodes.changes)
+          (record {
+            seat = record { phase = Waiting op; standing = x.seat.seat.standing; kept = x.seat.seat.kept };
+            committed = serial w.history;
+            current = now w.history;
+            holder = holder;
+            side = asked_side;
+            becomes = asks.becomes ∙ (λ i. record asked_side { cursor = no_cursor_there i });
+            next = subst (λ l. Next (holder_by w.words) w.limits.stripes w.history (entry.Asked c op) (record { phase = Waiting op; standing = x.seat.seat.standing; kept = x.seat.seat.kept }) l (serial w.history) (now w.history) holder)
+                (tells.seated c x at).log (laws.asked w.limits.stripes w.history tells.legal c op x.seat.seat (tells.seated c x at).seat opened locked);
+            mine = refl;
+            saved = λ is. absurd (false≢true is);
+            kept = (tells.seated c x at).agrees.kept;
+            waits = (asks.prepares.op_is, asks.room, (given_for w.table t' (takes_node op) asks.pending.spare asks.prepares.given).has);
+            due = (tells.seated c x at).due;
+            content = ap map_of asks.prepares.nodes.regular ∙ tells.content;
+            apart = λ d other k held. refl;
+            placed = keeps;
+            spares = asked_covered;
+            largest = asks.prepares.nodes.buckets.largest;
+            helpers = ap length asks.prepares.nodes.buckets.helps;
+            begins = no_more w.counts.began;
+            commits = no_more w.counts.committed;
+            long = asks.grants.as_many;
+            holders = asked_holders;
+          })
 
     -- Another caller holds the stripe: the prepared operation is given up, and the caller leaves to
     -- the end.
@@ -217,7 +213,7 @@ module _ (w : World) (tells : Tells w) (c : ℕ) (x : Session) (at : slice_get w
           (same_is (holder_of w.limits.stripes stripe w.history) (Some holder) (sym (tells.holders stripe within) ∙ meets.refuses.held)))
 
       pub busy_stamped : has_stamp_for (state_of w) op ≡ true
-      busy_stamped = stamped w.table meets.between (takes_node op) meets.pending.spare meets.prepares.given
+      busy_stamped = (given_for w.table meets.between (takes_node op) meets.pending.spare meets.prepares.given).stamped
 
       pub busy_runs : Runs w.table t'
       busy_runs =
@@ -242,36 +238,32 @@ module _ (w : World) (tells : Tells w) (c : ℕ) (x : Session) (at : slice_get w
           regroup a j p n none exact = omega arith
 
       pub busy_called : w.words ≡ false → Called w c x (steps.Ask c op) (answers.Busy holder) y t' locks'
-      busy_called words = record {
-        comes = record {
-          seat = record { phase = LeavingToEnd; standing = x.seat.seat.standing; kept = x.seat.seat.kept };
-          committed = serial w.history;
-          current = now w.history;
-          holder = λ s. holder_of w.limits.stripes s w.history;
-          side = side_of x;
-          becomes = meets.becomes ∙ (λ i. record (side_of x) { cursor = no_cursor_there i });
-          next = subst (λ l. Next (holder_by w.words) w.limits.stripes w.history (entry.Busy c op holder) (record { phase = LeavingToEnd; standing = x.seat.seat.standing; kept = x.seat.seat.kept }) l (serial w.history) (now w.history) (λ s. holder_of w.limits.stripes s w.history))
-              (tells.seated c x at).log (laws.busy w.limits.stripes w.history tells.legal c op holder x.seat.seat (tells.seated c x at).seat opened (stands words));
-          mine = refl;
-          saved = λ is. absurd (false≢true is);
-          kept = (tells.seated c x at).agrees.kept;
-          waits = subst (λ (o : Option PendingAt). Waits LeavingToEnd o y.log.room) (sym nothing) tt;
-          due = (tells.seated c x at).due;
-          content = ap map_of (meets.back.nodes.regular ∙ meets.prepares.nodes.regular) ∙ tells.content;
-          apart = λ d other k held. refl;
-          placed = keeps;
-          spares = busy_covered;
-          largest = meets.back.nodes.buckets.largest ∙ meets.prepares.nodes.buckets.largest;
-          helpers = ap length (meets.back.nodes.buckets.helps ∙ meets.prepares.nodes.buckets.helps);
-          begins = no_more w.counts.began;
-          commits = no_more w.counts.committed;
-          long = ap length meets.refuses.same;
-          holders = λ s below. ap (λ ls. held_by ls s) meets.refuses.same ∙ tells.holders s below;
-        };
-        move = λ seat'. move_is w (world_after w c (seated_as y seat') (w.history ++ entry.Busy c op holder ∷ []) w.counts t' locks' None) (steps.Ask c op) (answers.Busy holder)
-            (none, and_from (w.words || has_stamp_for (state_of w) op) (may_stand (state_of w) (entry.Busy c op holder)) (or_right w.words (has_stamp_for (state_of w) op) busy_stamped) (stands words))
-            (state_is w (w.history ++ entry.Busy c op holder ∷ []) (w.history ++ entry.Busy c op holder ∷ []) w.counts t' (map session_changes w.sessions) (slice_set w.sessions c (seated_as y seat')) locks' None busy_runs refl
-            (changes_same w.sessions c x (seated_as y seat') at (ap (λ (s : Side). option_map cursor_changes s.cursor) meets.becomes)))
-            busy_runs (λ kept. meets.back.nodes.changes ∙ meets.prepares.nodes.changes);
-        fresh = λ seat'. tt;
-      }
+      busy_called words =
+          entered w c x y t' locks' (steps.Ask c op) (answers.Busy holder) (entry.Busy c op holder) (map session_changes w.sessions) refl refl refl (none_dropped w.sessions c x at no_cursor_there)
+          (none, and_from (w.words || has_stamp_for (state_of w) op) (may_stand (state_of w) (entry.Busy c op holder)) (or_right w.words (has_stamp_for (state_of w) op) busy_stamped) (stands words))
+          busy_runs (λ kept. meets.back.nodes.changes ∙ meets.prepares.nodes.changes)
+          (record {
+            seat = record { phase = LeavingToEnd; standing = x.seat.seat.standing; kept = x.seat.seat.kept };
+            committed = serial w.history;
+            current = now w.history;
+            holder = λ s. holder_of w.limits.stripes s w.history;
+            side = side_of x;
+            becomes = meets.becomes ∙ (λ i. record (side_of x) { cursor = no_cursor_there i });
+            next = subst (λ l. Next (holder_by w.words) w.limits.stripes w.history (entry.Busy c op holder) (record { phase = LeavingToEnd; standing = x.seat.seat.standing; kept = x.seat.seat.kept }) l (serial w.history) (now w.history) (λ s. holder_of w.limits.stripes s w.history))
+                (tells.seated c x at).log (laws.busy w.limits.stripes w.history tells.legal c op holder x.seat.seat (tells.seated c x at).seat opened (stands words));
+            mine = refl;
+            saved = λ is. absurd (false≢true is);
+            kept = (tells.seated c x at).agrees.kept;
+            waits = subst (λ (o : Option PendingAt). Waits LeavingToEnd o y.log.room) (sym nothing) tt;
+            due = (tells.seated c x at).due;
+            content = ap map_of (meets.back.nodes.regular ∙ meets.prepares.nodes.regular) ∙ tells.content;
+            apart = λ d other k held. refl;
+            placed = keeps;
+            spares = busy_covered;
+            largest = meets.back.nodes.buckets.largest ∙ meets.prepares.nodes.buckets.largest;
+            helpers = ap length (meets.back.nodes.buckets.helps ∙ meets.prepares.nodes.buckets.helps);
+            begins = no_more w.counts.began;
+            commits = no_more w.counts.committed;
+            long = ap length meets.refuses.same;
+            holders = λ s below. ap (λ ls. held_by ls s) meets.refuses.same ∙ tells.holders s below;
+          })

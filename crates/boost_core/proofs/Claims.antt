@@ -1,6 +1,6 @@
 -- An operation that is asked for when stripes are words: the outcome with a stale right, and with a
 -- word.
-use Rattle.std.proofs.Common.{◌≡◌, ℕ, ◌<◌, ◌==◌, ◌&&◌, ◌||◌, Bool, true, cond, List, [], ◌∷◌, ◌++◌, length, Option, Some, None, refl, sym, ap, subst, ◌∙◌, arith}
+use Rattle.std.proofs.Common.{◌≡◌, ℕ, ◌<◌, ◌==◌, ◌&&◌, ◌||◌, Bool, true, cond, List, [], ◌++◌, length, Option, Some, None, refl, sym, ap, subst, ◌∙◌, arith}
 use Rattle.std.specs.Prelude.{slice_get, slice_set, map, not}
 use Rattle.std.specs.Option.{option_map}
 use Rattle.std.proofs.lemmas.Bool.{false≢true, and_from, eq-eqb, ne_eqb, or_left}
@@ -34,9 +34,9 @@ use Rattle.boost_core.specs.Words.{Right, Held, Stale, is_taken}
 use Rattle.boost_core.specs.Sessions.{Side, target_in, IsSoughtAt, KeepsPlaced, Waits, MeetsIn}
 use Rattle.boost_core.specs.Core.{World, Tells, IsFresh, state_of, session_changes, nodes_at, gap_by, gap_at, gap_if, helper_gaps_of}
 use Rattle.boost_core.proofs.Numbers.{no_more}
-use Rattle.boost_core.proofs.Moves.{runs_same, state_is, changes_same}
+use Rattle.boost_core.proofs.Moves.{runs_same, state_is, changes_same, none_dropped}
 use Rattle.boost_core.proofs.Grow.{Stays, world_after, seated_as, set_cases}
-use Rattle.boost_core.proofs.Outcomes.{CalledBy, move_is}
+use Rattle.boost_core.proofs.Outcomes.{CalledBy, Called, entered}
 use Rattle.boost_core.proofs.Quiet.{quiet}
 use Rattle.boost_core.proofs.HelperGaps.{fits_if, fits_by, cursors_stay}
 use Rattle.boost_core.proofs.Asking.{opened, nothing, no_cursor_there, busy_runs, busy_covered, busy_stamped, lacking_called}
@@ -123,21 +123,15 @@ module _ (w : World) (tells : Tells w) (c : ℕ) (x : Session) (at : slice_get w
 
   -- A word that names a caller that may hold the stripe: the caller leaves to the end.
   pub held_called : (named : ℕ) → w.words ≡ true → may_stand (state_of w) (entry.Busy c op named) ≡ true → CalledBy (Held named) w c x (steps.Ask c op) (answers.Busy named) x w.table w.locks
-  held_called named words stands = record {
-    comes = quiet w tells c x at (entry.Busy c op named) x (record { phase = LeavingToEnd; standing = x.seat.seat.standing; kept = x.seat.seat.kept }) x.log.kept (log_of c w.history) (serial w.history) (λ s. holder_of w.limits.stripes s w.history) w.locks w.counts
-        (laws.busy w.limits.stripes w.history tells.legal c op named x.seat.seat (tells.seated c x at).seat (opened w tells c x at op none) stands) (tells.seated c x at).log
-        refl (λ is. absurd (false≢true is)) (tells.seated c x at).agrees.kept refl (nothing w tells c x at op none) (no_cursor_there w tells c x at op none) refl
-        (no_more w.counts.began) (no_more w.counts.committed) refl tells.holders;
-    move = λ seat'. inr (
-      eq-eqb named named refl,
-      move_is w (world_after w c (seated_as x seat') (w.history ++ entry.Busy c op named ∷ []) w.counts w.table w.locks None) (steps.Ask c op) (answers.Busy named)
-          (none, and_from (w.words || has_stamp_for (state_of w) op) (may_stand (state_of w) (entry.Busy c op named)) (or_left w.words (has_stamp_for (state_of w) op) words) stands)
-          (state_is w (w.history ++ entry.Busy c op named ∷ []) (w.history ++ entry.Busy c op named ∷ []) w.counts w.table (map session_changes w.sessions) (slice_set w.sessions c (seated_as x seat')) w.locks None (runs_same w.table) refl
-          (changes_same w.sessions c x (seated_as x seat') at refl))
-          (runs_same w.table) (λ kept. refl),
-    );
-    fresh = λ seat'. tt;
-  }
+  held_called named words stands =
+      let is : Called w c x (steps.Ask c op) (answers.Busy named) x w.table w.locks =
+      entered w c x x w.table w.locks (steps.Ask c op) (answers.Busy named) (entry.Busy c op named) (map session_changes w.sessions) refl refl refl (none_dropped w.sessions c x at (no_cursor_there w tells c x at op none))
+      (none, and_from (w.words || has_stamp_for (state_of w) op) (may_stand (state_of w) (entry.Busy c op named)) (or_left w.words (has_stamp_for (state_of w) op) words) stands) (runs_same w.table) (λ kept. refl)
+      (quiet w tells c x at (entry.Busy c op named) x (record { phase = LeavingToEnd; standing = x.seat.seat.standing; kept = x.seat.seat.kept }) x.log.kept (log_of c w.history) (serial w.history) (λ s. holder_of w.limits.stripes s w.history) w.locks w.counts
+      (laws.busy w.limits.stripes w.history tells.legal c op named x.seat.seat (tells.seated c x at).seat (opened w tells c x at op none) stands) (tells.seated c x at).log
+      refl (λ is. absurd (false≢true is)) (tells.seated c x at).agrees.kept refl (nothing w tells c x at op none) (no_cursor_there w tells c x at op none) refl
+      (no_more w.counts.began) (no_more w.counts.committed) refl tells.holders) in
+      record { comes = is.comes; move = λ seat'. inr (eq-eqb named named refl, is.move seat'); fresh = is.fresh }
 
   -- A word that names no caller that may hold the stripe.
   pub word_stale_called : CalledBy Stale w c x (steps.Ask c op) (answers.Refused StaleWord) x w.table w.locks

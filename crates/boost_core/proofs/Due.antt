@@ -14,7 +14,7 @@ use Rattle.txn_words.specs.Shape.{changes}
 use Rattle.txn_words.proofs.Maps.{same_map, get-insert-here, get-remove-here, get-set_at}
 use Rattle.txn_words.proofs.Effects.{after_unchanged, get-after_other, changes-reply}
 use Rattle.map_ops.specs.declared.job.MapJob.{MapJob}
-use Rattle.map_ops.specs.declared.job.MapJob.TheVariants.{Unput, Restore, Relink}
+use Rattle.map_ops.specs.declared.job.MapJob.TheVariants.{Relink}
 use Rattle.map_ops.specs.Jobs.{takes_node, key_of_job, value_before, IsDue, unput, relink, job_of}
 use Rattle.boost_core.specs.Sessions.{change_of, changes_of, AreDue}
 
@@ -27,9 +27,8 @@ all_of_changes P [] all = tt
 all_of_changes P (job ∷ jobs) all = (all.0, all_of_changes P jobs all.1)
 
 is_due_same : (m m' : Map) (job : MapJob) → get m' (key_of_job job) ≡ get m (key_of_job job) → IsDue m job → IsDue m' job
-is_due_same m m' (Unput k) same due = subst (λ o. IsSome o) (sym same) due
-is_due_same m m' (Restore k old) same due = subst (λ o. IsSome o) (sym same) due
 is_due_same m m' (Relink k old spare) same due = same ∙ due
+is_due_same m m' _ same due = subst (λ o. IsSome o) (sym same) due
 
 set_at_same : (m m' : Map) (j : ℕ) (o : Option ℕ) (k : ℕ) → get m' k ≡ get m k → get (set_at m' j o) k ≡ get (set_at m j o) k
 set_at_same m m' j o k same = get-set_at m' j o k ∙ ap (cond (k == j) o) same ∙ sym (get-set_at m j o k)

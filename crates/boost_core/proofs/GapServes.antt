@@ -38,9 +38,8 @@ module _ (t t' : TableAt) (sound : IsSound t'.list) where
   swept outcomes.Clean is = kept is.0
 
   sought_bucket : (bucket : ℕ) (outcome : Result InitSeek Refusal) → SeekWrites t t' bucket outcome → Stay (nodes_of t) (nodes_of t')
-  sought_bucket bucket (Ok seeks.Ready) is = kept is
   sought_bucket bucket (Ok seeks.Placed) is = subst (Stay (nodes_of t)) (sym is.nodes) (stay_sought (dummy_at bucket) (nodes_of t) is.start)
-  sought_bucket bucket (Err refusal) is = kept is
+  sought_bucket bucket _ is = kept is
 
   linked_dummy : (h : ℕ) (outcome : Result InitLink Refusal) → (outcome ≢ Err refusals.NoMemory → outcome ≡ link_answer_of t h) → ((bucket noted : ℕ) → slice_get (helps_of t) h ≡ Some (Sought bucket noted) → LinkWrites t t' bucket outcome) → LinkChanges t t' h outcome
       → Stay (nodes_of t) (nodes_of t')
@@ -88,9 +87,8 @@ module _ (t t' : TableAt) (h : ℕ) where
 
 module _ (w w' : World) (tells : Tells w) (sound : IsSound w'.table.list) where
   sought_fits : (h b : ℕ) (outcome : Result InitSeek Refusal) → SeekChanges w.table w'.table h b outcome → Fits (state_of w) (steps.InitSeek h b) (said.sought outcome) (state_of w')
-  sought_fits h b (Ok seeks.Ready) changes = tt
   sought_fits h b (Ok seeks.Placed) changes = helper_stands w' h b sound.spread changes.placed changes.fits
-  sought_fits h b (Err refusal) changes = tt
+  sought_fits h b _ changes = tt
 
   linked_fits : (h : ℕ) (outcome : Result InitLink Refusal) → (outcome ≢ Err refusals.NoMemory → outcome ≡ link_answer_of w.table h) → (outcome ≡ Err refusals.NoMemory → link_answer_of w.table h ≡ Ok links.Linked) → Fits (state_of w) (steps.InitLink h) (said.linked outcome) (state_of w')
   linked_fits h (Ok links.Again) says no_memory = no_helper_gap w.table h (stale_where w.table h (sym (says (λ e. cc (e)))))

@@ -166,11 +166,8 @@ abbrev pub seated_as : Session → RoomySeat → Session
 seated_as y seat = record { seat = seat; pending = y.pending; cursor = y.cursor; log = y.log }
 
 level_at : (q : Phase) (standing : ℕ) (kept : List ℕ) → IsLevelIn q standing (0 ∷ kept) → level_of q ≤ length kept
-level_at Closed standing kept is = omega arith
-level_at Opened standing kept is = omega arith
-level_at (Waiting op) standing kept is = omega arith
 level_at (LeavingTo level) standing kept is = let below : level < length (0 ∷ kept) = is.0 in omega arith
-level_at LeavingToEnd standing kept is = omega arith
+level_at _ standing kept is = omega arith
 
 module _ (w : World) (tells : Tells w) (c : ℕ) (x y : Session) (at : slice_get w.sessions c ≡ Some x) (t' : TableAt) (locks' : List (Option ℕ)) (counts' : Counts) where
   within : c < length w.sessions

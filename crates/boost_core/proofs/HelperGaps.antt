@@ -82,9 +82,8 @@ helper_stands w' h b spread placed fitting =
 
 -- Idle helpers have no cursors.
 idle_cursor : (helper : TableHelper) → help_of helper ≡ Nothing → cursor_in helper ≡ None
-idle_cursor Idle is = refl
 idle_cursor (Seeking bucket cursor) is = absurd (cc (is))
-idle_cursor (Holding bucket dummy) is = refl
+idle_cursor _ is = refl
 
 abbrev first_of : List Help → Help
 first_of [] = Nothing

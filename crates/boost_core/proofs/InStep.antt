@@ -236,10 +236,13 @@ help_suits_store m n c way a whole within suits move = at a move
 -- The core and the call are in step again after a move of the call and its answer.
 pub help_suits_told : (m n : State) (c key : ℕ) (phase : Phase) (step : Step) (a : Answer) → IsWhole m → n.size < 2 ^ 32 → nat_le m.limits.callers c ≡ false → HelpSuits m c phase → step_in c (calls.Help key) (sized_in m.size phase) ≡ Some step
     → Move m step a n → HelpSuits n c (told_in (calls.Help key) (sized_in m.size phase) a)
-help_suits_told m n c key (Doubling seen) step a whole small within suits is move = let same : steps.Double m.size ≡ step = cc is in help_suits_double m n c key a whole small (subst (λ s. Move m s a n) (sym same) move)
-help_suits_told m n c key (Initialising way again) step a whole small within suits is move = let same : steps.InitSeek c way.bucket ≡ step = cc is in help_suits_seek m n c way again a whole within suits (subst (λ s. Move m s a n) (sym same) move)
-help_suits_told m n c key (Linking way again) step a whole small within suits is move = let same : steps.InitLink c ≡ step = cc is in help_suits_link m n c way again a whole within suits (subst (λ s. Move m s a n) (sym same) move)
-help_suits_told m n c key (Storing way) step a whole small within suits is move = let same : steps.InitStore c ≡ step = cc is in help_suits_store m n c way a whole within suits (subst (λ s. Move m s a n) (sym same) move)
-help_suits_told m n c key Helped step a whole small within suits is move = absurd (cc is)
-help_suits_told m n c key (Refused r) step a whole small within suits is move = absurd (cc is)
-help_suits_told m n c key phase step a whole small within suits is move = absurd suits
+help_suits_told m n c key phase step a whole small within suits is move = by phase suits is (subst (λ s. Move m s a n) (sym (ap (λ o. unwrap_or o step) is)) move)
+  where
+    by : (phase : Phase) → HelpSuits m c phase → step_in c (calls.Help key) (sized_in m.size phase) ≡ Some step → Move m (unwrap_or (step_in c (calls.Help key) (sized_in m.size phase)) step) a n → HelpSuits n c (told_in (calls.Help key) (sized_in m.size phase) a)
+    by (Doubling seen) suits is move = help_suits_double m n c key a whole small move
+    by (Initialising way again) suits is move = help_suits_seek m n c way again a whole within suits move
+    by (Linking way again) suits is move = help_suits_link m n c way again a whole within suits move
+    by (Storing way) suits is move = help_suits_store m n c way a whole within suits move
+    by Helped suits is move = absurd (cc is)
+    by (Refused r) suits is move = absurd (cc is)
+    by phase suits is move = absurd suits

@@ -11,11 +11,11 @@ use Rattle.txn_words.specs.declared.refusal.Refusal.TheVariants.{NoSuchCaller, U
 use Rattle.txn_words.specs.declared.step.Step.{Step}
 use Rattle.txn_words.specs.declared.step.Step.TheVariants.{Begin, Ask, Act, Save, Back, Commit, Abort}
 use Rattle.txn_words.specs.declared.seat.Phase.{Phase}
-use Rattle.txn_words.specs.declared.seat.Phase.TheVariants.{Closed, Opened, Waiting, LeavingTo, LeavingToEnd}
+use Rattle.txn_words.specs.declared.seat.Phase.TheVariants.{Closed, Opened, Waiting}
 use Rattle.txn_words.specs.Shape.{Seat, closed_seat}
 use Rattle.map_ops.specs.TableAt.{TableAt, Cursor, cursor_changes}
 use Rattle.boost_core.specs.declared.session.Session.{Session}
-use Rattle.boost_core.specs.State.{State, Caller, seat_in, caller_changes}
+use Rattle.boost_core.specs.State.{State, Owner, Caller, seat_in, caller_changes}
 use Rattle.boost_core.specs.Refusals.{owner_of, is_closed, is_waiting, is_leaving, tests_in, tests_of, first_of, refusal_in, refusal_of, lacks_in, lacks_cursor}
 use Rattle.boost_core.specs.Sessions.{IsSoughtAt}
 use Rattle.boost_core.specs.Core.{World, Tells, state_of, session_changes}
@@ -41,11 +41,13 @@ or_else_none : (one other : Option Refusal) → or_else one other ≡ None → (
 or_else_none None other none = (refl, none)
 or_else_none (Some refusal) other none = absurd (cc (none))
 
-caller_same : (c d : ℕ) → Some (Caller c) ≡ Some (Caller d) → c ≡ d
-caller_same c d same = cc (same)
+-- The number of the caller that owns a step.
+abbrev pub caller_in : Option Owner → ℕ
+caller_in (Some (Caller c)) = c
+caller_in _ = 0
 
 lacks_is : (state : State) (c : ℕ) (step : Step) → owner_of step ≡ Some (Caller c) → lacks_cursor state step ≡ lacks_in (seat_in state.history c) (is_some (caller_changes state.cursors c)) step
-lacks_is state c (Act d) owner = ap (λ (k : ℕ). lacks_in (seat_in state.history k) (is_some (caller_changes state.cursors k)) (Act d)) (caller_same d c owner)
+lacks_is state c (Act d) owner = ap (λ (k : ℕ). lacks_in (seat_in state.history k) (is_some (caller_changes state.cursors k)) (Act d)) (ap caller_in owner)
 lacks_is state c _ owner = refl
 
 -- The refusal of a caller's step.
@@ -76,17 +78,13 @@ not_false false is = absurd (false≢true (sym is))
 
 pub closed_is : (q : Phase) → is_closed q ≡ true → q ≡ Closed
 closed_is Closed is = refl
-closed_is Opened is = absurd (false≢true is)
-closed_is (Waiting op) is = absurd (false≢true is)
-closed_is (LeavingTo n) is = absurd (false≢true is)
-closed_is LeavingToEnd is = absurd (false≢true is)
+closed_is _ is = absurd (false≢true is)
 
 opened_is : (q : Phase) → is_closed q ≡ false → is_leaving q ≡ false → is_waiting q ≡ false → q ≡ Opened
 opened_is Closed closed leaving waiting = absurd (false≢true (sym closed))
 opened_is Opened closed leaving waiting = refl
 opened_is (Waiting op) closed leaving waiting = absurd (false≢true (sym waiting))
-opened_is (LeavingTo n) closed leaving waiting = absurd (false≢true (sym leaving))
-opened_is LeavingToEnd closed leaving waiting = absurd (false≢true (sym leaving))
+opened_is _ closed leaving waiting = absurd (false≢true (sym leaving))
 
 pub begin_closed : (half : Bool) (s : Seat) (c : ℕ) → refusal_in half s (Begin c) ≡ None → s.phase ≡ Closed
 begin_closed half s c none =

@@ -29,7 +29,7 @@ use Rattle.boost_core.specs.Serves as said
 use Rattle.boost_core.specs.Serves.{Serves, Sweeping, Linking, Storing}
 use Rattle.boost_core.specs.Core.{World, Tells, state_of}
 use Rattle.boost_core.proofs.Refused.{le_false}
-use Rattle.boost_core.proofs.Helping.{served, sweep_tells, swept_move, clean_move, becomes_tells, becomes_state, double_tells, seek_refusal, refusal_in_result, seek_ready_move, seek_placed_move, helper_refused, store_refused_move, stored_move}
+use Rattle.boost_core.proofs.Helping.{served, sweep_tells, swept_move, clean_move, becomes_tells, becomes_move, double_tells, seek_refusal, refusal_in_result, seek_ready_move, seek_placed_move, helper_refused, store_refused_move, stored_move}
 use Rattle.boost_core.proofs.Linking.{link_refused_move, link_again_move, link_present_move, link_linked_move}
 
 -- The invariants of the core after the step, and the move.
@@ -134,19 +134,11 @@ module _ (w : World) (tells : Tells w) (t' : TableAt) (follows : Follows w.table
   doubled_by : (seen : ℕ) (outcome : Double) (answer : Answer) → answer ≡ said.doubled outcome → outcome ≡ double_answer (size_of w.table) (largest_of w.table) (count_of (content w.table)) seen → Doubles w.table t' outcome → Served w (steps.Double seen) answer t'
   doubled_by seen (doubles.Moved n) answer answer_is says changes = subst (λ a. Served w (steps.Double seen) a t') (sym answer_is) (record {
     tells = double_tells w tells t' (doubles.Moved n) changes follows;
-    move = record { allowed = (refl, doubled_answer seen (doubles.Moved n) says); state = becomes_state w t' None _ _ _ _ changes.becomes; changes = rises; list_kept = λ kept. changes.kept; stamp = let same = changes.last in omega arith; one_stamp = let same = changes.last in omega arith };
+    move = becomes_move w t' None _ _ _ _ (steps.Double seen) (said.doubled (doubles.Moved n)) changes.becomes (refl, doubled_answer seen (doubles.Moved n) says) refl rises (λ kept. changes.kept) changes.last;
   })
-  doubled_by seen doubles.AtLimit answer answer_is says changes = subst (λ a. Served w (steps.Double seen) a t') (sym answer_is) (record {
-    tells = double_tells w tells t' doubles.AtLimit changes follows;
-    move = record { allowed = (refl, doubled_answer seen doubles.AtLimit says); state = becomes_state w t' None _ _ _ _ changes.becomes; changes = rises; list_kept = λ kept. changes.kept; stamp = let same = changes.last in omega arith; one_stamp = let same = changes.last in omega arith };
-  })
-  doubled_by seen doubles.Light answer answer_is says changes = subst (λ a. Served w (steps.Double seen) a t') (sym answer_is) (record {
-    tells = double_tells w tells t' doubles.Light changes follows;
-    move = record { allowed = (refl, doubled_answer seen doubles.Light says); state = becomes_state w t' None _ _ _ _ changes.becomes; changes = rises; list_kept = λ kept. changes.kept; stamp = let same = changes.last in omega arith; one_stamp = let same = changes.last in omega arith };
-  })
-  doubled_by seen (doubles.Doubled n) answer answer_is says changes = subst (λ a. Served w (steps.Double seen) a t') (sym answer_is) (record {
-    tells = double_tells w tells t' (doubles.Doubled n) changes follows;
-    move = record { allowed = (refl, doubled_answer seen (doubles.Doubled n) says); state = becomes_state w t' None _ _ _ _ changes.becomes; changes = rises; list_kept = λ kept. changes.kept; stamp = let same = changes.last in omega arith; one_stamp = let same = changes.last in omega arith };
+  doubled_by seen outcome answer answer_is says changes = subst (λ a. Served w (steps.Double seen) a t') (sym answer_is) (record {
+    tells = double_tells w tells t' outcome changes follows;
+    move = becomes_move w t' None _ _ _ _ (steps.Double seen) (said.doubled outcome) changes.becomes (refl, doubled_answer seen outcome says) refl rises (λ kept. changes.kept) changes.last;
   })
 
   -- The outcome of each step.

@@ -6,7 +6,7 @@ use Rattle.std.proofs.lemmas.List.{reverse-append, length_push, get_or_push}
 use Rattle.std.proofs.lemmas.Option.{slice_get-get_or}
 use mathlib.Core.Logic.{inl, inr}
 use Rattle.txn_words.specs.declared.seat.Phase.{Phase}
-use Rattle.txn_words.specs.declared.seat.Phase.TheVariants.{Closed, Opened, Waiting, LeavingTo, LeavingToEnd}
+use Rattle.txn_words.specs.declared.seat.Phase.TheVariants.{Waiting, LeavingTo, LeavingToEnd}
 use Rattle.txn_words.specs.Seats.{is_waiting, is_leaving, has_job, has_target}
 use Rattle.txn_trace.proofs.Seated.{the_some}
 use Rattle.undo_log.specs.UndoLog.{Log, kept_at, newest_above}
@@ -43,25 +43,16 @@ changes_last jobs front job is = ap changes_of is ∙ ap (map change_of) (revers
 
 -- The waiting operation is the one that the phase names.
 pub waiting_op : (q : Phase) (pending : PendingAt) (room : ℕ) → Waits q (Some pending) room → q ≡ Waiting pending.op
-waiting_op Closed pending room is = absurd is
-waiting_op Opened pending room is = absurd is
 waiting_op (Waiting op) pending room is = ap Waiting (sym is.0)
-waiting_op (LeavingTo n) pending room is = absurd is
-waiting_op LeavingToEnd pending room is = absurd is
+waiting_op _ pending room is = absurd is
 
 waiting_room : (q : Phase) (pending : PendingAt) (room : ℕ) → Waits q (Some pending) room → 0 < room
-waiting_room Closed pending room is = absurd is
-waiting_room Opened pending room is = absurd is
 waiting_room (Waiting op) pending room is = is.1
-waiting_room (LeavingTo n) pending room is = absurd is
-waiting_room LeavingToEnd pending room is = absurd is
+waiting_room _ pending room is = absurd is
 
 pub none_waits : (q : Phase) (room : ℕ) → Waits q None room → is_waiting q ≡ false
-none_waits Closed room is = refl
-none_waits Opened room is = refl
 none_waits (Waiting op) room is = absurd is
-none_waits (LeavingTo n) room is = refl
-none_waits LeavingToEnd room is = refl
+none_waits _ room is = refl
 
 -- A caller that takes changes back, to a level or to the end.
 abbrev pub IsGoing : Phase → Type 0
@@ -70,25 +61,19 @@ IsGoing LeavingToEnd = Unit {0}
 IsGoing phase = ⊥
 
 pub going : (q : Phase) (standing : ℕ) (kept : List ℕ) → has_job (record { phase = q; standing = standing; kept = 0 ∷ kept }) ≡ true → IsGoing q × (nat_lt (kept_at kept (level_of q)) standing ≡ true)
-going Closed standing kept is = absurd (false≢true is)
-going Opened standing kept is = absurd (false≢true is)
-going (Waiting op) standing kept is = absurd (false≢true is)
 going (LeavingTo n) standing kept is = (tt, is)
 going LeavingToEnd standing kept is = (tt, is)
+going _ standing kept is = absurd (false≢true is)
 
 going_target : (q : Phase) (log : Log MapJob) → IsGoing q → target_in q log ≡ key_of_newest (newest_above log (level_of q))
-going_target Closed log is = absurd is
-going_target Opened log is = absurd is
-going_target (Waiting op) log is = absurd is
 going_target (LeavingTo n) log is = refl
 going_target LeavingToEnd log is = refl
+going_target _ log is = absurd is
 
 none_above_if : (q : Phase) (standing : ℕ) (kept : List ℕ) → is_leaving q ≡ true → has_job (record { phase = q; standing = standing; kept = 0 ∷ kept }) ≡ false → nat_lt (kept_at kept (level_of q)) standing ≡ false
-none_above_if Closed standing kept leaves is = absurd (false≢true leaves)
-none_above_if Opened standing kept leaves is = absurd (false≢true leaves)
-none_above_if (Waiting op) standing kept leaves is = absurd (false≢true leaves)
 none_above_if (LeavingTo n) standing kept leaves is = is
 none_above_if LeavingToEnd standing kept leaves is = is
+none_above_if _ standing kept leaves is = absurd (false≢true leaves)
 
 pub at_most : (a b : ℕ) → nat_lt a b ≡ false → b ≤ a
 at_most a b is = elim (cases_lt a b) [
