@@ -1,11 +1,8 @@
 -- An operation that is asked for.
-use Rattle.std.proofs.Common.{◌≡◌, ℕ, ◌+◌, ◌-◌, ◌^◌, ◌<◌, ◌==◌, ◌||◌, true, false, cond, List, [], ◌++◌, length, Option, Some, None, refl, sym, ap, subst, ◌∙◌, arith}
-use Rattle.std.specs.Prelude.{slice_get, slice_set, map, nat_eq, not}
+use Rattle.std.proofs.Common.{◌≡◌, ℕ, ◌+◌, ◌-◌, ◌^◌, ◌<◌, ◌==◌, ◌||◌, true, false, cond, List, [], ◌++◌, length, Option, Some, None, refl, sym, ap, subst, ◌∙◌, arith, slice_get, slice_set, map, nat_eq, not, eq-eqb, ne_eqb, append-nil, inl, inr, ◌⊎◌}
 use Rattle.std.specs.Option.{option_eq, option_map}
-use Rattle.std.proofs.lemmas.Bool.{false≢true, cases_eq, eq-eqb, ne_eqb, and_from, or_right}
-use Rattle.std.proofs.lemmas.List.{append-nil}
+use Rattle.std.proofs.lemmas.Bool.{false≢true, cases_eq, and_from, or_right}
 use Rattle.std.proofs.lemmas.Option.{slice_get_within}
-use mathlib.Core.Logic.{inl, inr, ◌⊎◌}
 use Rattle.txn_words.specs.declared.holder.Holder.TheVariants.{Now}
 use Rattle.txn_words.specs.declared.op.Op.{Op}
 use Rattle.txn_words.specs.declared.refusal.Refusal.{Refusal}
@@ -29,7 +26,7 @@ use Rattle.txn_words.specs.Shape.{RoomySeat}
 use Rattle.txn_trace.proofs.Next.{Next}
 use Rattle.txn_trace.proofs.Entries as laws
 use Rattle.key_locks.specs.Locks.{holder_of as held_by}
-use Rattle.map_ops.specs.TableAt.{TableAt, Cursor, cursor_changes, map_of}
+use Rattle.map_ops.specs.TableAt.{TableAt, Cursor, cursor_changes, map_of, nodes_of}
 use Rattle.boost_core.specs.declared.session.Session.{Session}
 use Rattle.boost_core.specs.State.{Owner, Caller, Helper, holder_by}
 use Rattle.boost_core.specs.Refusals.{refusal_of, has_stamp_for, MayLack}
@@ -46,19 +43,26 @@ use Rattle.boost_core.specs.Sessions.{Side, side_of, target_in, IsSoughtAt, Keep
 use Rattle.boost_core.proofs.Spares.{spent}
 use Rattle.boost_core.proofs.Refused.{seat_free, ask_open, save_open}
 use Rattle.boost_core.proofs.Quiet.{idle_cursor, nothing_waits}
+use Rattle.boost_core.proofs.Gaps.{same_fits}
+use Rattle.boost_core.proofs.HelperGaps.{same_helper}
 use Rattle.boost_core.proofs.Given.{given_for, open_to}
 
 module _ (w : World) (tells : Tells w) (c : ℕ) (x : Session) (at : slice_get w.sessions c ≡ Some x) where
+  -- The cursor that was placed last still fits if the nodes, the buckets and the caller's cursor are
+  -- unchanged.
+  pub fresh_kept : (y : Session) → y.cursor ≡ x.cursor → (t' : TableAt) → nodes_of t' ≡ nodes_of w.table → t'.buckets ≡ w.table.buckets
+      → (seat' : RoomySeat) (o : Option Owner) → IsFresh w.table w.sessions o → IsFresh t' (slice_set w.sessions c (seated_as y seat')) o
+  fresh_kept y same t' nodes buckets seat' None fresh = tt
+  fresh_kept y same t' nodes buckets seat' (Some (Helper d)) fresh = same_helper w.table t' d nodes buckets ∙ fresh
+  fresh_kept y same t' nodes buckets seat' (Some (Caller d)) fresh =
+      λ s cursor at_d had. same_fits w.table t' cursor nodes ∙
+      (elim (set_cases w.sessions c d (seated_as y seat') s (slice_get_within w.sessions c x at) at_d) [
+        | inl mine ↦ fresh x cursor (ap (slice_get w.sessions) mine.0 ∙ at) (sym same ∙ ap (λ (q : Session). q.cursor) (sym mine.1) ∙ had)
+        | inr other ↦ fresh s cursor other.1 had
+      ])
+
   -- The step is refused, and nothing has changed but room.
   module _ (claim : Claim) (step : Step) (refusal : Refusal) (goes : Goes claim (state_of w) step (answers.Refused refusal) (state_of w)) (opened : x.seat.seat.phase ≡ Opened) (y : Session) (stays : StaysIn x y) where
-    still_fresh : (seat' : RoomySeat) (o : Option Owner) → IsFresh w.table w.sessions o → IsFresh w.table (slice_set w.sessions c (seated_as y seat')) o
-    still_fresh seat' None fresh = tt
-    still_fresh seat' (Some (Helper d)) fresh = fresh
-    still_fresh seat' (Some (Caller d)) fresh = λ s cursor at_d had. elim (set_cases w.sessions c d (seated_as y seat') s (slice_get_within w.sessions c x at) at_d) [
-      | inl mine ↦ fresh x cursor (ap (slice_get w.sessions) mine.0 ∙ at) (ap (λ (s : Side). s.cursor) (sym stays.becomes) ∙ ap (λ (q : Session). q.cursor) (sym mine.1) ∙ had)
-      | inr other ↦ fresh s cursor other.1 had
-    ]
-
     pub lacking_stays : Stays w c x y w.table w.locks w.counts
     lacking_stays = record {
       cursor = x.cursor;
@@ -84,7 +88,7 @@ module _ (w : World) (tells : Tells w) (c : ℕ) (x : Session) (at : slice_get w
     lacking_called no_entry = record {
       comes = subst (Comes w c x y w.table w.locks w.counts) (sym no_entry) lacking_stays;
       move = λ seat'. subst (λ g. Goes claim (state_of w) step (answers.Refused refusal) (state_of (world_after w c (seated_as y seat') g w.counts w.table w.locks w.placed))) (sym (ap (λ es. w.history ++ es) no_entry ∙ append-nil w.history)) (lacking_goes seat');
-      fresh = λ seat'. still_fresh seat' w.placed tells.fresh;
+      fresh = λ seat'. fresh_kept y (ap (λ (s : Side). s.cursor) stays.becomes) w.table refl refl seat' w.placed tells.fresh;
     }
 
   -- Memory for a savepoint is refused.
@@ -127,10 +131,7 @@ module _ (w : World) (tells : Tells w) (c : ℕ) (x : Session) (at : slice_get w
         (given_for w.table t' (takes_node op) pending.spare prepares.given).covered (λ p s. others p s + times_in x.log.jobs p s) (λ p s.
         let same : times_of (spare_if x.pending) p s ≡ 0 = ap (λ (o : Option PendingAt). times_of (spare_if o) p s) nothing in
         let exact : others p s + (times_of (spare_if x.pending) p s + times_in x.log.jobs p s) ≡ times_out w.table p s = covered p s in
-        regroup (others p s) (times_of (spare_if x.pending) p s) (times_in x.log.jobs p s) (times_out w.table p s) same exact)
-      where
-        regroup : (a z j n : ℕ) → z ≡ 0 → a + (z + j) ≡ n → a + j ≡ n
-        regroup a z j n same exact = omega arith
+        omega arith)
 
     prepared_runs : (t' : TableAt) (pending : PendingAt) → Prepares w.table t' op pending → Runs w.table t'
     prepared_runs t' pending prepares = record {
@@ -165,15 +166,16 @@ module _ (w : World) (tells : Tells w) (c : ℕ) (x : Session) (at : slice_get w
       asked_covered : (others : ℕ → ℕ → ℕ) → IsCovered (λ place stamp. others place stamp + times_kept (side_of x) place stamp) w.table → IsCovered (λ place stamp. others place stamp + times_kept asked_side place stamp) t'
       asked_covered others covered place stamp =
           let after : others place stamp + times_in x.log.jobs place stamp + times_of asks.pending.spare place stamp ≡ times_out t' place stamp = spares_before t' asks.pending asks.prepares others covered place stamp in
-          regroup (others place stamp) (times_in x.log.jobs place stamp) (times_of asks.pending.spare place stamp) (times_out t' place stamp) after
-        where
-          regroup : (a j s n : ℕ) → a + j + s ≡ n → a + (s + j) ≡ n
-          regroup a j s n exact = omega arith
+          omega arith
 
       pub asked_called : Called w c x (steps.Ask c op) answers.Asked y t' locks'
       asked_called =
-          entered w c x y t' locks' (steps.Ask c op) answers.Asked (entry.Asked c op) (map session_changes w.sessions) refl refl refl (none_dropped w.sessions c x at no_cursor_there)
-          (none, and_from (has_stamp_for (state_of w) op) (may_stand (state_of w) (entry.Asked c op)) (given_for w.table t' (takes_node op) asks.pending.spare asks.prepares.given).stamped locked)
+          entered w c x y t' locks' (steps.Ask c op) answers.Asked (entry.Asked c op) (map session_changes w.sessions) refl refl refl
+          (none_dropped w.sessions c x at no_cursor_there) (
+            none,
+            and_from (has_stamp_for (state_of w) op) (may_stand (state_of w) (entry.Asked c op))
+                (given_for w.table t' (takes_node op) asks.pending.spare asks.prepares.given).stamped locked,
+          )
           (prepared_runs t' asks.pending asks.prepares) (λ kept. asks.prepares.nodes.changes)
           (record {
             seat = record { phase = Waiting op; standing = x.seat.seat.standing; kept = x.seat.seat.kept };
@@ -232,14 +234,12 @@ module _ (w : World) (tells : Tells w) (c : ℕ) (x : Session) (at : slice_get w
       busy_covered others covered place stamp =
           let exact : others place stamp + times_in x.log.jobs place stamp ≡ times_out t' place stamp = spent meets.between t' meets.pending.spare (λ p s. others p s + times_in x.log.jobs p s) meets.back.spares (spares_before meets.between meets.pending meets.prepares others covered) place stamp in
           let none : times_of (spare_if x.pending) place stamp ≡ 0 = ap (λ (o : Option PendingAt). times_of (spare_if o) place stamp) nothing in
-          regroup (others place stamp) (times_in x.log.jobs place stamp) (times_of (spare_if x.pending) place stamp) (times_out t' place stamp) none exact
-        where
-          regroup : (a j p n : ℕ) → p ≡ 0 → a + j ≡ n → a + (p + j) ≡ n
-          regroup a j p n none exact = omega arith
+          omega arith
 
       pub busy_called : w.words ≡ false → Called w c x (steps.Ask c op) (answers.Busy holder) y t' locks'
       busy_called words =
-          entered w c x y t' locks' (steps.Ask c op) (answers.Busy holder) (entry.Busy c op holder) (map session_changes w.sessions) refl refl refl (none_dropped w.sessions c x at no_cursor_there)
+          entered w c x y t' locks' (steps.Ask c op) (answers.Busy holder) (entry.Busy c op holder)
+          (map session_changes w.sessions) refl refl refl (none_dropped w.sessions c x at no_cursor_there)
           (none, and_from (w.words || has_stamp_for (state_of w) op) (may_stand (state_of w) (entry.Busy c op holder)) (or_right w.words (has_stamp_for (state_of w) op) busy_stamped) (stands words))
           busy_runs (λ kept. meets.back.nodes.changes ∙ meets.prepares.nodes.changes)
           (record {

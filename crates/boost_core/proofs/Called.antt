@@ -1,10 +1,7 @@
 -- The outcome of each step of a caller.
-use Rattle.std.proofs.Common.{◌≡◌, ℕ, ◌+◌, ◌-◌, ◌^◌, ◌<◌, ◌≤◌, Bool, true, false, List, Option, Some, None, is_some, refl, sym, ap, subst, ◌∙◌, arith}
-use Rattle.std.specs.Prelude.{slice_get, slice_set, map, reverse, unwrap_or}
+use Rattle.std.proofs.Common.{◌≡◌, ℕ, ◌+◌, ◌-◌, ◌^◌, ◌<◌, ◌≤◌, Bool, true, false, List, Option, Some, None, is_some, refl, sym, ap, subst, ◌∙◌, arith, slice_get, slice_set, map, reverse, unwrap_or, inr, length-set, get_or-set_same}
 use Rattle.std.specs.Option.{option_map}
-use mathlib.Core.Logic.{inr}
 use Rattle.std.proofs.lemmas.Bool.{false≢true}
-use Rattle.std.proofs.lemmas.List.{length-set, get_or-set_same}
 use Rattle.std.proofs.lemmas.Option.{slice_get_within, slice_get-map}
 use Rattle.txn_words.specs.declared.step.Step.{Step}
 use Rattle.txn_words.specs.declared.step.Step.TheVariants as steps
@@ -78,25 +75,36 @@ module _ (w : World) (tells : Tells w) (x : Session) (y : Session) (t' : TableAt
   acted c at none _ does = absurd does
 
   saved_here : (c : ℕ) → slice_get w.sessions c ≡ Some x → refusal_of (state_of w) (steps.Save c) ≡ None → (answer : Answer) → Saves x answer y → t' ≡ w.table → locks' ≡ w.locks → Called w c x (steps.Save c) answer y t' locks'
-  saved_here c at none (answers.Saved n) does table same = same_world (Called w c x (steps.Save c) (answers.Saved n) y) w.table t' w.locks locks' table same (saved w tells c x at none n y does)
+  saved_here c at none (answers.Saved n) does table same =
+      same_world (Called w c x (steps.Save c) (answers.Saved n) y) w.table t' w.locks locks' table same (saved w tells c x at none n y does)
   saved_here c at none (answers.Refused refusals.NoMemory) does table same = save_refused w tells c x at none y t' locks' does table same
   saved_here c at none _ does table same = absurd does
 
   -- The outcome of each step that claims no word.
-  locked : (step : Step) → slice_get w.sessions (caller_in (owner_of step)) ≡ Some x → refusal_of (state_of w) step ≡ None → 0 < w.limits.stripes → IsClaim Lock (state_of w) step → (answer : Answer)
-      → Does Lock w.limits.stripes w.counts step x w.table w.locks answer y t' locks' → Called w (caller_in (owner_of step)) x step answer y t' locks'
-  locked (steps.Begin c) at none some claims (answers.Began n) does = same_world (Called w c x (steps.Begin c) (answers.Began n) y) w.table t' w.locks locks' does.2 does.3 (begun w tells c x at none n y does.0 does.1)
+  locked : (step : Step) → slice_get w.sessions (caller_in (owner_of step)) ≡ Some x → refusal_of (state_of w) step ≡ None
+      → 0 < w.limits.stripes → IsClaim Lock (state_of w) step → (answer : Answer)
+      → Does Lock w.limits.stripes w.counts step x w.table w.locks answer y t' locks'
+      → Called w (caller_in (owner_of step)) x step answer y t' locks'
+  locked (steps.Begin c) at none some claims (answers.Began n) does =
+      same_world (Called w c x (steps.Begin c) (answers.Began n) y) w.table t' w.locks locks' does.2 does.3
+      (begun w tells c x at none n y does.0 does.1)
   locked (steps.Ask c op) at none some claims answer does = asked c op at none (grind arith) (no_words w.words claims) answer does
-  locked (steps.Seek c) at none some claims answers.Placed does = subst (Called w c x (steps.Seek c) answers.Placed y t') (sym does.1) (sought_called w tells c x at none y t' does.0 keeps rises)
+  locked (steps.Seek c) at none some claims answers.Placed does =
+      subst (Called w c x (steps.Seek c) answers.Placed y t') (sym does.1) (sought_called w tells c x at none y t' does.0 keeps rises)
   locked (steps.Act c) at none some claims answer does = acted c at none answer does
   locked (steps.Save c) at none some claims answer does = saved_here c at none answer does.0 does.1 does.2
-  locked (steps.Back c n) at none some claims answers.Leaving does = same_world (Called w c x (steps.Back c n) answers.Leaving y) w.table t' w.locks locks' does.1 does.2 (left w tells c x at n none y does.0)
+  locked (steps.Back c n) at none some claims answers.Leaving does =
+      same_world (Called w c x (steps.Back c n) answers.Leaving y) w.table t' w.locks locks' does.1 does.2
+      (left w tells c x at n none y does.0)
   locked (steps.Commit c) at none some claims (answers.Committed p) does = committed w tells c x at none p y t' locks' does.0 does.1 does.2
-  locked (steps.Abort c) at none some claims answers.Leaving does = subst (Called w c x (steps.Abort c) answers.Leaving y t') (sym does.1) (withdrawn w tells c x at none y t' does.0)
+  locked (steps.Abort c) at none some claims answers.Leaving does =
+      subst (Called w c x (steps.Abort c) answers.Leaving y t') (sym does.1) (withdrawn w tells c x at none y t' does.0)
   locked _ at none some claims _ does = absurd does
 
-  claimed : (claim : Claim) (step : Step) → slice_get w.sessions (caller_in (owner_of step)) ≡ Some x → refusal_of (state_of w) step ≡ None → 0 < w.limits.stripes → IsClaim claim (state_of w) step → (answer : Answer)
-      → Does claim w.limits.stripes w.counts step x w.table w.locks answer y t' locks' → CalledBy claim w (caller_in (owner_of step)) x step answer y t' locks'
+  claimed : (claim : Claim) (step : Step) → slice_get w.sessions (caller_in (owner_of step)) ≡ Some x → refusal_of (state_of w) step ≡ None
+      → 0 < w.limits.stripes → IsClaim claim (state_of w) step → (answer : Answer)
+      → Does claim w.limits.stripes w.counts step x w.table w.locks answer y t' locks'
+      → CalledBy claim w (caller_in (owner_of step)) x step answer y t' locks'
   claimed Lock step at none some claims answer does = locked step at none some claims answer does
   claimed claim (steps.Ask c op) at none some claims answer does = asked_by claim c op at none (grind arith) claims answer does
   claimed _ _ at none some claims answer does = absurd claims

@@ -1,13 +1,10 @@
 -- Several steps of one caller in a row: no later one is refused if the first is not, and none has
 -- the answer `again`.
-use Rattle.std.proofs.Common.{◌≡◌, ℕ, ◌-◌, ◌<◌, ◌≤◌, ◌&&◌, ◌||◌, Bool, true, false, cond, List, [], ◌∷◌, ◌++◌, Option, Some, None, is_some, refl, sym, ap, subst, ◌∙◌, arith}
-use Rattle.std.specs.Prelude.{nat_le, not, unwrap_or, slice_index}
+use Rattle.std.proofs.Common.{◌≡◌, ℕ, ◌-◌, ◌<◌, ◌≤◌, ◌&&◌, ◌||◌, Bool, true, false, cond, List, [], ◌∷◌, ◌++◌, Option, Some, None, is_some, refl, sym, ap, subst, ◌∙◌, arith, nat_le, not, unwrap_or, slice_index, eqb-true, ltb-true, ne_eqb, append-nil, inl, inr, ◌⊎◌}
 use Rattle.std.specs.List.{All}
 use Rattle.std.specs.Option.{option_and_then}
-use Rattle.std.proofs.lemmas.Bool.{false≢true, and_parts, eqb-true, ltb-true, ne_eqb}
-use Rattle.std.proofs.lemmas.List.{append-nil}
+use Rattle.std.proofs.lemmas.Bool.{false≢true, and_parts}
 use Rattle.std.proofs.lemmas.List.Elements.{All-head, All-tail}
-use mathlib.Core.Logic.{inl, inr, ◌⊎◌}
 use Rattle.txn_words.specs.declared.op.Op.{Op}
 use Rattle.txn_words.specs.declared.entry.Entry.{Entry}
 use Rattle.txn_words.specs.declared.entry.Entry.TheVariants as entry
@@ -70,7 +67,9 @@ seek_places old new c Placed none move = refl
 seek_places old new c _ none move = absurd move.allowed.1
 
 never_again : (state : State) (c : ℕ) → state.placed ≡ Some (Caller c) → (has_target (seat_in state.history c) && may_be_stale state (Caller c)) ≡ true → ⊥
-never_again state c placed is = false≢true (sym (just_placed state (Caller c) placed) ∙ (and_parts (has_target (seat_in state.history c)) (may_be_stale state (Caller c)) is).1)
+never_again state c placed is =
+    false≢true (sym (just_placed state (Caller c) placed) ∙
+    (and_parts (has_target (seat_in state.history c)) (may_be_stale state (Caller c)) is).1)
 
 pub and_none : (b : Bool) → (b && false) ≡ false
 and_none true = refl

@@ -1,7 +1,6 @@
 -- A caller's call for help while nobody else takes steps on the core: what is so of each phase of
 -- its drive besides, the number of steps left, a round of the call's loop, and its outcome.
-use Rattle.std.proofs.Common.{◌≡◌, ℕ, ◌+◌, ◌*◌, ◌-◌, ◌^◌, ◌%◌, ◌<◌, ◌≤◌, Bool, true, false, if◌then◌else◌, Option, Some, None, refl, sym, ap, subst, ◌∙◌, arith}
-use Rattle.std.specs.Prelude.{nat_le, unwrap_or}
+use Rattle.std.proofs.Common.{◌≡◌, ℕ, ◌+◌, ◌*◌, ◌-◌, ◌^◌, ◌%◌, ◌<◌, ◌≤◌, Bool, true, false, if◌then◌else◌, Option, Some, None, refl, sym, ap, subst, ◌∙◌, arith, nat_le, unwrap_or}
 use Rattle.std.proofs.lemmas.Bool.{false≢true}
 use Rattle.std.proofs.lemmas.Nat.{mod_below}
 use Rattle.txn_words.specs.declared.step.Step.{Step}
@@ -88,7 +87,8 @@ sought_nears state new c again way _ small on move = record { placed = tt; fewer
 
 -- After the answer to linking the dummy.
 linked_nears : (state new : State) (c again : ℕ) (way : Way) (answer : Answer) → state.placed ≡ Some (Helper c) → Move state (steps.InitLink c) answer new → Nears new c (3 * (way.target - way.bucket) + 2) (told_link way again answer)
-linked_nears state new c again way answers.Again placed move = absurd (false≢true (sym (just_placed state (Helper c) placed) ∙ move.allowed.1))
+linked_nears state new c again way answers.Again placed move =
+    absurd (false≢true (sym (just_placed state (Helper c) placed) ∙ move.allowed.1))
 linked_nears state new c again way (answers.Refused refusal) placed move = at_refused (Nears new c (3 * (way.target - way.bucket) + 2)) refusal (λ r. record { placed = tt; fewer = omega arith })
 linked_nears state new c again way _ placed move = record { placed = tt; fewer = omega arith }
 
@@ -130,20 +130,37 @@ goes state new c key phase step answer whole most within fits is move =
     inside target less = let size = whole.most in omega arith
 
     -- The bucket is that of the key at the size after a step that is no doubling.
-    keeps : (step : Step) (target : ℕ) → is_double step ≡ false → Move state step answer new → target ≡ key % state.size → target ≡ key % new.size
+    keeps : (step : Step) (target : ℕ) → is_double step ≡ false → Move state step answer new → target ≡ key % state.size
+        → target ≡ key % new.size
     keeps step target single move is = is ∙ ap (λ n. key % n) (sym ((sized state new step answer move).same single))
 
-    by : (phase : Phase) → Fits state c key phase → step_in c (calls.Help key) (sized_in state.size phase) ≡ Some step → Move state (unwrap_or (step_in c (calls.Help key) (sized_in state.size phase)) step) answer new
+    by : (phase : Phase) → Fits state c key phase → step_in c (calls.Help key) (sized_in state.size phase) ≡ Some step
+        → Move state (unwrap_or (step_in c (calls.Help key) (sized_in state.size phase)) step) answer new
         → Reaches (Unit {0}) new (key % new.size) (told_in (calls.Help key) (sized_in state.size phase) answer) × Nears new c (left phase) (told_in (calls.Help key) (sized_in state.size phase) answer)
     by (phases.Doubling seen) fits is move =
         let least = whole.least in
-        let more = grown.least in
-        (double_reaches (Unit {0}) state new key answer (λ k stored. ap (λ xs. is_set xs 0) stored ∙ whole.first) move, doubled_nears state new c key answer small (omega arith) move)
-    by (phases.Initialising way again) fits is move =
-        (seek_reaches (Unit {0}) state new c (key % new.size) way again answer (keeps (steps.InitSeek c way.bucket) way.target refl move fits.1) move, sought_nears state new c again way answer (inside way.target fits.0.target) fits.0 move)
-    by (phases.Linking way again) fits is move = (link_reaches (Unit {0}) new (key % new.size) way again answer (keeps (steps.InitLink c) way.target refl move fits.1), linked_nears state new c again way answer fits.2 move)
-    by (phases.Storing way) fits is move =
-        (store_reaches (Unit {0}) state new c (key % new.size) way answer (λ k. (whole, fits.0)) (keeps (steps.InitStore c) way.target refl move fits.1) move, stored_nears new c way answer (inside way.target fits.0.0.target) fits.0.0.ancestor)
+        let more = grown.least in (
+          double_reaches (Unit {0}) state new key answer
+              (λ k stored. ap (λ xs. is_set xs 0) stored ∙ whole.first) move,
+          doubled_nears state new c key answer small (omega arith) move,
+        )
+    by (phases.Initialising way again) fits is move = (
+      seek_reaches (Unit {0}) state new c (key % new.size) way again answer
+          (keeps (steps.InitSeek c way.bucket) way.target refl move fits.1) move,
+      sought_nears state new c again way answer
+          (inside way.target fits.0.target) fits.0 move,
+    )
+    by (phases.Linking way again) fits is move = (
+      link_reaches (Unit {0}) new (key % new.size) way again answer
+          (keeps (steps.InitLink c) way.target refl move fits.1),
+      linked_nears state new c again way answer fits.2 move,
+    )
+    by (phases.Storing way) fits is move = (
+      store_reaches (Unit {0}) state new c (key % new.size) way answer (λ k. (whole, fits.0))
+          (keeps (steps.InitStore c) way.target refl move fits.1) move,
+      stored_nears new c way answer
+          (inside way.target fits.0.0.target) fits.0.0.ancestor,
+    )
     by phases.Helped fits is move = absurd (cc is)
     by (phases.Refused refusal) fits is move = absurd (cc is)
     by phase fits is move = absurd fits.0

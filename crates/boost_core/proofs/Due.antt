@@ -1,11 +1,9 @@
 -- The jobs of a caller stay due while others work on other keys.
-use Rattle.std.proofs.Common.{◌≡◌, ℕ, ◌+◌, ◌==◌, true, false, cond, List, [], ◌∷◌, ◌++◌, Option, Some, None, is_some, refl, sym, ap, subst, ◌∙◌}
-use Rattle.std.specs.Prelude.{IsSome, map, reverse, option_to_list, nat_eq}
+use Rattle.std.proofs.Common.{◌≡◌, ℕ, ◌+◌, ◌==◌, true, false, cond, List, [], ◌∷◌, ◌++◌, Option, Some, None, is_some, refl, sym, ap, subst, ◌∙◌, IsSome, map, reverse, option_to_list, nat_eq, eq-eqb, ne_eqb, append-nil, inl, inr}
 use Rattle.std.specs.Option.{option_eq}
 use Rattle.std.specs.List.{AllByRecursion}
-use Rattle.std.proofs.lemmas.Bool.{cases_Bool, cases_eq, eq-eqb, ne_eqb}
-use Rattle.std.proofs.lemmas.List.{reverse-append, append-nil}
-use mathlib.Core.Logic.{inl, inr}
+use Rattle.std.proofs.lemmas.Bool.{cases_Bool, cases_eq}
+use Rattle.std.proofs.lemmas.List.{reverse-append}
 use Rattle.map_ops.specs.TableAt.{SpareAt}
 use Rattle.txn_words.specs.declared.op.Op.{Op}
 use Rattle.txn_words.specs.declared.op.Op.TheVariants.{Put, Take, Get, PutIf}

@@ -1,17 +1,14 @@
 -- The seek of a caller, and an act at a cursor that no longer fits.
-use Rattle.std.proofs.Common.{◌≡◌, ℕ, ◌+◌, ◌-◌, ◌^◌, ◌<◌, ◌≤◌, true, false, [], ◌++◌, length, Option, Some, None, refl, sym, ap, subst, ◌∙◌}
-use Rattle.std.specs.Prelude.{slice_get, slice_set, map}
+use Rattle.std.proofs.Common.{◌≡◌, ℕ, ◌+◌, ◌-◌, ◌^◌, ◌<◌, ◌≤◌, true, false, [], ◌++◌, length, Option, Some, None, refl, sym, ap, subst, ◌∙◌, slice_get, slice_set, map, ne_eqb, inl, inr}
 use Rattle.std.specs.Option.{option_map}
-use Rattle.std.proofs.lemmas.Bool.{false≢true, cases_eq, ne_eqb, and_from}
+use Rattle.std.proofs.lemmas.Bool.{false≢true, cases_eq, and_from}
 use Rattle.std.proofs.lemmas.Option.{slice_get_within}
-use mathlib.Core.Logic.{inl, inr}
 use Rattle.map_ops.specs.TableAt.{fits, TableAt, Cursor, cursor_changes, map_of, table_changes, IsPlaced}
 use Rattle.txn_words.specs.declared.step.Step.TheVariants as steps
 use Rattle.txn_words.specs.declared.answer.Answer.TheVariants as answers
-use Rattle.txn_words.specs.Seats.{has_target}
 use Rattle.boost_core.specs.declared.session.Session.{Session}
 use Rattle.boost_core.specs.State.{Owner, Caller, Helper, seat_in}
-use Rattle.boost_core.specs.Refusals.{refusal_of}
+use Rattle.boost_core.specs.Refusals.{refusal_of, has_target}
 use Rattle.boost_core.specs.Core.{World, Tells, IsFresh, state_of, session_changes}
 use Rattle.boost_core.proofs.Moves.{keeps_runs, runs_same, state_is, changes_set, stale_since}
 use Rattle.boost_core.proofs.Grow.{world_after, seated_as, set_cases}
@@ -76,7 +73,8 @@ module _ (w : World) (tells : Tells w) (c : ℕ) (x : Session) (at : slice_get w
     stale : may_be_stale (state_of w) (Caller c) ≡ true
     stale =
         let placed_for = has_key (target_of x) (subst (λ (o : Option Cursor). IsSoughtAt w.table o (target_of x)) drops.had (tells.sought c x at)) in
-        stale_since (state_of w) (Caller c) (cursor_changes drops.cursor) (changes_here w tells c x at ∙ ap (option_map cursor_changes) drops.had) not_fresh
+        stale_since (state_of w) (Caller c) (cursor_changes drops.cursor)
+        (changes_here w tells c x at ∙ ap (option_map cursor_changes) drops.had) not_fresh
         (λ same below. false≢true (sym drops.stale ∙ placed_for.1.held (sym same) (subst (λ n. n < 2 ^ 64 - 1) same below)))
 
     again : Called w c x (steps.Act c) answers.Again y w.table w.locks

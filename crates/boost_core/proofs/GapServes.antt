@@ -1,6 +1,5 @@
 -- The effect of each step that is no caller's on the cursors.
-use Rattle.std.proofs.Common.{◌≡◌, ◌≢◌, ℕ, Some, Result, Ok, Err, refl, sym, ap, subst}
-use Rattle.std.specs.Prelude.{slice_get}
+use Rattle.std.proofs.Common.{◌≡◌, ◌≢◌, ℕ, Some, Result, Ok, Err, refl, sym, ap, subst, slice_get}
 use Rattle.split_key.specs.Sort.{dummy_at}
 use Rattle.bucket_table.specs.Dummies.{dummy_node}
 use Rattle.txn_words.specs.declared.refusal.Refusal.{Refusal}

@@ -1,8 +1,6 @@
 -- The effect of each step of a caller on the cursors.
-use Rattle.std.proofs.Common.{◌≡◌, ◌≢◌, ℕ, inl, inr, List, length, set, Option, Some, is_some, sym, ap, subst, ◌∙◌, arith}
-use Rattle.std.specs.Prelude.{map, slice_get, slice_set}
+use Rattle.std.proofs.Common.{◌≡◌, ◌≢◌, ℕ, inl, inr, List, length, set, Option, Some, is_some, sym, ap, subst, ◌∙◌, arith, map, slice_get, slice_set, length-set, get_or-set_same, get_or-set_other}
 use Rattle.std.proofs.lemmas.Bool.{cases_lt}
-use Rattle.std.proofs.lemmas.List.{length-set, get_or-set_same, get_or-set_other}
 use Rattle.std.proofs.lemmas.Option.{slice_get_within, slice_get_past, slice_get-get_or}
 use Rattle.split_key.specs.Sort.{regular_at}
 use Rattle.txn_words.specs.declared.op.Op.{Op}
@@ -28,9 +26,8 @@ use Rattle.boost_core.proofs.Moves.{gaps_same}
 use Rattle.boost_core.proofs.NodeSteps.{next_is}
 use Rattle.boost_core.proofs.GapLists.{Stay}
 use Rattle.boost_core.proofs.Neighbours.{fit_of}
-use Rattle.boost_core.proofs.Gaps.{gap_here, no_gap, gap_by_side, gap_kept, stands}
+use Rattle.boost_core.proofs.Gaps.{gap_here, no_gap, gap_by_side, gap_kept, stands, same_gap}
 use Rattle.boost_core.proofs.HelperGaps.{cursors_stay, helper_kept}
-use Rattle.boost_core.proofs.Claims.{same_gap}
 use Rattle.boost_core.proofs.Staying.{does_stay}
 
 -- The cursors after a step of an equal state.
@@ -100,10 +97,14 @@ module _ (w : World) (tells : Tells w) (c : ℕ) (x : Session) (at : slice_get w
       gap_kept w w' tells.sound.spread sound.rising stay d gap (ap (λ ss. slice_get ss d) sides ∙ set_other w.sessions c d z apart) is near
 
   keeps : (claim : Claim) (step : Step) → owner_of step ≡ Some (Caller c) → (stripes : ℕ) (answer : Answer) → Does claim stripes w.counts step x w.table w.locks answer y w'.table locks' → KeepsGaps (state_of w) step answer (state_of w')
-  keeps claim step owner stripes answer does (Caller d) gap other is near = other_kept claim step owner stripes answer does (does_stay w.table w'.table sound.spread x y w.locks locks' claim stripes w.counts step answer does).nodes d gap other is near
+  keeps claim step owner stripes answer does (Caller d) gap other is near =
+      other_kept claim step owner stripes answer does
+      (does_stay w.table w'.table sound.spread x y w.locks locks' claim stripes w.counts step answer does).nodes d gap other is near
   keeps claim step owner stripes answer does (Helper h) gap other is near =
-      helper_kept w.table w'.table tells.sound.spread sound.rising (does_stay w.table w'.table sound.spread x y w.locks locks' claim stripes w.counts step answer does).nodes h gap
-      (cursors_stay w.table w'.table h (does_stay w.table w'.table sound.spread x y w.locks locks' claim stripes w.counts step answer does).buckets) is near
+      helper_kept w.table w'.table tells.sound.spread sound.rising
+      (does_stay w.table w'.table sound.spread x y w.locks locks' claim stripes w.counts step answer does).nodes h gap
+      (cursors_stay w.table w'.table h (does_stay w.table w'.table sound.spread x y w.locks locks' claim stripes w.counts step answer
+      does).buckets) is near
 
   sought : SeeksIn x w.table y w'.table → StandsAt (state_of w') (Caller c) (regular_at (next_key (state_of w) c))
   sought is = subst (λ k. StandsAt (state_of w') (Caller c) (regular_at k)) (sym (next_is w tells c x at is.key is.target))

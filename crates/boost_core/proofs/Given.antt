@@ -1,8 +1,5 @@
 -- The spare of a prepared operation, its stamp, and its stripe.
-use Rattle.std.proofs.Common.{◌≡◌, ℕ, ◌+◌, ◌-◌, ◌^◌, ◌≤◌, ◌==◌, ◌||◌, Bool, true, false, cond, Option, Some, None, is_some, refl, sym, ap, subst, ◌∙◌, arith}
-use Rattle.std.specs.Prelude.{not}
-use Rattle.std.proofs.lemmas.Bool.{eq-eqb, ne_eqb}
-use mathlib.Core.Logic.{inl, inr, ◌⊎◌}
+use Rattle.std.proofs.Common.{◌≡◌, ℕ, ◌+◌, ◌-◌, ◌^◌, ◌≤◌, ◌==◌, ◌||◌, Bool, true, false, cond, Option, Some, None, is_some, refl, sym, ap, subst, ◌∙◌, arith, not, eq-eqb, ne_eqb, inl, inr, ◌⊎◌}
 use Rattle.map_ops.specs.TableAt.{SpareAt, TableAt, last_of}
 use Rattle.map_ops.specs.Changes.{GivesFor}
 use Rattle.boost_core.specs.Spares.{times_of, times_out, IsCovered}
@@ -19,7 +16,6 @@ pub record Given (t t' : TableAt) (takes : Bool) (spare : Option SpareAt) : Type
   pub covered : (others : ℕ → ℕ → ℕ) → IsCovered others t → IsCovered (λ place stamp. others place stamp + times_of spare place stamp) t'
 
 pub given_for : (t t' : TableAt) (takes : Bool) (spare : Option SpareAt) → GivesFor t t' takes spare → Given t t' takes spare
-given_for t t' true None gives = absurd gives
 given_for t t' true (Some spare) gives =
     let last = gives.last in
     record {
@@ -38,9 +34,10 @@ given_for t t' false None gives =
       last = last;
       rises = omega arith;
       most = omega arith;
-      covered = λ others covered place stamp. let exact : others place stamp ≡ times_out t' place stamp = subst (IsCovered others) (sym gives) covered place stamp in omega arith;
+      covered = λ others covered place stamp. let exact : others place stamp ≡ times_out t' place stamp = subst (IsCovered others)
+          (sym gives) covered place stamp in omega arith;
     }
-given_for t t' false (Some spare) gives = absurd gives
+given_for t t' _ _ gives = absurd gives
 
 pub open_to : (o : Option ℕ) (c : ℕ) → (o ≡ None) ⊎ (o ≡ Some c) → (elim o as (λ _. Bool) [ None ↦ true | Some d ↦ d == c ]) ≡ true
 open_to o c (inl free) = ap (λ (h : Option ℕ). elim h as (λ _. Bool) [ None ↦ true | Some d ↦ d == c ]) free

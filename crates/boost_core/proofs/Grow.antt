@@ -1,21 +1,19 @@
 -- The invariants of a core that hold when one caller's side changes.
-use Rattle.std.proofs.Common.{◌≡◌, ◌≢◌, ℕ, ◌+◌, ◌-◌, ◌<◌, ◌≤◌, true, cond, List, [], ◌∷◌, ◌++◌, length, get_or, set, Option, Some, None, refl, sym, ap, subst, ◌∙◌, arith}
-use Rattle.std.specs.Prelude.{slice_get, slice_set, sum_by, reverse}
+use Rattle.std.proofs.Common.{◌≡◌, ◌≢◌, ℕ, ◌+◌, ◌-◌, ◌<◌, ◌≤◌, true, cond, List, [], ◌∷◌, ◌++◌, length, get_or, set, Option, Some, None, refl, sym, ap, subst, ◌∙◌, arith, slice_get, slice_set, sum_by, reverse, length-set, get_or-set_same, get_or-set_other, ◌⊎◌, inl, inr}
 use Rattle.std.specs.Option.{option_and_then}
 use Rattle.std.specs.List.{AllByRecursion}
 use Rattle.std.proofs.lemmas.Bool.{cases_eq}
-use Rattle.std.proofs.lemmas.List.{length-set, length-map, length-reverse, get_or-set_same, get_or-set_other}
+use Rattle.std.proofs.lemmas.List.{length-map, length-reverse}
 use Rattle.std.proofs.lemmas.List.Sums.{sum_by-set, get_or-le-sum_by}
 use Rattle.std.proofs.lemmas.List.Elements.{All-push}
 use Rattle.std.proofs.lemmas.Option.{slice_get_within, get_or_from_slice_get, slice_get-get_or}
-use mathlib.Core.Logic.{◌⊎◌, inl, inr}
 use Rattle.txn_words.specs.declared.holder.Holder.{Holder}
 use Rattle.txn_words.specs.declared.entry.Entry.{Entry}
 use Rattle.txn_words.specs.Map.{Map, get}
 use Rattle.txn_words.specs.Kinds.{caller_of, is_began, is_commit}
 use Rattle.txn_trace.specs.Now.{now}
 use Rattle.txn_words.specs.declared.seat.Phase.{Phase}
-use Rattle.txn_words.specs.declared.seat.Phase.TheVariants.{Closed, Opened, Waiting, LeavingTo, LeavingToEnd}
+use Rattle.txn_words.specs.declared.seat.Phase.TheVariants.{Closed, LeavingTo}
 use Rattle.txn_words.specs.Shape.{Seat, RoomySeat, row, seat_after, own}
 use Rattle.txn_words.specs.Seats.{is_saved}
 use Rattle.txn_trace.specs.Log.{log_of}
@@ -112,10 +110,7 @@ still_due stripes h d s room current legal is same = at s.seat.phase refl
     at Closed is_q =
         let none : s.seat.standing ≡ 0 = (subst (λ q. IsLevelIn q s.seat.standing s.seat.kept) is_q (seat_leveled (own d h) s.seat is.seat).within).0 in
         closed_due current (reverse s.jobs) (length-reverse s.jobs ∙ sym is.agrees.standing ∙ none)
-    at Opened is_q = run Opened is_q refl
-    at (Waiting op) is_q = run (Waiting op) is_q refl
-    at (LeavingTo n) is_q = run (LeavingTo n) is_q refl
-    at LeavingToEnd is_q = run LeavingToEnd is_q refl
+    at q is_q = run q is_q refl
 
 -- A step that adds an entry: the history after it, the caller's side, which has no cursor, before
 -- its seat enters the entry, and the proof that no other caller is disturbed.

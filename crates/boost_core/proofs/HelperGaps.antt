@@ -1,6 +1,5 @@
 -- The cursors of helpers, from the table.
-use Rattle.std.proofs.Common.{◌≡◌, ◌≢◌, ℕ, Bool, true, false, zero, suc, List, [], ◌∷◌, replicate, Option, Some, None, is_some, refl, sym, ap, ◌∙◌}
-use Rattle.std.specs.Prelude.{map, slice_index_or, unwrap_or}
+use Rattle.std.proofs.Common.{◌≡◌, ◌≢◌, ℕ, Bool, true, false, zero, suc, List, [], ◌∷◌, replicate, Option, Some, None, is_some, refl, sym, ap, ◌∙◌, map, slice_index_or, unwrap_or}
 use Rattle.std.specs.Option.{option_map}
 use Rattle.std.proofs.lemmas.Bool.{false≢true}
 use Rattle.std.proofs.lemmas.Option.{slice_get-map, unwrap_or-slice_get}
@@ -17,7 +16,7 @@ use Rattle.boost_core.specs.Nodes.{AreNeighbours, StandsAt}
 use Rattle.boost_core.specs.Core.{nodes_at, gap_if, helper_gaps_of, World, state_of}
 use Rattle.boost_core.proofs.GapLists.{Stay}
 use Rattle.boost_core.proofs.Neighbours.{fit_of}
-use Rattle.boost_core.proofs.Gaps.{cursor_still, gap_here, no_gap, stands_at}
+use Rattle.boost_core.proofs.Gaps.{cursor_still, gap_here, no_gap, stands_at, same_fits}
 use Rattle.split_key.specs.Sort.{dummy_at}
 
 -- The nodes beside a helper's cursor, from that cursor.
@@ -48,6 +47,14 @@ fits_by t h =
     at (Some Idle) = refl
     at (Some (Seeking bucket cursor)) = refl
     at (Some (Holding bucket dummy)) = refl
+
+-- A helper's cursor still fits if the nodes and the buckets are unchanged.
+pub same_helper : (t t' : TableAt) (h : ℕ) → nodes_of t' ≡ nodes_of t → t'.buckets ≡ t.buckets → helper_fits t' h ≡ helper_fits t h
+same_helper t t' h same buckets = fits_by t' h ∙ ap (fits_if t') (cursors_stay t t' h buckets) ∙ at (helper_cursor t h) ∙ sym (fits_by t h)
+  where
+    at : (o : Option Cursor) → fits_if t' o ≡ fits_if t o
+    at None = refl
+    at (Some cursor) = same_fits t t' cursor same
 
 -- A cursor that fits has nodes beside it, and one that does not fit has none.
 pub helper_gap : (t : TableAt) (h : ℕ) → helper_fits t h ≡ true → is_some (gap_in (helper_gaps_of t) h) ≡ true
@@ -95,6 +102,5 @@ rest_of (help ∷ rest) = rest
 
 pub idle_cursors : (helpers : List TableHelper) (n : ℕ) → map help_of helpers ≡ replicate n Nothing → map cursor_in helpers ≡ replicate n None
 idle_cursors [] zero is = refl
-idle_cursors [] (suc n) is = absurd (cc (is))
-idle_cursors (helper ∷ rest) zero is = absurd (cc (is))
 idle_cursors (helper ∷ rest) (suc n) is = λ i. idle_cursor helper (ap first_of is) i ∷ idle_cursors rest n (ap rest_of is) i
+idle_cursors _ _ is = absurd (cc (is))

@@ -1,10 +1,7 @@
 -- The steps of the table and of its helpers.
-use Rattle.std.proofs.Common.{◌≡◌, ◌≢◌, ℕ, ◌≤◌, ◌&&◌, Bool, true, false, cond, List, [], ◌++◌, length, Option, Some, None, Result, Ok, Err, refl, sym, ap, subst, ◌∙◌, arith}
-use Rattle.std.specs.Prelude.{slice_get, slice_set, unwrap_or, map, nat_le, not}
-use Rattle.std.proofs.lemmas.Bool.{false≢true, cases_lt, le-leb}
-use Rattle.std.proofs.lemmas.List.{append-nil}
+use Rattle.std.proofs.Common.{◌≡◌, ◌≢◌, ℕ, ◌≤◌, ◌&&◌, Bool, true, false, cond, List, [], ◌++◌, length, Option, Some, None, Result, Ok, Err, refl, sym, ap, subst, ◌∙◌, arith, slice_get, slice_set, unwrap_or, map, nat_le, not, le-leb, append-nil, inl, inr}
+use Rattle.std.proofs.lemmas.Bool.{false≢true, cases_lt}
 use Rattle.std.proofs.lemmas.Option.{slice_get_within, slice_get-get_or, unwrap_or-slice_get}
-use mathlib.Core.Logic.{inl, inr}
 use Rattle.map_ops.specs.Double.{Double}
 use Rattle.map_ops.specs.InitSeek.{InitSeek}
 use Rattle.map_ops.specs.InitSeek.TheVariants as seeks
@@ -89,18 +86,46 @@ becomes_tells w tells t' placed' size stored linked helps becomes many follows f
     tells_table w tells t' placed' becomes.regular follows becomes.spares
     becomes.largest (ap length becomes.helps_is ∙ many) fresh
 
--- The state after such a change.
-pub becomes_state : (w : World) (t' : TableAt) (placed' : Option Owner) (size : ℕ) (stored linked : List Bool) (helps : List Help) → Becomes w.table t' size stored linked helps
-    → state_of (served w t' placed') ≡ record { limits = w.limits; words = w.words; history = w.history ++ []; size = size; stored = stored; linked = linked; nodes = nodes_at t'; changes = table_changes t'; stamp = last_of t'; cursors = map session_changes w.sessions; gaps = map (gap_by t') w.sessions; helper_gaps = helper_gaps_of t'; helpers = helps; placed = placed' }
-becomes_state w t' placed' size stored linked helps becomes = λ i. record { limits = w.limits; words = w.words; history = append_none w.history i; size = becomes.size_is i; stored = becomes.stored_is i; linked = becomes.linked_is i; nodes = nodes_at t'; changes = table_changes t'; stamp = last_of t'; cursors = map session_changes w.sessions; gaps = map (gap_by t') w.sessions; helper_gaps = helper_gaps_of t'; helpers = becomes.helps_is i; placed = placed' }
+-- The state after such a change, but for the nodes.
+abbrev pub became : World → TableAt → Option Owner → ℕ → List Bool → List Bool → List Help → State
+became w t' placed' size stored linked helps = record (state_of w) {
+  history = w.history ++ [];
+  size = size;
+  stored = stored;
+  linked = linked;
+  changes = table_changes t';
+  stamp = last_of t';
+  helpers = helps;
+  placed = placed';
+}
+
+pub becomes_state : (w : World) (t' : TableAt) (placed' : Option Owner) (size : ℕ) (stored linked : List Bool) (helps : List Help)
+    → Becomes w.table t' size stored linked helps → state_of (served w t' placed')
+    ≡ record (became w t' placed' size stored linked helps) { nodes = nodes_at t'; gaps = map (gap_by t') w.sessions; helper_gaps = helper_gaps_of t' }
+becomes_state w t' placed' size stored linked helps becomes = λ i. record (state_of w) {
+  history = append_none w.history i;
+  size = becomes.size_is i;
+  stored = becomes.stored_is i;
+  linked = becomes.linked_is i;
+  nodes = nodes_at t';
+  changes = table_changes t';
+  stamp = last_of t';
+  gaps = map (gap_by t') w.sessions;
+  helper_gaps = helper_gaps_of t';
+  helpers = becomes.helps_is i;
+  placed = placed';
+}
 
 -- The move, if the last stamp is unchanged.
-pub becomes_move : (w : World) (t' : TableAt) (placed' : Option Owner) (size : ℕ) (stored linked : List Bool) (helps : List Help) (step : Step) (answer : Answer) → Becomes w.table t' size stored linked helps → IsAllowed (state_of w) step answer
-    → after (state_of w) step answer (table_changes t') (last_of t') ≡ record (state_of w) { history = w.history ++ []; size = size; stored = stored; linked = linked; changes = table_changes t'; stamp = last_of t'; helpers = helps; placed = placed' }
-    → table_changes w.table ≤ table_changes t' → (keeps_list answer ≡ true → table_changes t' ≡ table_changes w.table) → last_of t' ≡ last_of w.table → Move (state_of w) step answer (state_of (served w t' placed'))
+pub becomes_move : (w : World) (t' : TableAt) (placed' : Option Owner) (size : ℕ) (stored linked : List Bool) (helps : List Help)
+    (step : Step) (answer : Answer) → Becomes w.table t' size stored linked helps → IsAllowed (state_of w) step answer
+    → after (state_of w) step answer (table_changes t') (last_of t') ≡ became w t' placed' size stored linked helps
+    → table_changes w.table ≤ table_changes t' → (keeps_list answer ≡ true → table_changes t' ≡ table_changes w.table)
+    → last_of t' ≡ last_of w.table → Move (state_of w) step answer (state_of (served w t' placed'))
 becomes_move w t' placed' size stored linked helps step answer becomes allowed after_is rises kept same = record {
   allowed = allowed;
-  state = becomes_state w t' placed' size stored linked helps becomes ∙ ap (λ (s : State). record s { nodes = nodes_at t'; gaps = map (gap_by t') w.sessions; helper_gaps = helper_gaps_of t' }) (sym after_is);
+  state = becomes_state w t' placed' size stored linked helps becomes
+      ∙ ap (λ (s : State). record s { nodes = nodes_at t'; gaps = map (gap_by t') w.sessions; helper_gaps = helper_gaps_of t' }) (sym after_is);
   changes = rises;
   list_kept = kept;
   stamp = omega arith;
@@ -152,15 +177,13 @@ seek_refusal w helper bucket many = at (slice_get (helps_of w.table) helper) ref
         ∙ seek_tests (nat_le (size_of w.table) bucket) (is_stored (stored_of w.table) bucket) (is_stored (stored_of w.table) (parent_of bucket))
 
 seek_ready : (large here above : Bool) → answer_for (cond {A = Result InitSeek InitRefusal} large (Err inits.NoSuchBucket) (cond here (Ok seeks.Ready) (cond above (Ok seeks.Placed) (Err inits.ParentMissing)))) ≡ Ok seeks.Ready → here ≡ true
-seek_ready true here above is = absurd (cc (is))
 seek_ready false true above is = refl
 seek_ready false false true is = absurd (cc (is))
-seek_ready false false false is = absurd (cc (is))
+seek_ready _ _ _ is = absurd (cc (is))
 
 seek_placed : (large here above : Bool) → answer_for (cond {A = Result InitSeek InitRefusal} large (Err inits.NoSuchBucket) (cond here (Ok seeks.Ready) (cond above (Ok seeks.Placed) (Err inits.ParentMissing)))) ≡ Ok seeks.Placed → not here ≡ true
-seek_placed true here above is = absurd (cc (is))
-seek_placed false true above is = absurd (cc (is))
 seek_placed false false above is = refl
+seek_placed _ _ _ is = absurd (cc (is))
 
 -- The bucket is stored already, or not yet.
 pub ready_stored : (t : TableAt) (o : Option Help) (bucket : ℕ) → seek_answer (size_of t) (stored_of t) o bucket ≡ Ok seeks.Ready → is_set (stored_of t) bucket ≡ true
@@ -175,15 +198,20 @@ pub seek_ready_move : (w : World) (t' : TableAt) (helper bucket : ℕ) → lengt
     → seek_answer (size_of w.table) (stored_of w.table) (slice_get (helps_of w.table) helper) bucket ≡ Ok seeks.Ready → Helps w.table t' helper Nothing → table_changes t' ≡ table_changes w.table
     → Move (state_of w) (steps.InitSeek helper bucket) answers.Ready (state_of (served w t' None))
 seek_ready_move w t' helper bucket many is helps stays =
-    becomes_move w t' None (size_of w.table) (stored_of w.table) (linked_of w.table) (slice_set (helps_of w.table) helper Nothing) (steps.InitSeek helper bucket) answers.Ready helps.becomes
-    (seek_refusal w helper bucket many ∙ ap refusal_in_result is, ready_stored w.table (slice_get (helps_of w.table) helper) bucket is) refl (omega arith) (λ kept. stays) helps.last
+    becomes_move w t' None (size_of w.table) (stored_of w.table) (linked_of w.table) (slice_set (helps_of w.table) helper Nothing)
+    (steps.InitSeek helper bucket) answers.Ready helps.becomes
+    (seek_refusal w helper bucket many ∙ ap refusal_in_result is, ready_stored w.table (slice_get (helps_of w.table) helper) bucket is) refl
+    (omega arith) (λ kept. stays) helps.last
 
 pub seek_placed_move : (w : World) (t' : TableAt) (helper bucket : ℕ) → length (helps_of w.table) ≡ w.limits.callers
     → seek_answer (size_of w.table) (stored_of w.table) (slice_get (helps_of w.table) helper) bucket ≡ Ok seeks.Placed → Seeks w.table t' helper bucket → table_changes w.table ≤ table_changes t'
     → Move (state_of w) (steps.InitSeek helper bucket) answers.Placed (state_of (served w t' (Some (Helper helper))))
 seek_placed_move w t' helper bucket many is places rises =
-    becomes_move w t' (Some (Helper helper)) (size_of w.table) (stored_of w.table) (linked_of w.table) (slice_set (helps_of w.table) helper (Sought bucket (table_changes t'))) (steps.InitSeek helper bucket) answers.Placed places.helps.becomes
-    (seek_refusal w helper bucket many ∙ ap refusal_in_result is, placed_not w.table (slice_get (helps_of w.table) helper) bucket is) refl rises (λ kept. absurd (false≢true kept)) places.helps.last
+    becomes_move w t' (Some (Helper helper)) (size_of w.table) (stored_of w.table) (linked_of w.table)
+    (slice_set (helps_of w.table) helper (Sought bucket (table_changes t')))
+    (steps.InitSeek helper bucket) answers.Placed places.helps.becomes
+    (seek_refusal w helper bucket many ∙ ap refusal_in_result is, placed_not w.table (slice_get (helps_of w.table) helper) bucket is) refl
+    rises (λ kept. absurd (false≢true kept)) places.helps.last
 
 -- A helper's step that the table refuses.
 pub helper_refused : (w : World) (t' : TableAt) (step : Step) (refusal : Refusal) → t' ≡ w.table → refusal_of (state_of w) step ≡ Some refusal
@@ -232,7 +260,9 @@ pub stored_move : (w : World) (t' : TableAt) (helper : ℕ) → length (helps_of
     → store_answer (slice_get (helps_of w.table) helper) ≡ Ok tt → Stores w.table t' helper
     → Move (state_of w) (steps.InitStore helper) answers.Stored (state_of (served w t' None))
 stored_move w t' helper many is stores =
-    becomes_move w t' None (size_of w.table) (slice_set (stored_of w.table) stores.bucket true) (linked_of w.table) (slice_set (helps_of w.table) helper Nothing) (steps.InitStore helper) answers.Stored stores.becomes
+    becomes_move w t' None (size_of w.table) (slice_set (stored_of w.table) stores.bucket true) (linked_of w.table)
+    (slice_set (helps_of w.table) helper Nothing) (steps.InitStore helper) answers.Stored stores.becomes
     (store_refusal w helper many ∙ ap refusal_in_result is, tt)
-    (ap (λ (o : Option Help). record (state_of w) { history = w.history ++ []; stored = slice_set (stored_of w.table) (bucket_at (unwrap_or o Nothing)) true; changes = table_changes t'; stamp = last_of t'; helpers = slice_set (helps_of w.table) helper Nothing; placed = None }) stores.had)
+    (ap (λ (o : Option Help). became w t' None (size_of w.table) (slice_set (stored_of w.table) (bucket_at (unwrap_or o Nothing)) true)
+    (linked_of w.table) (slice_set (helps_of w.table) helper Nothing)) stores.had)
     (let same = stores.kept in omega arith) (λ kept. stores.kept) stores.last

@@ -1,10 +1,8 @@
 -- A call for help and the core stay in step over each move of the call, whoever else takes steps on
 -- the core between them; and the call keeps to its bucket, which is stored when the call is at its
 -- end.
-use Rattle.std.proofs.Common.{◌≡◌, ◌≢◌, ℕ, ◌*◌, ◌^◌, ◌%◌, ◌<◌, ◌≤◌, ◌==◌, ◌&&◌, nat_lt, Bool, true, false, if◌then◌else◌, List, [], ◌∷◌, length, Some, None, refl, sym, ap, subst, ◌∙◌, arith}
-use Rattle.std.specs.Prelude.{nat_le, not, unwrap_or, slice_get, slice_set}
-use Rattle.std.proofs.lemmas.Bool.{false≢true, eqb-true, eqb-false, lt-ltb}
-use Rattle.std.proofs.lemmas.List.{get_or-set_same}
+use Rattle.std.proofs.Common.{◌≡◌, ◌≢◌, ℕ, ◌*◌, ◌^◌, ◌%◌, ◌<◌, ◌≤◌, ◌==◌, ◌&&◌, nat_lt, Bool, true, false, if◌then◌else◌, List, [], ◌∷◌, length, Some, None, refl, sym, ap, subst, ◌∙◌, arith, nat_le, not, unwrap_or, slice_get, slice_set, eqb-true, lt-ltb, get_or-set_same}
+use Rattle.std.proofs.lemmas.Bool.{false≢true, eqb-false}
 use Rattle.std.proofs.lemmas.Nat.{mod_below}
 use Rattle.std.proofs.lemmas.Option.{unwrap_or-slice_get}
 use Rattle.txn_words.specs.declared.step.Step.{Step}
@@ -236,9 +234,12 @@ help_suits_store m n c way a whole within suits move = at a move
 -- The core and the call are in step again after a move of the call and its answer.
 pub help_suits_told : (m n : State) (c key : ℕ) (phase : Phase) (step : Step) (a : Answer) → IsWhole m → n.size < 2 ^ 32 → nat_le m.limits.callers c ≡ false → HelpSuits m c phase → step_in c (calls.Help key) (sized_in m.size phase) ≡ Some step
     → Move m step a n → HelpSuits n c (told_in (calls.Help key) (sized_in m.size phase) a)
-help_suits_told m n c key phase step a whole small within suits is move = by phase suits is (subst (λ s. Move m s a n) (sym (ap (λ o. unwrap_or o step) is)) move)
+help_suits_told m n c key phase step a whole small within suits is move =
+    by phase suits is (subst (λ s. Move m s a n) (sym (ap (λ o. unwrap_or o step) is)) move)
   where
-    by : (phase : Phase) → HelpSuits m c phase → step_in c (calls.Help key) (sized_in m.size phase) ≡ Some step → Move m (unwrap_or (step_in c (calls.Help key) (sized_in m.size phase)) step) a n → HelpSuits n c (told_in (calls.Help key) (sized_in m.size phase) a)
+    by : (phase : Phase) → HelpSuits m c phase → step_in c (calls.Help key) (sized_in m.size phase) ≡ Some step
+        → Move m (unwrap_or (step_in c (calls.Help key) (sized_in m.size phase)) step) a n
+        → HelpSuits n c (told_in (calls.Help key) (sized_in m.size phase) a)
     by (Doubling seen) suits is move = help_suits_double m n c key a whole small move
     by (Initialising way again) suits is move = help_suits_seek m n c way again a whole within suits move
     by (Linking way again) suits is move = help_suits_link m n c way again a whole within suits move

@@ -1,8 +1,6 @@
 -- The step by which a helper links a dummy.
-use Rattle.std.proofs.Common.{◌≡◌, ◌≢◌, ℕ, ◌-◌, ◌^◌, ◌<◌, ◌≤◌, ◌==◌, Bool, true, false, cond, List, [], ◌++◌, length, Option, Some, None, Result, Ok, Err, is_some, refl, sym, ap, subst, ◌∙◌, arith}
-use Rattle.std.specs.Prelude.{slice_get, slice_set, unwrap_or, map, nat_le, not}
-use Rattle.std.proofs.lemmas.Bool.{false≢true, cases_eq, ne_eqb, and_from}
-use mathlib.Core.Logic.{inl, inr}
+use Rattle.std.proofs.Common.{◌≡◌, ◌≢◌, ℕ, ◌-◌, ◌^◌, ◌<◌, ◌≤◌, ◌==◌, Bool, true, false, cond, List, length, Option, Some, None, Result, Ok, Err, is_some, refl, sym, ap, subst, ◌∙◌, arith, slice_get, slice_set, unwrap_or, map, nat_le, not, ne_eqb, inl, inr}
+use Rattle.std.proofs.lemmas.Bool.{false≢true, cases_eq, and_from}
 use Rattle.map_ops.specs.InitLink.{InitLink}
 use Rattle.map_ops.specs.InitLink.TheVariants as links
 use Rattle.bucket_table.specs.declared.answer.InitRefusal.{InitRefusal}
@@ -17,9 +15,9 @@ use Rattle.boost_core.specs.State.{State, Owner, Caller, Helper, is_set, help_in
 use Rattle.boost_core.specs.Refusals.{refusal_of, has_cursor, has_stamp, lacks_dummy}
 use Rattle.boost_core.specs.Answers.{is_just_placed, may_be_stale}
 use Rattle.boost_core.specs.Machine.{Move}
-use Rattle.boost_core.specs.Core.{World, IsFresh, state_of, session_changes, nodes_at, gap_by, helper_gaps_of}
+use Rattle.boost_core.specs.Core.{World, IsFresh, state_of, nodes_at, gap_by, helper_gaps_of}
 use Rattle.boost_core.proofs.Moves.{refused, lacks, stale_since}
-use Rattle.boost_core.proofs.Helping.{served, becomes_state, becomes_move, helper_there, helper_none, is_set_is}
+use Rattle.boost_core.proofs.Helping.{served, became, becomes_state, becomes_move, helper_there, helper_none, is_set_is}
 
 -- InitLink. The refusal that a test gives, from the table's answer: the lack of memory or of stamps
 -- follows all tests.
@@ -41,21 +39,16 @@ linking_test true false false = refl
 
 linking_again : (fitting there used : Bool) → linking fitting there used ≡ Ok links.Again → fitting ≡ false
 linking_again false there used is = refl
-linking_again true true used is = absurd (cc (is))
 linking_again true false true is = absurd (cc (is))
-linking_again true false false is = absurd (cc (is))
+linking_again _ _ _ is = absurd (cc (is))
 
 linking_linked : (fitting there used : Bool) → linking fitting there used ≡ Ok links.Linked → (there ≡ false) × (used ≡ false)
-linking_linked false there used is = absurd (cc (is))
-linking_linked true true used is = absurd (cc (is))
-linking_linked true false true is = absurd (cc (is))
 linking_linked true false false is = (refl, refl)
+linking_linked _ _ _ is = absurd (cc (is))
 
 linking_used : (fitting there used : Bool) → linking fitting there used ≡ Err refusals.StampsUsedUp → (there ≡ false) × (used ≡ true)
-linking_used false there used is = absurd (cc (is))
-linking_used true true used is = absurd (cc (is))
 linking_used true false true is = (refl, refl)
-linking_used true false false is = absurd (cc (is))
+linking_used _ _ _ is = absurd (cc (is))
 
 -- A helper that no test refuses has a cursor for a bucket.
 pub record HasSought (o : Option Help) (fitting : Bool) (linked : List Bool) (last : ℕ) (result : Result InitLink Refusal) : Type 0 where
@@ -67,7 +60,8 @@ pub record HasSought (o : Option Help) (fitting : Bool) (linked : List Bool) (la
 pub has_sought : (fitting : Bool) (linked : List Bool) (last : ℕ) (o : Option Help) (result : Result InitLink Refusal) → link_answer fitting linked last o ≡ result → refusal_by_test result ≡ None → HasSought o fitting linked last result
 has_sought fitting linked last None result is free = absurd (let e : Some refusals.NoSuchHelper ≡ None = ap refusal_by_test is ∙ free in cc)
 has_sought fitting linked last (Some (Sought bucket noted)) result is free = record { bucket = bucket; noted = noted; had = refl; answer = is }
-has_sought fitting linked last _ result is free = absurd (let e : Some refusals.HelperOutOfOrder ≡ None = ap refusal_by_test is ∙ free in cc)
+has_sought fitting linked last _ result is free =
+    absurd (let e : Some refusals.HelperOutOfOrder ≡ None = ap refusal_by_test is ∙ free in cc)
 
 -- The answer to a link is `again` if the helper's cursor no longer fits, and only then.
 pub stale_where : (t : TableAt) (helper : ℕ) → link_answer_of t helper ≡ Ok links.Again → helper_fits t helper ≡ false
@@ -140,7 +134,8 @@ module _ (w : World) (helper : ℕ) (many : length (helps_of w.table) ≡ w.limi
       → Move before (steps.InitLink helper) answers.Again (state_of (served w t' None))
   link_again_move is fresh unmoved t' helps stays =
       let sought = has_sought (helper_fits w.table helper) (linked_of w.table) (last_of w.table) (slice_get (helps_of w.table) helper) (Ok links.Again) is refl in
-      becomes_move w t' None (size_of w.table) (stored_of w.table) (linked_of w.table) (slice_set (helps_of w.table) helper Nothing) (steps.InitLink helper) answers.Again helps.becomes
+      becomes_move w t' None (size_of w.table) (stored_of w.table) (linked_of w.table) (slice_set (helps_of w.table) helper Nothing)
+      (steps.InitLink helper) answers.Again helps.becomes
       (link_refusal ∙ ap refusal_by_test is, stale sought.bucket sought.noted sought.had (linking_again (helper_fits w.table helper) (is_stored (linked_of w.table) sought.bucket) (last_of w.table == 2 ^ 64 - 2) sought.answer))
       refl (omega arith) (λ kept. stays) helps.last
     where
@@ -153,15 +148,19 @@ module _ (w : World) (helper : ℕ) (many : length (helps_of w.table) ≡ w.limi
       ]
 
       stale : (bucket noted : ℕ) → slice_get (helps_of w.table) helper ≡ Some (Sought bucket noted) → helper_fits w.table helper ≡ false → may_be_stale before (Helper helper) ≡ true
-      stale bucket noted had misfit = stale_since before (Helper helper) noted (ap (λ (o : Option Help). helper_changes (unwrap_or o Nothing)) had) (not_fresh misfit w.placed fresh)
+      stale bucket noted had misfit =
+          stale_since before (Helper helper) noted (ap (λ (o : Option Help). helper_changes (unwrap_or o Nothing)) had)
+          (not_fresh misfit w.placed fresh)
           (λ same below. unmoved bucket (had ∙ ap (λ n. Some (Sought bucket n)) same) (subst (λ n. n < 2 ^ 64 - 1) same below))
 
   -- The dummy was linked already.
   pub link_present_move : answer_now ≡ Ok links.Present → (t' : TableAt) → Holds w.table t' helper → Move before (steps.InitLink helper) answers.Present (state_of (served w t' None))
   link_present_move is t' holds =
-      becomes_move w t' None (size_of w.table) (stored_of w.table) (linked_of w.table) (slice_set (helps_of w.table) helper (Dummy holds.bucket)) (steps.InitLink helper) answers.Present holds.helps.becomes
+      becomes_move w t' None (size_of w.table) (stored_of w.table) (linked_of w.table)
+      (slice_set (helps_of w.table) helper (Dummy holds.bucket)) (steps.InitLink helper) answers.Present holds.helps.becomes
       (link_refusal ∙ ap refusal_by_test is, ap not (lacks_when holds.bucket holds.changes true holds.had (ap (λ (o : Option Bool). unwrap_or o false) holds.there)))
-      (ap (λ n. record before { history = w.history ++ []; changes = table_changes t'; stamp = last_of t'; helpers = slice_set (helps_of w.table) helper (Dummy n); placed = None }) (bucket_had (Sought holds.bucket holds.changes) holds.had))
+      (ap (λ n. became w t' None (size_of w.table) (stored_of w.table) (linked_of w.table) (slice_set (helps_of w.table) helper (Dummy n)))
+      (bucket_had (Sought holds.bucket holds.changes) holds.had))
       (let same = holds.kept in omega arith) (λ kept. holds.kept) holds.helps.last
 
   -- The dummy is linked now.
@@ -172,7 +171,8 @@ module _ (w : World) (helper : ℕ) (many : length (helps_of w.table) ≡ w.limi
       record {
         allowed = (link_refusal ∙ ap refusal_by_test is, and_from (lacks_dummy before helper) (has_stamp before) (lacks_when linked.bucket linked.changes false linked.had (ap (λ (o : Option Bool). unwrap_or o false) linked.absent)) (ap not parts.1));
         state = becomes_state w t' None (size_of w.table) (stored_of w.table) (slice_set (linked_of w.table) linked.bucket true) (slice_set (helps_of w.table) helper (Dummy linked.bucket)) linked.becomes
-            ∙ ap (λ n. record { limits = w.limits; words = w.words; history = w.history ++ []; size = size_of w.table; stored = stored_of w.table; linked = slice_set (linked_of w.table) n true; nodes = nodes_at t'; changes = table_changes t'; stamp = last_of t'; cursors = map session_changes w.sessions; gaps = map (gap_by t') w.sessions; helper_gaps = helper_gaps_of t'; helpers = slice_set (helps_of w.table) helper (Dummy n); placed = None })
+            ∙ ap (λ n. record (became w t' None (size_of w.table) (stored_of w.table) (slice_set (linked_of w.table) n true)
+            (slice_set (helps_of w.table) helper (Dummy n))) { nodes = nodes_at t'; gaps = map (gap_by t') w.sessions; helper_gaps = helper_gaps_of t' })
             (sym (bucket_had (Sought linked.bucket linked.changes) linked.had));
         changes = rises;
         list_kept = λ kept. absurd (false≢true kept);

@@ -1,12 +1,10 @@
 -- Moves of the machine, from the changes of a step to the table and to one caller's side.
-use Rattle.std.proofs.Common.{◌≡◌, ℕ, ◌+◌, ◌≤◌, List, set, Option, Some, None, refl, sym, ap, subst, ◌∙◌, arith, ◌-◌, ◌^◌, ◌<◌, ◌==◌, ◌&&◌, Bool, true, false}
-use Rattle.std.specs.Prelude.{map, nat_lt, not, slice_get, slice_set}
+use Rattle.std.proofs.Common.{◌≡◌, ℕ, ◌+◌, ◌≤◌, List, set, Option, Some, None, refl, sym, ap, subst, ◌∙◌, arith, ◌-◌, ◌^◌, ◌<◌, ◌==◌, ◌&&◌, Bool, true, false, map, nat_lt, not, slice_get, slice_set, eq-eqb, eqb-true, ltb-true, inl, inr}
 use Rattle.std.specs.Option.{option_map}
-use Rattle.std.proofs.lemmas.Bool.{and_parts, cases_Bool, eq-eqb, eqb-true, ltb-true}
+use Rattle.std.proofs.lemmas.Bool.{and_parts, cases_Bool}
 use Rattle.std.proofs.lemmas.List.{map-set}
 use Rattle.std.proofs.lemmas.Option.{get_or_from_slice_get}
 use Rattle.std.proofs.Math.Seq.{map-set_same}
-use mathlib.Core.Logic.{inl, inr}
 use Rattle.txn_words.specs.declared.entry.Entry.{Entry}
 use Rattle.txn_words.specs.declared.refusal.Refusal.{Refusal}
 use Rattle.txn_words.specs.declared.step.Step.{Step}
@@ -44,8 +42,10 @@ pub runs_same : (t : TableAt) → Runs t t
 runs_same t = record { size = refl; stored = refl; linked = refl; helps = refl; rises = omega arith; last = omega arith; one_last = omega arith }
 
 -- `Runs` holds if the buckets and the last stamp are unchanged.
-pub runs_of : (t t' : TableAt) → KeepsBuckets t t' → linked_of t' ≡ linked_of t → table_changes t ≤ table_changes t' → last_of t' ≡ last_of t → Runs t t'
-runs_of t t' buckets linked rises same = record { size = buckets.size; stored = buckets.stored; linked = linked; helps = buckets.helps; rises = rises; last = omega arith; one_last = omega arith }
+pub runs_of : (t t' : TableAt) → KeepsBuckets t t' → linked_of t' ≡ linked_of t → table_changes t ≤ table_changes t'
+    → last_of t' ≡ last_of t → Runs t t'
+runs_of t t' buckets linked rises same =
+    record { size = buckets.size; stored = buckets.stored; linked = linked; helps = buckets.helps; rises = rises; last = omega arith; one_last = omega arith }
 
 pub rests_runs : (t t' : TableAt) → Rests t t' → Runs t t'
 rests_runs t t' rests = runs_of t t' rests.nodes.buckets rests.nodes.linked (let same = rests.nodes.changes in omega arith) rests.last
@@ -66,8 +66,10 @@ changes_set sessions c y noted is = map-set session_changes sessions c y ∙ ap 
 pub changes_same : (sessions : List Session) (c : ℕ) (x y : Session) → slice_get sessions c ≡ Some x → session_changes y ≡ session_changes x → map session_changes (slice_set sessions c y) ≡ map session_changes sessions
 changes_same sessions c x y at same = map-set_same session_changes sessions c y x (same ∙ ap session_changes (sym (get_or_from_slice_get sessions c x x at)))
 
-pub none_dropped : (sessions : List Session) (c : ℕ) (x : Session) → slice_get sessions c ≡ Some x → x.cursor ≡ None → slice_set (map session_changes sessions) c None ≡ map session_changes sessions
-none_dropped sessions c x at none = sym (changes_set sessions c x None (ap (option_map cursor_changes) none)) ∙ changes_same sessions c x x at refl
+pub none_dropped : (sessions : List Session) (c : ℕ) (x : Session) → slice_get sessions c ≡ Some x → x.cursor ≡ None
+    → slice_set (map session_changes sessions) c None ≡ map session_changes sessions
+none_dropped sessions c x at none =
+    sym (changes_set sessions c x None (ap (option_map cursor_changes) none)) ∙ changes_same sessions c x x at refl
 
 -- The nodes beside the callers' cursors, if the cursor of the caller that changes is the same.
 pub gaps_same : (t : TableAt) (sessions : List Session) (c : ℕ) (x y : Session) → slice_get sessions c ≡ Some x → gap_by t y ≡ gap_by t x → map (gap_by t) (slice_set sessions c y) ≡ map (gap_by t) sessions
@@ -81,6 +83,13 @@ move_of state old new step answer is move = subst (λ s. Move s step answer new)
 pub none_of : (state old : State) (step : Step) (r : Option Refusal) → state ≡ old → r ≡ refusal_of old step → r ≡ None → refusal_of state step ≡ None
 none_of state old step r is says none = ap (λ (s : State). refusal_of s step) is ∙ sym says ∙ none
 
+-- Whether a cursor that noted this change number may be stale.
+abbrev stale_if : State → Owner → Option ℕ → Bool
+stale_if state owner o = elim o as (λ _. Bool) [
+  | None ↦ false
+  | Some noted ↦ not (is_just_placed owner state.placed) && not (noted == state.changes && nat_lt noted (2 ^ 64 - 1))
+]
+
 -- The cursor of its owner that was placed last is not stale.
 pub just_placed : (state : State) (owner : Owner) → state.placed ≡ Some owner → may_be_stale state owner ≡ false
 just_placed state owner placed = at (owner_changes state owner)
@@ -89,18 +98,21 @@ just_placed state owner placed = at (owner_changes state owner)
     own (Caller c) = eq-eqb c c refl
     own (Helper h) = eq-eqb h h refl
 
-    at : (o : Option ℕ) → elim o as (λ _. Bool) [ None ↦ false | Some noted ↦ not (is_just_placed owner state.placed) && not (noted == state.changes && nat_lt noted (2 ^ 64 - 1)) ] ≡ false
+    at : (o : Option ℕ) → stale_if state owner o ≡ false
     at None = refl
-    at (Some noted) = ap (λ b. not b && not (noted == state.changes && nat_lt noted (2 ^ 64 - 1))) (ap (is_just_placed owner) placed ∙ own owner)
+    at (Some noted) =
+        ap (λ b. not b && not (noted == state.changes && nat_lt noted (2 ^ 64 - 1))) (ap (is_just_placed owner) placed ∙ own owner)
 
 -- A cursor that was not placed last may be stale, if the list cannot be as it was then.
-pub stale_since : (state : State) (owner : Owner) (noted : ℕ) → owner_changes state owner ≡ Some noted → is_just_placed owner state.placed ≡ false → (noted ≡ state.changes → noted < 2 ^ 64 - 1 → ⊥) → may_be_stale state owner ≡ true
+pub stale_since : (state : State) (owner : Owner) (noted : ℕ) → owner_changes state owner ≡ Some noted
+    → is_just_placed owner state.placed ≡ false → (noted ≡ state.changes → noted < 2 ^ 64 - 1 → ⊥) → may_be_stale state owner ≡ true
 stale_since state owner noted had not_placed moved =
-    ap (λ (o : Option ℕ). elim o as (λ _. Bool) [ None ↦ false | Some noted ↦ not (is_just_placed owner state.placed) && not (noted == state.changes && nat_lt noted (2 ^ 64 - 1)) ]) had
-    ∙ (λ i. not (not_placed i) && not (elsewhere i))
+    ap (stale_if state owner) had ∙ (λ i. not (not_placed i) && not (elsewhere i))
   where
     elsewhere : (noted == state.changes && nat_lt noted (2 ^ 64 - 1)) ≡ false
     elsewhere = elim (cases_Bool (noted == state.changes && nat_lt noted (2 ^ 64 - 1))) [
       | inr is ↦ is
-      | inl is ↦ let parts = and_parts (noted == state.changes) (nat_lt noted (2 ^ 64 - 1)) is in absurd (moved (eqb-true noted state.changes parts.0) (ltb-true noted (2 ^ 64 - 1) parts.1))
+      | inl is ↦
+          let parts = and_parts (noted == state.changes) (nat_lt noted (2 ^ 64 - 1)) is in
+          absurd (moved (eqb-true noted state.changes parts.0) (ltb-true noted (2 ^ 64 - 1) parts.1))
     ]

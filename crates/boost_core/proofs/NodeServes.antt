@@ -1,6 +1,5 @@
 -- The effect of each step that is no caller's on the nodes, the change number and the last stamp.
-use Rattle.std.proofs.Common.{◌≡◌, ◌≢◌, ℕ, Option, Some, Result, Ok, Err, refl, sym, ap, subst, ◌∙◌}
-use Rattle.std.specs.Prelude.{unwrap_or}
+use Rattle.std.proofs.Common.{◌≡◌, ◌≢◌, ℕ, Option, Some, Result, Ok, Err, refl, sym, ap, subst, ◌∙◌, unwrap_or}
 use Rattle.std.specs.List.{slice_get}
 use Rattle.split_key.specs.Sort.{dummy_at}
 use Rattle.bucket_table.specs.Dummies.{dummy_node}

@@ -1,8 +1,7 @@
 -- The effect of each step on the nodes, the change number and the last stamp.
-use Rattle.std.proofs.Common.{◌≡◌, ◌⊎◌, ℕ, ◌+◌, ◌-◌, ◌%◌, ◌<◌, Bool, true, false, cond, List, [], ◌∷◌, ◌++◌, length, Option, Some, None, is_some, inl, inr, refl, sym, ap, subst, ◌∙◌, arith}
-use Rattle.std.specs.Prelude.{reverse, slice_get, unwrap_or, nat_lt, nat_eq, IsSome}
+use Rattle.std.proofs.Common.{◌≡◌, ◌⊎◌, ℕ, ◌+◌, ◌-◌, ◌%◌, ◌<◌, Bool, true, false, cond, List, [], ◌∷◌, ◌++◌, length, Option, Some, None, is_some, inl, inr, refl, sym, ap, subst, ◌∙◌, arith, reverse, slice_get, unwrap_or, nat_lt, nat_eq, IsSome, ltb-true}
 use Rattle.std.specs.Option.{option_map, option_eq}
-use Rattle.std.proofs.lemmas.Bool.{false≢true, cases_Bool, ltb-true}
+use Rattle.std.proofs.lemmas.Bool.{false≢true, cases_Bool}
 use Rattle.std.proofs.lemmas.List.{length-map, reverse-append}
 use Rattle.std.proofs.lemmas.Option.{slice_get-map, unwrap_or-slice_get}
 use Rattle.split_key.specs.Split.{ancestor_of}
@@ -38,7 +37,7 @@ use Rattle.boost_core.specs.State.{State, Caller, is_set, seat_in}
 use Rattle.boost_core.specs.Refusals.{owner_of}
 use Rattle.boost_core.specs.Nodes.{Touches, stamp_after, Keeps, Writes, Links, Marks, SeeksFrom, SeeksKey, IsNearest, Changes, PutsIf, OpDoes, OpDoesIn, BackDoes, Lists, key_in, next_key, newest_key}
 use Rattle.boost_core.specs.Sessions.{Does, ActsIn, DoesIn, TakesBackIn, SeeksIn, IsAsked, AsksBy, unless_busy, Waits, AreDue, key_of_newest, target_in, target_of, changes_of}
-use Rattle.boost_core.specs.Words.{Claim, Lock, Right, Held, Stale, IsClaim, ListsAsk, ListsBy, stamp_by}
+use Rattle.boost_core.specs.Words.{Claim, Lock, Right, IsClaim, ListsAsk, ListsBy, stamp_by}
 use Rattle.boost_core.specs.Core.{World, Tells, state_of, node_at}
 use Rattle.boost_core.proofs.Given.{given_for}
 use Rattle.boost_core.proofs.NodeLists.{seen, inserted, replaced, written_seen, seeks_from}
@@ -212,7 +211,8 @@ module _ (w : World) (tells : Tells w) (c : ℕ) (x : Session) (at : slice_get w
 
   module _ (w' : World) (y : Session) (locks' : List (Option ℕ)) where
     asked : (op : Op) (stripe : ℕ) (answer : Answer) → IsAsked c stripe op x w.table w.locks answer y w'.table locks' → Lists (state_of w) (steps.Ask c op) answer (state_of w')
-    asked op stripe answers.Asked is = record { nodes = rested w w' is.prepares.nodes; stamp = (given_for w.table w'.table (takes_node op) is.pending.spare is.prepares.given).last }
+    asked op stripe answers.Asked is =
+        record { nodes = rested w w' is.prepares.nodes; stamp = (given_for w.table w'.table (takes_node op) is.pending.spare is.prepares.given).last }
     asked op stripe (answers.Busy holder) is = record {
       nodes = record { nodes = ap seen is.back.nodes.all ∙ ap seen is.prepares.nodes.all; changes = is.back.nodes.changes ∙ is.prepares.nodes.changes };
       stamp = is.back.last ∙ (given_for w.table is.between (takes_node op) is.pending.spare is.prepares.given).last;
@@ -235,8 +235,9 @@ module _ (w : World) (tells : Tells w) (c : ℕ) (x : Session) (at : slice_get w
     asked_by : (claim : Claim) (op : Op) (stripe : ℕ) (answer : Answer) → AsksBy claim c stripe op x w.table w.locks answer y w'.table locks' → ListsBy claim (state_of w) (steps.Ask c op) answer (state_of w')
     asked_by Lock op stripe answer is = asked op stripe answer is
     asked_by Right op stripe answer is = subst (λ a. ListsAsk Right (state_of w) (steps.Ask c op) a (state_of w')) (sym is.1) (asked_with op stripe is.0 is.2)
-    asked_by (Held named) op stripe answer is = subst (λ a. ListsAsk (Held named) (state_of w) (steps.Ask c op) a (state_of w')) (sym is.0) (record { nodes = same w w' is.2; stamp = ap last_of is.2 })
-    asked_by Stale op stripe answer is = subst (λ a. ListsAsk Stale (state_of w) (steps.Ask c op) a (state_of w')) (sym is.0) (record { nodes = same w w' is.2; stamp = ap last_of is.2 })
+    asked_by claim op stripe answer is =
+        subst (λ a. ListsAsk claim (state_of w) (steps.Ask c op) a (state_of w')) (sym is.0)
+        (record { nodes = same w w' is.2; stamp = ap last_of is.2 })
 
     acted : (answer : Answer) → ActsIn c x w.table w.locks answer y w'.table locks' → Lists (state_of w) (steps.Act c) answer (state_of w')
     acted answers.Again is = record { nodes = same w w' is.1.table; stamp = ap last_of is.1.table }
@@ -248,24 +249,34 @@ module _ (w : World) (tells : Tells w) (c : ℕ) (x : Session) (at : slice_get w
 
 -- The effect on the list of each step of a caller that claims no word, and by its claim.
 module _ (w : World) (tells : Tells w) (x : Session) (w' : World) (y : Session) (locks' : List (Option ℕ)) where
-  locked : NamesDummies w.table → (stripes : ℕ) (step : Step) → slice_get w.sessions (caller_in (owner_of step)) ≡ Some x → (answer : Answer) → Does Lock stripes w.counts step x w.table w.locks answer y w'.table locks' → Lists (state_of w) step answer (state_of w')
+  locked : NamesDummies w.table → (stripes : ℕ) (step : Step) → slice_get w.sessions (caller_in (owner_of step)) ≡ Some x
+      → (answer : Answer) → Does Lock stripes w.counts step x w.table w.locks answer y w'.table locks'
+      → Lists (state_of w) step answer (state_of w')
   locked home stripes (steps.Begin c) at (answers.Began n) is = record { nodes = same w w' is.2; stamp = ap last_of is.2 }
   locked home stripes (steps.Ask c op) at answer is = asked w tells c x at w' y locks' op (stripe_of stripes (key_of op)) answer is
-  locked home stripes (steps.Seek c) at answers.Placed is = record { nodes = sought_key w tells c x at w' y home is.0; stamp = is.0.places.keeps.last }
+  locked home stripes (steps.Seek c) at answers.Placed is =
+      record { nodes = sought_key w tells c x at w' y home is.0; stamp = is.0.places.keeps.last }
   locked home stripes (steps.Act c) at answer is = acted w tells c x at w' y locks' answer is
   locked home stripes (steps.Save c) at answer is = record { nodes = same w w' is.1; stamp = ap last_of is.1 }
   locked home stripes (steps.Back c n) at answers.Leaving is = record { nodes = same w w' is.1; stamp = ap last_of is.1 }
-  locked home stripes (steps.Commit c) at (answers.Committed p) is = record { nodes = rested w w' is.1.rests.nodes; stamp = is.1.rests.last }
+  locked home stripes (steps.Commit c) at (answers.Committed p) is =
+      record { nodes = rested w w' is.1.rests.nodes; stamp = is.1.rests.last }
   locked home stripes (steps.Abort c) at answers.Leaving is = record { nodes = rested w w' is.0.rests.nodes; stamp = is.0.rests.last }
   locked home stripes _ at _ is = absurd is
 
-  claimed : NamesDummies w.table → (claim : Claim) (stripes : ℕ) (step : Step) → slice_get w.sessions (caller_in (owner_of step)) ≡ Some x → IsClaim claim (state_of w) step → (answer : Answer) → Does claim stripes w.counts step x w.table w.locks answer y w'.table locks' → ListsBy claim (state_of w) step answer (state_of w')
+  claimed : NamesDummies w.table → (claim : Claim) (stripes : ℕ) (step : Step) → slice_get w.sessions (caller_in (owner_of step)) ≡ Some x
+      → IsClaim claim (state_of w) step → (answer : Answer) → Does claim stripes w.counts step x w.table w.locks answer y w'.table locks'
+      → ListsBy claim (state_of w) step answer (state_of w')
   claimed home Lock stripes step at claims answer is = locked home stripes step at answer is
-  claimed home claim stripes (steps.Ask c op) at claims answer is = asked_by w tells c x at w' y locks' claim op (stripe_of stripes (key_of op)) answer is
+  claimed home claim stripes (steps.Ask c op) at claims answer is =
+      asked_by w tells c x at w' y locks' claim op (stripe_of stripes (key_of op)) answer is
   claimed home _ stripes _ at claims answer is = absurd claims
 
-  pub does : NamesDummies w.table → (claim : Claim) (stripes c : ℕ) → slice_get w.sessions c ≡ Some x → (step : Step) → owner_of step ≡ Some (Caller c) → IsClaim claim (state_of w) step → (answer : Answer) → Does claim stripes w.counts step x w.table w.locks answer y w'.table locks' → ListsBy claim (state_of w) step answer (state_of w')
-  does home claim stripes c at step owner claims answer is = claimed home claim stripes step (subst (λ k. slice_get w.sessions k ≡ Some x) (sym (ap caller_in owner)) at) claims answer is
+  pub does : NamesDummies w.table → (claim : Claim) (stripes c : ℕ) → slice_get w.sessions c ≡ Some x → (step : Step)
+      → owner_of step ≡ Some (Caller c) → IsClaim claim (state_of w) step → (answer : Answer)
+      → Does claim stripes w.counts step x w.table w.locks answer y w'.table locks' → ListsBy claim (state_of w) step answer (state_of w')
+  does home claim stripes c at step owner claims answer is =
+      claimed home claim stripes step (subst (λ k. slice_get w.sessions k ≡ Some x) (sym (ap caller_in owner)) at) claims answer is
 
 -- The effect on the list of a refusal by a test: none.
 touched : (old new : State) (step : Step) (refusal : Refusal) → Keeps old new → Touches old step (answers.Refused refusal) new
@@ -289,5 +300,4 @@ refused_lists claim old new step refusal (inr early) keeps same = by claim
     by : (claim : Claim) → ListsBy claim old step (answers.Refused refusal) new
     by Lock = record { nodes = touched old new step refusal keeps; stamp = same ∙ sym (stamp_stays old.stamp step refusal) }
     by Right = record { nodes = touched old new step refusal keeps; stamp = same ∙ sym (right_stays old.stamp step refusal early) }
-    by (Held named) = record { nodes = touched old new step refusal keeps; stamp = same }
-    by Stale = record { nodes = touched old new step refusal keeps; stamp = same }
+    by _ = record { nodes = touched old new step refusal keeps; stamp = same }

@@ -1,10 +1,8 @@
 -- The outcome of a step of a caller: the invariants of the core after it, and the move.
-use Rattle.std.proofs.Common.{◌≡◌, ◌⊎◌, inl, inr, ℕ, ◌+◌, ◌-◌, ◌<◌, ◌≤◌, ◌^◌, Bool, true, false, cond, refl, List, [], ◌∷◌, ◌++◌, length, Option, Some, None, sym, ap, subst, ◌∙◌, arith}
-use Rattle.std.specs.Prelude.{map, slice_get, slice_set, sum_by, option_to_list}
+use Rattle.std.proofs.Common.{◌≡◌, ◌⊎◌, inl, inr, ℕ, ◌+◌, ◌-◌, ◌<◌, ◌≤◌, ◌^◌, Bool, true, false, cond, refl, List, [], ◌∷◌, ◌++◌, length, Option, Some, None, sym, ap, subst, ◌∙◌, arith, map, slice_get, slice_set, sum_by, option_to_list, append-nil}
 use Rattle.std.specs.Option.{option_map}
 use Rattle.std.specs.List.{AllByRecursion}
 use Rattle.std.proofs.lemmas.Bool.{false≢true}
-use Rattle.std.proofs.lemmas.List.{append-nil}
 use Rattle.std.proofs.lemmas.Option.{slice_get_within}
 use Rattle.txn_words.specs.declared.entry.Entry.{Entry}
 use Rattle.txn_words.specs.declared.entry.Entry.TheVariants as entry
@@ -28,11 +26,10 @@ use Rattle.txn_trace.proofs.Room.{reserved_for, reserved_enough, owed_by-row}
 use Rattle.map_ops.specs.TableAt.{TableAt, cursor_changes, table_changes, last_of}
 use Rattle.boost_core.specs.declared.counts.Counts.{Counts}
 use Rattle.boost_core.specs.declared.session.Session.{Session}
-use Rattle.boost_core.specs.State.{State}
 use Rattle.boost_core.specs.Counts.{counts_after}
 use Rattle.boost_core.specs.Placed.{placed_then}
 use Rattle.boost_core.specs.Answers.{keeps_list, after}
-use Rattle.boost_core.specs.Machine.{Move, IsAllowed}
+use Rattle.boost_core.specs.Machine.{Move, IsAllowed, State}
 use Rattle.boost_core.specs.Words.{Claim, Lock, Right, Held, Goes, IsClaim, may_come, reserved_by}
 use Rattle.boost_core.specs.Adding.{Enters, CanAdd}
 use Rattle.boost_core.specs.Sessions.{Side, owed_of}
@@ -70,16 +67,28 @@ move_is w w' step answer allowed is runs kept = record {
 }
 
 -- The outcome of a step that adds an entry and places no cursor.
-pub entered : (w : World) (c : ℕ) (x y : Session) (t' : TableAt) (locks' : List (Option ℕ)) (step : Step) (answer : Answer) (e : Entry) (cursors : List (Option ℕ)) → entries_of step answer ≡ e ∷ [] → placed_then w.placed step answer ≡ None
-    → after (state_of w) step answer (table_changes t') (last_of t') ≡ record (state_of w) { history = w.history ++ entries_of step answer; changes = table_changes t'; stamp = last_of t'; cursors = cursors; placed = placed_then w.placed step answer }
-    → slice_set (map session_changes w.sessions) c None ≡ cursors → IsAllowed (state_of w) step answer → Runs w.table t' → (keeps_list answer ≡ true → table_changes t' ≡ table_changes w.table)
+pub entered : (w : World) (c : ℕ) (x y : Session) (t' : TableAt) (locks' : List (Option ℕ)) (step : Step) (answer : Answer) (e : Entry)
+    (cursors : List (Option ℕ)) → entries_of step answer ≡ e ∷ [] → placed_then w.placed step answer ≡ None
+    → after (state_of w) step answer (table_changes t') (last_of t') ≡ record (state_of w) {
+      history = w.history ++ entries_of step answer;
+      changes = table_changes t';
+      stamp = last_of t';
+      cursors = cursors;
+      placed = placed_then w.placed step answer;
+    }
+    → slice_set (map session_changes w.sessions) c None ≡ cursors → IsAllowed (state_of w) step answer → Runs w.table t'
+    → (keeps_list answer ≡ true → table_changes t' ≡ table_changes w.table)
     → Grows w c x y t' locks' (counts_after w.counts answer) e → Called w c x step answer y t' locks'
 entered w c x y t' locks' step answer e cursors one unplaced after_is dropped allowed runs kept grows = record {
   comes = subst (Comes w c x y t' locks' (counts_after w.counts answer)) (sym one) grows;
-  move = λ seat'. move_is w (world_after w c (seated_as y seat') (w.history ++ entries_of step answer) (counts_after w.counts answer) t' locks' (placed_then w.placed step answer)) step answer allowed
-      (state_is w (w.history ++ entries_of step answer) (w.history ++ entries_of step answer) (counts_after w.counts answer) t' cursors (slice_set w.sessions c (seated_as y seat')) locks' (placed_then w.placed step answer) runs refl
+  move = λ seat'. move_is w (world_after w c (seated_as y seat') (w.history ++ entries_of step answer)
+      (counts_after w.counts answer) t' locks' (placed_then w.placed step answer)) step answer allowed
+      (state_is w (w.history ++ entries_of step answer) (w.history ++ entries_of step answer) (counts_after w.counts answer) t' cursors
+      (slice_set w.sessions c (seated_as y seat')) locks' (placed_then w.placed step answer) runs refl
       (changes_set w.sessions c (seated_as y seat') None (ap (λ (s : Side). option_map cursor_changes s.cursor) grows.becomes) ∙ dropped)
-      ∙ ap (λ (s : State). record s { nodes = nodes_at t'; gaps = map (gap_by t') (slice_set w.sessions c (seated_as y seat')); helper_gaps = helper_gaps_of t' }) (sym after_is))
+      ∙ ap (λ (s : State). record s
+      { nodes = nodes_at t'; gaps = map (gap_by t') (slice_set w.sessions c (seated_as y seat')); helper_gaps = helper_gaps_of t' })
+      (sym after_is))
       runs kept;
   fresh = λ seat'. subst (IsFresh t' (slice_set w.sessions c (seated_as y seat'))) (sym unplaced) tt;
 }
@@ -191,16 +200,20 @@ busy_within n (steps.Ask c op) x = (omega arith, tt)
 busy_within n _ x = tt
 
 -- So at most what the claim reserves is reserved for the entry of a step.
-may_within : (claim : Claim) (step : Step) (answer : Answer) → may_come claim answer ≡ true → AreWithin (reserved_by claim step) (entries_of step answer)
+may_within : (claim : Claim) (step : Step) (answer : Answer) → may_come claim answer ≡ true
+    → AreWithin (reserved_by claim step) (entries_of step answer)
 may_within Lock step answer may = reserved_enough step answer
 may_within Right step answer may = reserved_enough step answer
 may_within (Held named) step (answers.Busy x) may = busy_within 0 step x
 may_within _ step (answers.Refused refusal) may = refused_within 0 step refusal
 may_within _ step _ may = absurd (false≢true may)
 
-goes_within : (claim : Claim) (state new : State) (step : Step) (answer : Answer) → Goes claim state step answer new → AreWithin (reserved_by claim step) (entries_of step answer)
+goes_within : (claim : Claim) (state new : State) (step : Step) (answer : Answer) → Goes claim state step answer new
+    → AreWithin (reserved_by claim step) (entries_of step answer)
 goes_within Lock state new step answer goes = reserved_enough step answer
-goes_within claim state new step answer (inl stale) = subst (λ a. AreWithin (reserved_by claim step) (entries_of step a)) (sym stale.refused) (refused_within (reserved_by claim step) step StaleWord)
+goes_within claim state new step answer (inl stale) =
+    subst (λ a. AreWithin (reserved_by claim step) (entries_of step a)) (sym stale.refused)
+    (refused_within (reserved_by claim step) step StaleWord)
 goes_within claim state new step answer (inr goes) = may_within claim step answer goes.0
 
 -- At most as many changes stand as entries are owed.
@@ -237,7 +250,8 @@ module _ (w : World) (tells : Tells w) (c : ℕ) (x y : Session) (at : slice_get
       let most : owed_of x ≤ sum_by owed_of w.sessions = one_of_sum owed_of w.sessions c x at in
       let same : owed_in y.seat.seat.standing y.seat.seat.phase ≡ owed_of x = ap (λ (s : Seat). owed_in s.standing s.phase) (same_seat (Some e) is) in
       let takes : owed_by (Some comes.seat) + 1 ≤ owed_by (Some x.seat.seat) + reserved_for e = owed_by-row x.seat.seat comes.seat e goes in
-      let few : reserved_for e ≤ reserved_by claim step = (subst (AreWithin (reserved_by claim step)) (sym is) (goes_within claim _ _ step answer (called.move y.seat))).0 in
+      let few : reserved_for e ≤ reserved_by claim step =
+      (subst (AreWithin (reserved_by claim step)) (sym is) (goes_within claim _ _ step answer (called.move y.seat))).0 in
       record {
         next = comes.seat;
         row_is = ap (λ (s : Seat). row s s.phase e) (same_seat (Some e) is) ∙ goes;
@@ -285,7 +299,8 @@ module _ (w : World) (tells : Tells w) (c : ℕ) (x y : Session) (at : slice_get
       let sums : sum_by owed_of (slice_set w.sessions c (seated_as y seat')) + owed_of x ≡ sum_by owed_of w.sessions + owed_of (seated_as y seat') = sum_changed owed_of w.sessions c x (seated_as y seat') at in
       let takes : owed_by (Some seat'.seat) + 1 ≤ owed_by (Some y.seat.seat) + reserved_for e = owed_by-row y.seat.seat seat'.seat e entered in
       let same : owed_in y.seat.seat.standing y.seat.seat.phase ≡ owed_of x = ap (λ (s : Seat). owed_in s.standing s.phase) (same_seat (Some e) is) in
-      let few : reserved_for e ≤ reserved_by claim step = (subst (AreWithin (reserved_by claim step)) (sym is) (goes_within claim _ _ step answer (called.move y.seat))).0 in
+      let few : reserved_for e ≤ reserved_by claim step =
+      (subst (AreWithin (reserved_by claim step)) (sym is) (goes_within claim _ _ step answer (called.move y.seat))).0 in
       omega arith
 
   -- The move.

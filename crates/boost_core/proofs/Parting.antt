@@ -1,9 +1,7 @@
 -- The steps that begin, divide and end transactions.
-use Rattle.std.proofs.Common.{◌≡◌, ℕ, ◌+◌, ◌≤◌, true, false, cond, List, [], ◌∷◌, ◌++◌, length, take, Option, Some, None, refl, sym, ap, subst, ◌∙◌, add-one, arith}
-use Rattle.std.specs.Prelude.{slice_get, slice_set, slice_index, map, nat_eq, nat_lt, not}
+use Rattle.std.proofs.Common.{◌≡◌, ℕ, ◌+◌, ◌≤◌, true, false, cond, List, [], ◌∷◌, ◌++◌, length, take, Option, Some, None, refl, sym, ap, subst, ◌∙◌, add-one, arith, slice_get, slice_set, slice_index, map, nat_eq, nat_lt, not, eq-eqb}
 use Rattle.std.specs.Option.{option_eq}
-use Prim.Native.Nat.{suc}
-use Rattle.std.proofs.lemmas.Bool.{false≢true, and_from, eq-eqb}
+use Rattle.std.proofs.lemmas.Bool.{false≢true, and_from}
 use Rattle.txn_words.specs.declared.entry.Entry.TheVariants as entry
 use Rattle.txn_words.specs.declared.step.Step.TheVariants as steps
 use Rattle.txn_words.specs.declared.answer.Answer.TheVariants as answers
@@ -14,7 +12,6 @@ use Rattle.txn_trace.specs.Log.{log_of}
 use Rattle.txn_words.specs.declared.seat.Phase.{Phase}
 use Rattle.txn_words.specs.declared.seat.Phase.TheVariants.{Closed, Opened, Waiting, LeavingTo, LeavingToEnd}
 use Rattle.txn_words.specs.Shape.{Seat, closed_seat}
-use Rattle.txn_words.specs.Seats.{is_closed, is_waiting, is_leaving, has_job}
 use Rattle.txn_trace.proofs.Next.{Next}
 use Rattle.txn_trace.proofs.Entries as laws
 use Rattle.txn_trace.proofs.Settled.{settled}
@@ -24,7 +21,7 @@ use Rattle.map_ops.specs.Jobs.{PendingAt}
 use Rattle.map_ops.specs.TableAt.{TableAt, map_of}
 use Rattle.boost_core.specs.declared.session.Session.{Session}
 use Rattle.boost_core.specs.State.{seat_in, holder_by}
-use Rattle.boost_core.specs.Refusals.{refusal_of}
+use Rattle.boost_core.specs.Refusals.{refusal_of, is_closed, is_waiting, is_leaving, has_job}
 use Rattle.boost_core.specs.Answers.{is_back_at, is_at_end}
 use Rattle.boost_core.specs.Spares.{times_of, times_in, times_out, IsCovered}
 use Rattle.boost_core.specs.Core.{World, Tells, state_of, session_changes}
@@ -45,8 +42,11 @@ module _ (w : World) (tells : Tells w) (c : ℕ) (x : Session) (at : slice_get w
       let level = level_in w tells c x at Closed closed in
       let empty : x.log.jobs ≡ [] = no_jobs x.log.jobs (let same = (tells.seated c x at).agrees.standing in let nil = level.0 in omega arith) in
       let numbered = number ∙ ap (λ k. k + 1) tells.begins in
-      entered w c x y w.table w.locks (steps.Begin c) (answers.Began n) (entry.Began c n) (map session_changes w.sessions) refl refl refl (none_dropped w.sessions c x at (idle_cursor w tells c x at Closed closed refl)) (none, numbered) (runs_same w.table) (λ kept. refl)
-      (quiet w tells c x at (entry.Began c n) y (record closed_seat { phase = Opened }) x.log.kept [] (serial w.history) (λ s. holder_of w.limits.stripes s w.history) w.locks (record { began = n; committed = w.counts.committed })
+      entered w c x y w.table w.locks (steps.Begin c) (answers.Began n) (entry.Began c n) (map session_changes w.sessions) refl refl refl
+      (none_dropped w.sessions c x at (idle_cursor w tells c x at Closed closed refl)) (none, numbered) (runs_same w.table)
+      (λ kept. refl)
+      (quiet w tells c x at (entry.Began c n) y (record closed_seat { phase = Opened }) x.log.kept [] (serial w.history)
+      (λ s. holder_of w.limits.stripes s w.history) w.locks (record { began = n; committed = w.counts.committed })
       (laws.began w.limits.stripes w.history tells.legal c n x.seat.seat (tells.seated c x at).seat closed numbered) (ap changes_of (sym empty))
       refl (λ is. absurd (false≢true is)) (sym level.1 ∙ (tells.seated c x at).agrees.kept) refl (nothing_waits w tells c x at Closed closed refl) (idle_cursor w tells c x at Closed closed refl) stays.becomes
       number (no_more w.counts.committed) refl tells.holders)
@@ -56,23 +56,30 @@ module _ (w : World) (tells : Tells w) (c : ℕ) (x : Session) (at : slice_get w
   saved none n y saves =
       let opened = save_open w.limits.half x.seat.seat c (seat_free w tells c x at (steps.Save c) refl none) in
       let agrees = (tells.seated c x at).agrees in
-      entered w c x y w.table w.locks (steps.Save c) (answers.Saved n) (entry.Saved c) (map session_changes w.sessions) refl refl refl (none_dropped w.sessions c x at (idle_cursor w tells c x at Opened opened refl))
-      (none, saves.number ∙ one_more (length x.log.kept) ∙ ap length (sym agrees.kept) ∙ ap (λ (s : Seat). length s.kept) (sym (seat_here w tells c x at))) (runs_same w.table) (λ kept. refl)
-      (quiet w tells c x at (entry.Saved c) y (record { phase = x.seat.seat.phase; standing = x.seat.seat.standing; kept = x.seat.seat.kept ++ x.seat.seat.standing ∷ [] }) (x.log.kept ++ length x.log.jobs ∷ []) (log_of c w.history) (serial w.history) (λ s. holder_of w.limits.stripes s w.history) w.locks w.counts
+      entered w c x y w.table w.locks (steps.Save c) (answers.Saved n) (entry.Saved c) (map session_changes w.sessions) refl refl refl
+      (none_dropped w.sessions c x at (idle_cursor w tells c x at Opened opened refl)) (
+        none,
+        saves.number ∙ add-one (length x.log.kept) ∙ ap length (sym agrees.kept) ∙ ap (λ (s : Seat). length s.kept)
+            (sym (seat_here w tells c x at)),
+      ) (runs_same w.table) (λ kept. refl)
+      (quiet w tells c x at (entry.Saved c) y (record
+      { phase = x.seat.seat.phase; standing = x.seat.seat.standing; kept = x.seat.seat.kept ++ x.seat.seat.standing ∷ [] })
+      (x.log.kept ++ length x.log.jobs ∷ []) (log_of c w.history) (serial w.history)
+      (λ s. holder_of w.limits.stripes s w.history) w.locks w.counts
       (laws.saved w.limits.stripes w.history tells.legal c x.seat.seat (tells.seated c x at).seat opened) (tells.seated c x at).log
       refl (λ is. saves.room) (λ i. agrees.kept i ++ agrees.standing i ∷ []) (ap is_waiting opened) (nothing_waits w tells c x at Opened opened refl) (idle_cursor w tells c x at Opened opened refl) saves.becomes
       (no_more w.counts.began) (no_more w.counts.committed) refl tells.holders)
-    where
-      one_more : (n : ℕ) → n + 1 ≡ suc n
-      one_more n = omega arith
 
   -- Back.
   pub left : (n : ℕ) → refusal_of (state_of w) (steps.Back c n) ≡ None → (y : Session) → y ≡ record x { cursor = None } → Called w c x (steps.Back c n) answers.Leaving y w.table w.locks
   left n none y is =
       let free = back_open w.limits.half x.seat.seat c n (seat_free w tells c x at (steps.Back c n) refl none) in
       let no_cursor = idle_cursor w tells c x at Opened free.0 refl in
-      entered w c x y w.table w.locks (steps.Back c n) answers.Leaving (entry.Leave c (Some n)) (slice_set (map session_changes w.sessions) c None) refl refl refl refl (none, tt) (runs_same w.table) (λ kept. refl)
-      (quiet w tells c x at (entry.Leave c (Some n)) y (record { phase = LeavingTo n; standing = x.seat.seat.standing; kept = x.seat.seat.kept }) x.log.kept (log_of c w.history) (serial w.history) (λ s. holder_of w.limits.stripes s w.history) w.locks w.counts
+      entered w c x y w.table w.locks (steps.Back c n) answers.Leaving (entry.Leave c (Some n))
+      (slice_set (map session_changes w.sessions) c None) refl refl refl refl (none, tt) (runs_same w.table) (λ kept. refl)
+      (quiet w tells c x at (entry.Leave c (Some n)) y
+      (record { phase = LeavingTo n; standing = x.seat.seat.standing; kept = x.seat.seat.kept }) x.log.kept (log_of c w.history)
+      (serial w.history) (λ s. holder_of w.limits.stripes s w.history) w.locks w.counts
       (laws.left_to w.limits.stripes w.history tells.legal c n x.seat.seat (tells.seated c x at).seat free.0 (le_false_lt (length x.seat.seat.kept) n free.1)) (tells.seated c x at).log
       refl (λ saved. absurd (false≢true saved)) (tells.seated c x at).agrees.kept refl (nothing_waits w tells c x at Opened free.0 refl) no_cursor (ap side_of is ∙ (λ i. record (side_of x) { cursor = sym no_cursor i }))
       (no_more w.counts.began) (no_more w.counts.committed) refl tells.holders)
@@ -84,7 +91,9 @@ module _ (w : World) (tells : Tells w) (c : ℕ) (x : Session) (at : slice_get w
       let nothing = nothing_waits w tells c x at Opened opened refl in
       let runs = rests_runs w.table t' settles.rests in
       let numbered = number ∙ ap (λ k. k + 1) tells.commits in
-      entered w c x y t' locks' (steps.Commit c) (answers.Committed p) (entry.Committed c p) (map session_changes w.sessions) refl refl refl (none_dropped w.sessions c x at (idle_cursor w tells c x at Opened opened refl)) (none, numbered) runs (λ kept. settles.rests.nodes.changes)
+      entered w c x y t' locks' (steps.Commit c) (answers.Committed p) (entry.Committed c p) (map session_changes w.sessions) refl refl refl
+      (none_dropped w.sessions c x at (idle_cursor w tells c x at Opened opened refl)) (none, numbered) runs
+      (λ kept. settles.rests.nodes.changes)
       (record {
         seat = closed_seat;
         committed = settled (serial w.history) (now w.history) (log_of c w.history);
@@ -105,7 +114,7 @@ module _ (w : World) (tells : Tells w) (c : ℕ) (x : Session) (at : slice_get w
             let before : IsCovered (λ p s. others p s + times_in x.log.jobs p s) w.table = λ p s.
             let same : times_of (spare_if x.pending) p s ≡ 0 = ap (λ (o : Option PendingAt). times_of (spare_if o) p s) nothing in
             let exact : others p s + times_kept (side_of x) p s ≡ times_out w.table p s = covered p s in
-            drop_zero (others p s) (times_of (spare_if x.pending) p s) (times_in x.log.jobs p s) (times_out w.table p s) same exact in
+            omega arith in
             sym (no_more (others place stamp)) ∙ settles.spares others before place stamp;
         largest = settles.rests.nodes.buckets.largest;
         helpers = ap length settles.rests.nodes.buckets.helps;
@@ -114,16 +123,14 @@ module _ (w : World) (tells : Tells w) (c : ℕ) (x : Session) (at : slice_get w
         long = releases.as_many;
         holders = released_holders w tells c x at locks' releases;
       })
-    where
-      drop_zero : (a z b n : ℕ) → z ≡ 0 → a + (z + b) ≡ n → a + b ≡ n
-      drop_zero a z b n is exact = omega arith
 
   -- Abort.
   pub withdrawn : refusal_of (state_of w) (steps.Abort c) ≡ None → (y : Session) (t' : TableAt) → WithdrawsIn x w.table y t' → Called w c x (steps.Abort c) answers.Leaving y t' w.locks
   withdrawn none y t' leaves =
       let runs = rests_runs w.table t' leaves.rests in
       let parts = abort_runs w.limits.half x.seat.seat c (seat_free w tells c x at (steps.Abort c) refl none) in
-      entered w c x y t' w.locks (steps.Abort c) answers.Leaving (entry.Leave c None) (slice_set (map session_changes w.sessions) c None) refl refl refl refl (none, tt) runs (λ kept. leaves.rests.nodes.changes)
+      entered w c x y t' w.locks (steps.Abort c) answers.Leaving (entry.Leave c None)
+      (slice_set (map session_changes w.sessions) c None) refl refl refl refl (none, tt) runs (λ kept. leaves.rests.nodes.changes)
       (record {
         seat = record { phase = LeavingToEnd; standing = x.seat.seat.standing; kept = x.seat.seat.kept };
         committed = serial w.history;
@@ -176,10 +183,14 @@ module _ (w : World) (tells : Tells w) (c : ℕ) (x : Session) (at : slice_get w
         let agrees = (tells.seated c x at).agrees in
         let reached : slice_index x.seat.seat.kept n ≡ x.seat.seat.standing =
         ap (λ ks. slice_index ks n) agrees.kept ∙ reach (kept_at x.log.kept n) (length x.log.jobs) (subst (λ ks. slice_index ks n ≤ length x.log.jobs) agrees.kept (subst (λ k. slice_index x.seat.seat.kept n ≤ k) agrees.standing level.1)) (at_most (kept_at x.log.kept n) (length x.log.jobs) more) ∙ sym agrees.standing in
-        entered w c x y w.table w.locks (steps.Act c) (answers.Returned n) (entry.Returned c n) (map session_changes w.sessions) refl refl refl (none_dropped w.sessions c x at (idle_cursor w tells c x at (LeavingTo n) returns.phase (no_newest x.log n more)))
+        entered w c x y w.table w.locks (steps.Act c) (answers.Returned n) (entry.Returned c n)
+        (map session_changes w.sessions) refl refl refl
+        (none_dropped w.sessions c x at (idle_cursor w tells c x at (LeavingTo n) returns.phase (no_newest x.log n more)))
         (none, and_from (not (has_job (seat_in w.history c))) (is_back_at n (seat_in w.history c).phase) no_job_here (ap (λ (s : Seat). is_back_at n s.phase) (seat_here w tells c x at) ∙ ap (is_back_at n) returns.phase ∙ eq-eqb n n refl))
         (runs_same w.table) (λ kept. refl)
-        (quiet w tells c x at (entry.Returned c n) y (record { phase = Opened; standing = x.seat.seat.standing; kept = take (n + 1) x.seat.seat.kept }) (take n x.log.kept) (log_of c w.history) (serial w.history) (λ s. holder_of w.limits.stripes s w.history) w.locks w.counts
+        (quiet w tells c x at (entry.Returned c n) y
+        (record { phase = Opened; standing = x.seat.seat.standing; kept = take (n + 1) x.seat.seat.kept }) (take n x.log.kept)
+        (log_of c w.history) (serial w.history) (λ s. holder_of w.limits.stripes s w.history) w.locks w.counts
         (laws.returned w.limits.stripes w.history tells.legal c n x.seat.seat (tells.seated c x at).seat returns.phase reached) (tells.seated c x at).log
         refl (λ is. absurd (false≢true is)) (ap (λ ks. take (n + 1) ks) agrees.kept ∙ ap (λ k. take k (0 ∷ x.log.kept)) (add-one n)) refl (nothing_waits w tells c x at (LeavingTo n) returns.phase refl)
         (idle_cursor w tells c x at (LeavingTo n) returns.phase (no_newest x.log n more)) returns.becomes (no_more w.counts.began) (no_more w.counts.committed) refl tells.holders)
@@ -194,10 +205,13 @@ module _ (w : World) (tells : Tells w) (c : ℕ) (x : Session) (at : slice_get w
         let agrees = (tells.seated c x at).agrees in
         let empty : x.log.jobs ≡ [] = no_jobs x.log.jobs (at_most 0 (length x.log.jobs) more) in
         let nil : x.seat.seat.standing ≡ 0 = agrees.standing ∙ ap length empty in
-        entered w c x y w.table locks' (steps.Act c) answers.Aborted (entry.Aborted c) (map session_changes w.sessions) refl refl refl (none_dropped w.sessions c x at (idle_cursor w tells c x at LeavingToEnd ends.phase (no_newest x.log 0 more)))
+        entered w c x y w.table locks' (steps.Act c) answers.Aborted (entry.Aborted c) (map session_changes w.sessions) refl refl refl
+        (none_dropped w.sessions c x at (idle_cursor w tells c x at LeavingToEnd ends.phase (no_newest x.log 0 more)))
         (none, and_from (not (has_job (seat_in w.history c))) (is_at_end (seat_in w.history c).phase) no_job_here (ap (λ (s : Seat). is_at_end s.phase) (seat_here w tells c x at) ∙ ap is_at_end ends.phase))
         (runs_same w.table) (λ kept. refl)
-        (quiet w tells c x at (entry.Aborted c) y closed_seat [] [] (serial w.history) (λ s. cond (option_eq nat_eq (holder_of w.limits.stripes s w.history) (Some c)) None (holder_of w.limits.stripes s w.history)) locks' w.counts
+        (quiet w tells c x at (entry.Aborted c) y closed_seat [] [] (serial w.history)
+        (λ s. cond (option_eq nat_eq (holder_of w.limits.stripes s w.history) (Some c)) None (holder_of w.limits.stripes s w.history))
+        locks' w.counts
         (laws.aborted w.limits.stripes w.history tells.legal c x.seat.seat (tells.seated c x at).seat ends.phase nil) (ap changes_of (sym empty))
         refl (λ is. absurd (false≢true is)) refl refl (nothing_waits w tells c x at LeavingToEnd ends.phase refl)
         (idle_cursor w tells c x at LeavingToEnd ends.phase (no_newest x.log 0 more)) ends.becomes (no_more w.counts.began) (no_more w.counts.committed) ends.releases.as_many (released_holders w tells c x at locks' ends.releases))

@@ -1,10 +1,8 @@
 -- The refusals of a caller's step, from its side and from the machine's state.
-use Rattle.std.proofs.Common.{◌≡◌, ℕ, ◌<◌, ◌≤◌, Bool, true, false, cond, List, [], ◌∷◌, ◌++◌, length, get_or, Option, Some, None, is_some, refl, sym, ap, ◌∙◌, arith}
-use Rattle.std.specs.Prelude.{nat_le, not, map, slice_get, unwrap_or}
+use Rattle.std.proofs.Common.{◌≡◌, ℕ, ◌<◌, ◌≤◌, Bool, true, false, cond, List, [], ◌∷◌, ◌++◌, length, get_or, Option, Some, None, is_some, refl, sym, ap, ◌∙◌, arith, nat_le, not, map, slice_get, unwrap_or, leb-true, le-leb, inl, inr}
 use Rattle.std.specs.Option.{option_map}
-use Rattle.std.proofs.lemmas.Bool.{false≢true, cases_Bool, cases_lt, leb-true, le-leb}
+use Rattle.std.proofs.lemmas.Bool.{false≢true, cases_Bool, cases_lt}
 use Rattle.std.proofs.lemmas.Option.{slice_get-map, slice_get-get_or}
-use mathlib.Core.Logic.{inl, inr}
 use Rattle.txn_words.specs.declared.op.Op.{Op}
 use Rattle.txn_words.specs.declared.refusal.Refusal.{Refusal}
 use Rattle.txn_words.specs.declared.refusal.Refusal.TheVariants.{NoSuchCaller, Unplaced}
@@ -47,7 +45,8 @@ caller_in (Some (Caller c)) = c
 caller_in _ = 0
 
 lacks_is : (state : State) (c : ℕ) (step : Step) → owner_of step ≡ Some (Caller c) → lacks_cursor state step ≡ lacks_in (seat_in state.history c) (is_some (caller_changes state.cursors c)) step
-lacks_is state c (Act d) owner = ap (λ (k : ℕ). lacks_in (seat_in state.history k) (is_some (caller_changes state.cursors k)) (Act d)) (ap caller_in owner)
+lacks_is state c (Act d) owner =
+    ap (λ (k : ℕ). lacks_in (seat_in state.history k) (is_some (caller_changes state.cursors k)) (Act d)) (ap caller_in owner)
 lacks_is state c _ owner = refl
 
 -- The refusal of a caller's step.

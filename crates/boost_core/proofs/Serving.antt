@@ -1,9 +1,6 @@
 -- The outcome of each step that is no caller's.
-use Rattle.std.proofs.Common.{◌≡◌, ℕ, ◌*◌, ◌<◌, ◌≤◌, ◌==◌, ◌&&◌, Bool, true, false, cond, Some, None, Result, Ok, Err, refl, sym, ap, subst, ◌∙◌, arith}
-use Rattle.std.specs.Prelude.{nat_le, nat_lt, not}
-use Rattle.std.proofs.lemmas.Bool.{cases_Bool, cases_lt, lt-ltb, ltb-true, le-leb}
-use Rattle.std.proofs.lemmas.List.{length-set}
-use mathlib.Core.Logic.{inl, inr}
+use Rattle.std.proofs.Common.{◌≡◌, ℕ, ◌*◌, ◌<◌, ◌≤◌, ◌==◌, ◌&&◌, Bool, true, false, cond, Some, None, Result, Ok, Err, refl, sym, ap, subst, ◌∙◌, arith, nat_le, nat_lt, not, lt-ltb, ltb-true, le-leb, length-set, inl, inr}
+use Rattle.std.proofs.lemmas.Bool.{cases_Bool, cases_lt}
 use Rattle.txn_words.specs.declared.step.Step.{Step}
 use Rattle.txn_words.specs.declared.step.Step.TheVariants as steps
 use Rattle.txn_words.specs.declared.answer.Answer.{Answer}
@@ -134,11 +131,13 @@ module _ (w : World) (tells : Tells w) (t' : TableAt) (follows : Follows w.table
   doubled_by : (seen : ℕ) (outcome : Double) (answer : Answer) → answer ≡ said.doubled outcome → outcome ≡ double_answer (size_of w.table) (largest_of w.table) (count_of (content w.table)) seen → Doubles w.table t' outcome → Served w (steps.Double seen) answer t'
   doubled_by seen (doubles.Moved n) answer answer_is says changes = subst (λ a. Served w (steps.Double seen) a t') (sym answer_is) (record {
     tells = double_tells w tells t' (doubles.Moved n) changes follows;
-    move = becomes_move w t' None _ _ _ _ (steps.Double seen) (said.doubled (doubles.Moved n)) changes.becomes (refl, doubled_answer seen (doubles.Moved n) says) refl rises (λ kept. changes.kept) changes.last;
+    move = becomes_move w t' None _ _ _ _ (steps.Double seen) (said.doubled (doubles.Moved n)) changes.becomes
+        (refl, doubled_answer seen (doubles.Moved n) says) refl rises (λ kept. changes.kept) changes.last;
   })
   doubled_by seen outcome answer answer_is says changes = subst (λ a. Served w (steps.Double seen) a t') (sym answer_is) (record {
     tells = double_tells w tells t' outcome changes follows;
-    move = becomes_move w t' None _ _ _ _ (steps.Double seen) (said.doubled outcome) changes.becomes (refl, doubled_answer seen outcome says) refl rises (λ kept. changes.kept) changes.last;
+    move = becomes_move w t' None _ _ _ _ (steps.Double seen) (said.doubled outcome) changes.becomes
+        (refl, doubled_answer seen outcome says) refl rises (λ kept. changes.kept) changes.last;
   })
 
   -- The outcome of each step.

@@ -1,8 +1,7 @@
 -- The parts of a table that are unchanged while spares are given back.
-use Rattle.std.proofs.Common.{◌≡◌, ℕ, ◌+◌, ◌<◌, ◌≤◌, true, List, [], ◌∷◌, ◌++◌, length, Option, None, is_some, length-append, refl, sym, ap, ◌∙◌, arith}
+use Rattle.std.proofs.Common.{◌≡◌, ℕ, ◌+◌, ◌<◌, ◌≤◌, true, List, [], ◌∷◌, ◌++◌, length, Option, None, is_some, length-append, refl, sym, ap, ◌∙◌, arith, inl, inr}
 use Rattle.std.proofs.lemmas.List.Sums.{sum_by_push}
 use Rattle.std.proofs.lemmas.Bool.{cases_lt, false≢true}
-use mathlib.Core.Logic.{inl, inr}
 use Rattle.map_ops.specs.declared.job.MapJob.{MapJob}
 use Rattle.map_ops.specs.Jobs.{spare_of_job}
 use Rattle.map_ops.specs.TableAt.{TableAt, SpareAt, Follows}
@@ -46,10 +45,7 @@ popped_covered t t' jobs jobs' job is back others covered =
     (λ place stamp.
     let times = times_pushed jobs jobs' job place stamp is in
     let exact : others place stamp + times_in jobs place stamp ≡ times_out t place stamp = covered place stamp in
-    regroup (others place stamp) (times_in jobs place stamp) (times_in jobs' place stamp) (times_of (spare_of_job job) place stamp) (times_out t place stamp) times exact)
-  where
-    regroup : (a b c d n : ℕ) → b ≡ c + d → a + b ≡ n → a + c + d ≡ n
-    regroup a b c d n is exact = omega arith
+    omega arith)
 
 pub no_jobs : (jobs : List MapJob) → length jobs ≤ 0 → jobs ≡ []
 no_jobs [] none = refl

@@ -1,9 +1,7 @@
 -- Spares that are given out, and given up.
-use Rattle.std.proofs.Common.{◌≡◌, ◌≢◌, ℕ, ◌+◌, ◌≤◌, ◌==◌, ◌&&◌, Bool, true, false, cond, Option, Some, None, refl, sym, ap, ◌∙◌, arith}
-use Rattle.std.specs.Prelude.{nat_eq}
+use Rattle.std.proofs.Common.{◌≡◌, ◌≢◌, ℕ, ◌+◌, ◌≤◌, ◌==◌, ◌&&◌, Bool, true, false, cond, Option, Some, None, refl, sym, ap, ◌∙◌, arith, nat_eq, eq-eqb, ne_eqb, inl, inr}
 use Rattle.std.specs.Option.{option_eq}
-use Rattle.std.proofs.lemmas.Bool.{cases_eq, eq-eqb, ne_eqb, and_from}
-use mathlib.Core.Logic.{inl, inr}
+use Rattle.std.proofs.lemmas.Bool.{cases_eq, and_from}
 use Rattle.txn_trace.proofs.Now.{same_option, same_is}
 use Rattle.map_ops.specs.TableAt.{TableAt, SpareAt, KeepsSpares, spare_out}
 use Rattle.map_ops.specs.Changes.{Spends, GivesSpare, OwnsIf}

@@ -1,6 +1,5 @@
 -- No step of a caller unlinks an unmarked node, nor touches the buckets and the helpers.
-use Rattle.std.proofs.Common.{◌≡◌, ℕ, Bool, true, false, List, Option, Some, None, refl, sym, ap, subst, ◌∙◌}
-use Rattle.std.specs.Prelude.{nat_eq}
+use Rattle.std.proofs.Common.{◌≡◌, ℕ, Bool, true, false, List, Option, Some, None, refl, sym, ap, subst, ◌∙◌, nat_eq}
 use Rattle.std.specs.Option.{option_eq}
 use Rattle.split_key.specs.Sort.{regular_at}
 use Rattle.node_list.specs.Nodes.{NodeAt, Listing}
@@ -74,24 +73,28 @@ module _ (t t' : TableAt) (spread : IsSpread (nodes_of t')) where
   module _ (x y : Session) (locks locks' : List (Option ℕ)) where
     asked : (c stripe : ℕ) (op : Op) (answer : Answer) → IsAsked c stripe op x t locks answer y t' locks' → Leaves t t'
     asked c stripe op answers.Asked is = rested is.prepares.nodes
-    asked c stripe op (answers.Busy holder) is = record { nodes = stay_same (nodes_of t) (nodes_of t') (is.back.nodes.all ∙ is.prepares.nodes.all); buckets = is.back.nodes.buckets.all ∙ is.prepares.nodes.buckets.all }
+    asked c stripe op (answers.Busy holder) is =
+        record { nodes = stay_same (nodes_of t) (nodes_of t') (is.back.nodes.all ∙ is.prepares.nodes.all); buckets = is.back.nodes.buckets.all ∙ is.prepares.nodes.buckets.all }
     asked c stripe op (answers.Refused refusal) is = same is.2
     asked c stripe op _ is = absurd is
 
-    asked_by : (claim : Claim) (c stripe : ℕ) (op : Op) (answer : Answer) → AsksBy claim c stripe op x t locks answer y t' locks' → Leaves t t'
+    asked_by : (claim : Claim) (c stripe : ℕ) (op : Op) (answer : Answer) → AsksBy claim c stripe op x t locks answer y t' locks'
+        → Leaves t t'
     asked_by Lock c stripe op answer is = asked c stripe op answer is
     asked_by Right c stripe op answer is = asked c stripe op is.0 is.2
     asked_by _ c stripe op answer is = same is.2
 
     acted : (c : ℕ) (answer : Answer) → ActsIn c x t locks answer y t' locks' → Leaves t t'
     acted c answers.Again is = same is.1.table
-    acted c (answers.Done reply) is = record { nodes = operated t.list t'.list is.0.pending.op is.0.pending.spare _ spread is.0.writes; buckets = is.0.does.buckets.all }
+    acted c (answers.Done reply) is =
+        record { nodes = operated t.list t'.list is.0.pending.op is.0.pending.spare _ spread is.0.writes; buckets = is.0.does.buckets.all }
     acted c answers.Undone is = record { nodes = undone t.list t'.list is.1.job spread is.1.writes; buckets = is.1.back.buckets.all }
     acted c (answers.Returned n) is = same is.2
     acted c answers.Aborted is = same is.2
     acted c _ is = absurd is
 
-    pub does_stay : (claim : Claim) (stripes : ℕ) (counts : Counts) (step : Step) (answer : Answer) → Does claim stripes counts step x t locks answer y t' locks' → Leaves t t'
+    pub does_stay : (claim : Claim) (stripes : ℕ) (counts : Counts) (step : Step) (answer : Answer)
+        → Does claim stripes counts step x t locks answer y t' locks' → Leaves t t'
     does_stay claim stripes counts (steps.Begin d) (answers.Began n) is = same is.2
     does_stay claim stripes counts (steps.Ask d op) answer is = asked_by claim d _ op answer is
     does_stay claim stripes counts (steps.Seek d) answers.Placed is = record {

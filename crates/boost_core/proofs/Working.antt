@@ -1,8 +1,7 @@
 -- The steps by which callers work on the map.
-use Rattle.std.proofs.Common.{◌≡◌, ℕ, ◌+◌, ◌-◌, ◌<◌, ◌≤◌, true, cond, List, [], ◌∷◌, ◌++◌, length, Option, Some, None, is_some, refl, sym, ap, subst, ◌∙◌, arith}
-use Rattle.std.specs.Prelude.{slice_get, slice_set, map, reverse, slice_index, nat_lt, option_to_list}
+use Rattle.std.proofs.Common.{◌≡◌, ℕ, ◌+◌, ◌-◌, ◌<◌, ◌≤◌, true, cond, List, [], ◌∷◌, ◌++◌, length, Option, Some, None, is_some, refl, sym, ap, subst, ◌∙◌, arith, slice_get, slice_set, map, reverse, slice_index, nat_lt, option_to_list, ne_eqb, ltb-true}
 use Rattle.std.specs.List.{AllByRecursion}
-use Rattle.std.proofs.lemmas.Bool.{false≢true, ne_eqb, ltb-true}
+use Rattle.std.proofs.lemmas.Bool.{false≢true}
 use Rattle.std.proofs.lemmas.List.{reverse-append}
 use Rattle.std.proofs.lemmas.List.Sums.{sum_by_push}
 use Rattle.txn_words.specs.Map.{get, key_of, reply_of, after, set_at, Map}
@@ -21,15 +20,14 @@ use Rattle.txn_trace.specs.Serial.{serial}
 use Rattle.txn_trace.specs.Now.{now}
 use Rattle.txn_trace.specs.Log.{log_of}
 use Rattle.txn_words.specs.declared.seat.Phase.{Phase}
-use Rattle.txn_words.specs.declared.seat.Phase.TheVariants.{Closed, Opened, Waiting, LeavingTo, LeavingToEnd}
-use Rattle.txn_words.specs.Seats.{has_job}
+use Rattle.txn_words.specs.declared.seat.Phase.TheVariants.{Opened, Waiting, LeavingTo, LeavingToEnd}
 use Rattle.txn_trace.proofs.Next.{Next}
 use Rattle.txn_trace.proofs.Entries as laws
 use Rattle.undo_log.specs.UndoLog.{kept_at}
 use Rattle.map_ops.specs.declared.job.MapJob.{MapJob}
 use Rattle.boost_core.specs.declared.session.Session.{Session}
 use Rattle.boost_core.specs.State.{seat_in, holder_by}
-use Rattle.boost_core.specs.Refusals.{refusal_of}
+use Rattle.boost_core.specs.Refusals.{refusal_of, has_job}
 use Rattle.boost_core.specs.Spares.{times_of, times_in, times_out, IsCovered}
 use Rattle.boost_core.specs.Core.{World, Tells, state_of, session_changes}
 use Rattle.boost_core.proofs.Numbers.{no_more}
@@ -44,13 +42,11 @@ use Rattle.boost_core.proofs.Refused.{seat_here}
 use Rattle.boost_core.proofs.SparesKept.{done_covered}
 
 going_waits : (q : Phase) (o : Option PendingAt) (room room' : ℕ) → IsGoing q → Waits q o room → Waits q o room'
-going_waits Closed o room room' goes waits = absurd goes
-going_waits Opened o room room' goes waits = absurd goes
-going_waits (Waiting op) o room room' goes waits = absurd goes
 going_waits (LeavingTo n) None room room' goes waits = tt
 going_waits (LeavingTo n) (Some pending) room room' goes waits = absurd waits
 going_waits LeavingToEnd None room room' goes waits = tt
 going_waits LeavingToEnd (Some pending) room room' goes waits = absurd waits
+going_waits _ o room room' goes waits = absurd goes
 
 going_runs : (q : Phase) → IsGoing q → runs q ≡ true
 going_runs (LeavingTo n) is = refl
@@ -97,8 +93,10 @@ module _ (w : World) (tells : Tells w) (c : ℕ) (x : Session) (at : slice_get w
 
     pub did_called : table_changes w.table ≤ table_changes t' → Called w c x (steps.Act c) (answers.Done reply) y t' w.locks
     did_called rises =
-        entered w c x y t' w.locks (steps.Act c) (answers.Done reply) (entry.Did c reply) (slice_set (map session_changes w.sessions) c None) refl refl refl refl
-        (none, subst (λ (q : Phase). IsReply q (now w.history) reply) (sym (ap (λ (s : Seat). s.phase) here ∙ phase_was)) reply_is) (did_runs rises) (λ kept. absurd (false≢true kept))
+        entered w c x y t' w.locks (steps.Act c) (answers.Done reply) (entry.Did c reply)
+        (slice_set (map session_changes w.sessions) c None) refl refl refl refl
+        (none, subst (λ (q : Phase). IsReply q (now w.history) reply) (sym (ap (λ (s : Seat). s.phase) here ∙ phase_was)) reply_is)
+        (did_runs rises) (λ kept. absurd (false≢true kept))
         (record {
           seat = did_seat;
           committed = serial w.history;
@@ -168,18 +166,14 @@ module _ (w : World) (tells : Tells w) (c : ℕ) (x : Session) (at : slice_get w
         spent w.table t' (spare_of_job back.job) (λ p s. others p s + times_of (spare_if x.pending) p s + times_in y.log.jobs p s) back.back.spares (λ p s.
         let times : times_in x.log.jobs p s ≡ times_in y.log.jobs p s + times_of (spare_of_job back.job) p s = ap (λ (js : List MapJob). times_in js p s) back.jobs ∙ sum_by_push (λ (j : MapJob). times_of (spare_of_job j) p s) y.log.jobs back.job in
         let exact : others p s + (times_of (spare_if x.pending) p s + times_in x.log.jobs p s) ≡ times_out w.table p s = covered p s in
-        regroup (others p s) (times_of (spare_if x.pending) p s) (times_in x.log.jobs p s) (times_in y.log.jobs p s) (times_of (spare_of_job back.job) p s) (times_out w.table p s) times exact) place stamp in
-        regroup' (others place stamp) (times_of (spare_if x.pending) place stamp) (times_in y.log.jobs place stamp) (times_out t' place stamp) after
-      where
-        regroup : (a b j k s n : ℕ) → j ≡ k + s → a + (b + j) ≡ n → a + b + k + s ≡ n
-        regroup a b j k s n times exact = omega arith
-
-        regroup' : (a b k n : ℕ) → a + b + k ≡ n → a + (b + k) ≡ n
-        regroup' a b k n exact = omega arith
+        omega arith) place stamp in
+        omega arith
 
     pub undone_called : table_changes w.table ≤ table_changes t' → Called w c x (steps.Act c) answers.Undone y t' w.locks
     undone_called rises =
-        entered w c x y t' w.locks (steps.Act c) answers.Undone (entry.Undone c) (slice_set (map session_changes w.sessions) c None) refl refl refl refl (none, ap has_job here ∙ has) (undone_runs rises) (λ kept. absurd (false≢true kept))
+        entered w c x y t' w.locks (steps.Act c) answers.Undone (entry.Undone c)
+        (slice_set (map session_changes w.sessions) c None) refl refl refl refl (none, ap has_job here ∙ has) (undone_runs rises)
+        (λ kept. absurd (false≢true kept))
         (record {
           seat = undone_seat;
           committed = serial w.history;

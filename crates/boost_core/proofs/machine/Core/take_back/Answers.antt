@@ -1,5 +1,4 @@
-use Rattle.std.proofs.Common.{suc, [], ◌∷◌, refl, sym, ap, subst, ◌∙◌}
-use Rattle.std.specs.Prelude.{nat_le}
+use Rattle.std.proofs.Common.{suc, [], ◌∷◌, refl, sym, ap, subst, ◌∙◌, nat_le}
 use Rattle.txn_words.specs.Sizes.{Sizes}
 use Rattle.txn_words.specs.declared.answer.Answer.{Answer}
 use Rattle.txn_words.specs.declared.answer.Answer.TheVariants.{Placed, Undone}
