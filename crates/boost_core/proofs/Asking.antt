@@ -1,32 +1,19 @@
 -- An operation that is asked for.
 use Rattle.std.proofs.Common.{◌≡◌, ℕ, ◌+◌, ◌-◌, ◌^◌, ◌<◌, ◌==◌, ◌||◌, true, false, cond, List, [], ◌++◌, length, Option, Some, None, refl, sym, ap, subst, ◌∙◌, arith, slice_get, slice_set, map, nat_eq, not, eq-eqb, ne_eqb, append-nil, inl, inr, ◌⊎◌}
-use Rattle.std.specs.Option.{option_eq, option_map}
+use Rattle.boost_core.proofs.Vocabulary.{option_eq, option_map, slice_get_within, Op, Refusal, key_of, takes_node, PendingAt, Step, serial, now, Phase, Opened, Waiting, LeavingToEnd, RoomySeat, Next, TableAt, Cursor, cursor_changes, map_of, nodes_of}
 use Rattle.std.proofs.lemmas.Bool.{false≢true, cases_eq, and_from, or_right}
-use Rattle.std.proofs.lemmas.Option.{slice_get_within}
 use Rattle.txn_words.specs.declared.holder.Holder.TheVariants.{Now}
-use Rattle.txn_words.specs.declared.op.Op.{Op}
-use Rattle.txn_words.specs.declared.refusal.Refusal.{Refusal}
 use Rattle.txn_words.specs.declared.refusal.Refusal.TheVariants as refusals
-use Rattle.txn_words.specs.Map.{key_of}
 use Rattle.txn_trace.specs.Locks.{stripe_of, is_locked, LocksHold, holder_of}
 use Rattle.txn_trace.proofs.Now.{same_is}
 use Rattle.txn_trace.proofs.Holders.{is_locked-asked, is_locked-busy}
-use Rattle.map_ops.specs.Jobs.{takes_node, PendingAt}
 use Rattle.map_ops.specs.Changes.{Prepares, IsRefused}
 use Rattle.txn_words.specs.declared.entry.Entry.TheVariants as entry
-use Rattle.txn_words.specs.declared.step.Step.{Step}
 use Rattle.txn_words.specs.declared.step.Step.TheVariants as steps
 use Rattle.txn_words.specs.declared.answer.Answer.TheVariants as answers
-use Rattle.txn_trace.specs.Serial.{serial}
 use Rattle.txn_words.specs.Entries.{entries_of}
-use Rattle.txn_trace.specs.Now.{now}
-use Rattle.txn_words.specs.declared.seat.Phase.{Phase}
-use Rattle.txn_words.specs.declared.seat.Phase.TheVariants.{Opened, Waiting, LeavingToEnd}
-use Rattle.txn_words.specs.Shape.{RoomySeat}
-use Rattle.txn_trace.proofs.Next.{Next}
 use Rattle.txn_trace.proofs.Entries as laws
 use Rattle.key_locks.specs.Locks.{holder_of as held_by}
-use Rattle.map_ops.specs.TableAt.{TableAt, Cursor, cursor_changes, map_of, nodes_of}
 use Rattle.boost_core.specs.declared.session.Session.{Session}
 use Rattle.boost_core.specs.State.{Owner, Caller, Helper, holder_by}
 use Rattle.boost_core.specs.Refusals.{refusal_of, has_stamp_for, MayLack}
@@ -41,7 +28,7 @@ use Rattle.boost_core.specs.Machine.{Move}
 use Rattle.boost_core.specs.Words.{Claim, Lock, Goes}
 use Rattle.boost_core.specs.Sessions.{Side, side_of, target_in, IsSoughtAt, KeepsPlaced, Waits, spare_if, times_kept, StaysIn, AsksIn, MeetsIn}
 use Rattle.boost_core.proofs.Spares.{spent}
-use Rattle.boost_core.proofs.Refused.{seat_free, ask_open, save_open}
+use Rattle.boost_core.proofs.Refused.{seat_free, three_tests}
 use Rattle.boost_core.proofs.Quiet.{idle_cursor, nothing_waits}
 use Rattle.boost_core.proofs.Gaps.{same_fits}
 use Rattle.boost_core.proofs.HelperGaps.{same_helper}
@@ -94,11 +81,11 @@ module _ (w : World) (tells : Tells w) (c : ℕ) (x : Session) (at : slice_get w
   -- Memory for a savepoint is refused.
   pub save_refused : refusal_of (state_of w) (steps.Save c) ≡ None → (y : Session) (t' : TableAt) (locks' : List (Option ℕ)) → StaysIn x y → t' ≡ w.table → locks' ≡ w.locks → Called w c x (steps.Save c) (answers.Refused refusals.NoMemory) y t' locks'
   save_refused none y t' locks' stays table same = same_world (Called w c x (steps.Save c) (answers.Refused refusals.NoMemory) y) w.table t' w.locks locks' table same
-      (lacking_called Lock (steps.Save c) refusals.NoMemory (lacks (state_of w) (steps.Save c) refusals.NoMemory none tt) (save_open w.limits.half x.seat.seat c (seat_free w tells c x at (steps.Save c) refl none)) y stays refl)
+      (lacking_called Lock (steps.Save c) refusals.NoMemory (lacks (state_of w) (steps.Save c) refusals.NoMemory none tt) (three_tests x.seat.seat _ _ _ _ (seat_free w tells c x at (steps.Save c) refl none)).0 y stays refl)
 
   module _ (op : Op) (none : refusal_of (state_of w) (steps.Ask c op) ≡ None) where
     pub opened : x.seat.seat.phase ≡ Opened
-    opened = ask_open w.limits.half x.seat.seat c op (seat_free w tells c x at (steps.Ask c op) refl none)
+    opened = (three_tests x.seat.seat _ _ _ _ (seat_free w tells c x at (steps.Ask c op) refl none)).0
 
     pub nothing : x.pending ≡ None
     nothing = nothing_waits w tells c x at Opened opened refl
@@ -131,7 +118,10 @@ module _ (w : World) (tells : Tells w) (c : ℕ) (x : Session) (at : slice_get w
         (given_for w.table t' (takes_node op) pending.spare prepares.given).covered (λ p s. others p s + times_in x.log.jobs p s) (λ p s.
         let same : times_of (spare_if x.pending) p s ≡ 0 = ap (λ (o : Option PendingAt). times_of (spare_if o) p s) nothing in
         let exact : others p s + (times_of (spare_if x.pending) p s + times_in x.log.jobs p s) ≡ times_out w.table p s = covered p s in
-        omega arith)
+        regroup (others p s) (times_of (spare_if x.pending) p s) (times_in x.log.jobs p s) (times_out w.table p s) same exact)
+      where
+        regroup : (a z j n : ℕ) → z ≡ 0 → a + (z + j) ≡ n → a + j ≡ n
+        regroup a z j n same exact = omega arith
 
     prepared_runs : (t' : TableAt) (pending : PendingAt) → Prepares w.table t' op pending → Runs w.table t'
     prepared_runs t' pending prepares = record {
@@ -166,7 +156,10 @@ module _ (w : World) (tells : Tells w) (c : ℕ) (x : Session) (at : slice_get w
       asked_covered : (others : ℕ → ℕ → ℕ) → IsCovered (λ place stamp. others place stamp + times_kept (side_of x) place stamp) w.table → IsCovered (λ place stamp. others place stamp + times_kept asked_side place stamp) t'
       asked_covered others covered place stamp =
           let after : others place stamp + times_in x.log.jobs place stamp + times_of asks.pending.spare place stamp ≡ times_out t' place stamp = spares_before t' asks.pending asks.prepares others covered place stamp in
-          omega arith
+          regroup (others place stamp) (times_in x.log.jobs place stamp) (times_of asks.pending.spare place stamp) (times_out t' place stamp) after
+        where
+          regroup : (a j s n : ℕ) → a + j + s ≡ n → a + (s + j) ≡ n
+          regroup a j s n exact = omega arith
 
       pub asked_called : Called w c x (steps.Ask c op) answers.Asked y t' locks'
       asked_called =
@@ -234,7 +227,10 @@ module _ (w : World) (tells : Tells w) (c : ℕ) (x : Session) (at : slice_get w
       busy_covered others covered place stamp =
           let exact : others place stamp + times_in x.log.jobs place stamp ≡ times_out t' place stamp = spent meets.between t' meets.pending.spare (λ p s. others p s + times_in x.log.jobs p s) meets.back.spares (spares_before meets.between meets.pending meets.prepares others covered) place stamp in
           let none : times_of (spare_if x.pending) place stamp ≡ 0 = ap (λ (o : Option PendingAt). times_of (spare_if o) place stamp) nothing in
-          omega arith
+          regroup (others place stamp) (times_in x.log.jobs place stamp) (times_of (spare_if x.pending) place stamp) (times_out t' place stamp) none exact
+        where
+          regroup : (a j p n : ℕ) → p ≡ 0 → a + j ≡ n → a + (p + j) ≡ n
+          regroup a j p n none exact = omega arith
 
       pub busy_called : w.words ≡ false → Called w c x (steps.Ask c op) (answers.Busy holder) y t' locks'
       busy_called words =

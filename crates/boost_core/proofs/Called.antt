@@ -1,13 +1,9 @@
 -- The outcome of each step of a caller.
 use Rattle.std.proofs.Common.{◌≡◌, ℕ, ◌+◌, ◌-◌, ◌^◌, ◌<◌, ◌≤◌, Bool, true, false, List, Option, Some, None, is_some, refl, sym, ap, subst, ◌∙◌, arith, slice_get, slice_set, map, reverse, unwrap_or, inr, length-set, get_or-set_same}
-use Rattle.std.specs.Option.{option_map}
-use Rattle.std.proofs.lemmas.Bool.{false≢true}
-use Rattle.std.proofs.lemmas.Option.{slice_get_within, slice_get-map}
-use Rattle.txn_words.specs.declared.step.Step.{Step}
+use Rattle.std.proofs.lemmas.Bool.{leb-false}
+use Rattle.boost_core.proofs.Vocabulary.{option_map, false≢true, slice_get_within, slice_get-map, Step, Answer, TableAt, Cursor, cursor_changes, table_changes, key_of, Op, stripe_of}
 use Rattle.txn_words.specs.declared.step.Step.TheVariants as steps
-use Rattle.txn_words.specs.declared.answer.Answer.{Answer}
 use Rattle.txn_words.specs.declared.answer.Answer.TheVariants as answers
-use Rattle.map_ops.specs.TableAt.{TableAt, Cursor, cursor_changes, table_changes}
 use Rattle.boost_core.specs.declared.counts.Counts.{Counts}
 use Rattle.boost_core.specs.declared.session.Session.{Session}
 use Rattle.boost_core.specs.State.{Caller, caller_changes}
@@ -17,13 +13,10 @@ use Rattle.boost_core.specs.Spares.{times_of, times_in, times_out}
 use Rattle.boost_core.specs.Core.{World, Tells, state_of, session_changes, all_times}
 use Rattle.boost_core.proofs.Outcomes.{Called, CalledBy, same_world}
 use Rattle.txn_words.specs.declared.refusal.Refusal.TheVariants as refusals
-use Rattle.txn_words.specs.Map.{key_of}
-use Rattle.txn_words.specs.declared.op.Op.{Op}
-use Rattle.txn_trace.specs.Locks.{stripe_of}
 use Rattle.boost_core.specs.Sessions.{side_of, Does, ActsIn, ReturnsIn, Saves, IsAsked, AsksBy, unless_busy, KeepsPlaced, Takes, AreDue, spare_if, times_kept}
 use Rattle.boost_core.proofs.Spares.{owns_if}
 use Rattle.boost_core.proofs.Grow.{one_of_sum}
-use Rattle.boost_core.proofs.Refused.{caller_in, index_at, free, seat_free, cursor_free, le_false_lt}
+use Rattle.boost_core.proofs.Refused.{caller_in, index_at, free, seat_free, cursor_free}
 use Rattle.boost_core.proofs.Parting.{begun, saved, left, committed, withdrawn, returned, ended}
 use Rattle.boost_core.proofs.Asking.{asked_called, busy_called, ask_refused, save_refused}
 use Rattle.boost_core.proofs.Claims.{stale_called, held_called, word_stale_called}
@@ -139,7 +132,7 @@ takes w tells c x at step owner none callers some began done = record {
   owner = (c, owner);
   caller = λ d is.
       let same : d ≡ c = same_caller d c (sym is ∙ owner) in
-      let below : c < w.limits.callers = le_false_lt w.limits.callers c (free (state_of w) c step owner none).within in
+      let below : c < w.limits.callers = leb-false w.limits.callers c (free (state_of w) c step owner none).within in
       omega arith;
   many = tells.stripes;
   some_stripe = some;

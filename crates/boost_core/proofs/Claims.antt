@@ -1,24 +1,14 @@
 -- An operation that is asked for when stripes are words: the outcome with a stale right, and with a
 -- word.
 use Rattle.std.proofs.Common.{◌≡◌, ℕ, ◌<◌, ◌==◌, ◌||◌, Bool, true, List, [], ◌++◌, length, Option, Some, None, refl, sym, ap, subst, ◌∙◌, arith, slice_get, slice_set, map, not, eq-eqb, ne_eqb, append-nil, inl, inr}
-use Rattle.std.specs.Option.{option_map}
+use Rattle.boost_core.proofs.Vocabulary.{option_map, Op, Phase, Opened, LeavingToEnd, key_of, serial, log_of, stripe_of, holder_of, RoomySeat, PendingAt, TableAt, Cursor, cursor_changes, nodes_of, last_of, map_of}
 use Rattle.std.proofs.lemmas.Bool.{false≢true, and_from, or_left}
-use Rattle.txn_words.specs.declared.op.Op.{Op}
 use Rattle.txn_words.specs.declared.entry.Entry.TheVariants as entry
 use Rattle.txn_words.specs.declared.refusal.Refusal.TheVariants.{StaleWord}
 use Rattle.txn_words.specs.declared.step.Step.TheVariants as steps
 use Rattle.txn_words.specs.declared.answer.Answer.TheVariants as answers
-use Rattle.txn_words.specs.declared.seat.Phase.{Phase}
-use Rattle.txn_words.specs.declared.seat.Phase.TheVariants.{Opened, LeavingToEnd}
-use Rattle.txn_words.specs.Map.{key_of}
-use Rattle.txn_trace.specs.Serial.{serial}
-use Rattle.txn_trace.specs.Log.{log_of}
-use Rattle.txn_trace.specs.Locks.{stripe_of, holder_of}
-use Rattle.txn_words.specs.Shape.{RoomySeat}
 use Rattle.txn_trace.proofs.Entries as laws
 use Rattle.txn_trace.proofs.Holders.{is_locked-asked}
-use Rattle.map_ops.specs.Jobs.{PendingAt}
-use Rattle.map_ops.specs.TableAt.{TableAt, Cursor, cursor_changes, nodes_of, last_of, map_of}
 use Rattle.boost_core.specs.declared.session.Session.{Session}
 use Rattle.boost_core.specs.State.{holder_by}
 use Rattle.boost_core.specs.Refusals.{refusal_of, has_stamp_for}

@@ -1,23 +1,19 @@
 -- A caller's call for help while nobody else takes steps on the core: what is so of each phase of
 -- its drive besides, the number of steps left, a round of the call's loop, and its outcome.
 use Rattle.std.proofs.Common.{◌≡◌, ℕ, ◌+◌, ◌*◌, ◌-◌, ◌^◌, ◌%◌, ◌<◌, ◌≤◌, Bool, true, false, if◌then◌else◌, Option, Some, None, refl, sym, ap, subst, ◌∙◌, arith, nat_le, unwrap_or}
-use Rattle.std.proofs.lemmas.Bool.{false≢true}
+use Rattle.boost_core.proofs.Vocabulary.{false≢true, Step, Answer, Drive, IsAncestor}
 use Rattle.std.proofs.lemmas.Nat.{mod_below}
-use Rattle.txn_words.specs.declared.step.Step.{Step}
 use Rattle.txn_words.specs.declared.step.Step.TheVariants as steps
-use Rattle.txn_words.specs.declared.answer.Answer.{Answer}
 use Rattle.txn_words.specs.declared.answer.Answer.TheVariants as answers
 use Rattle.txn_words.specs.declared.refusal.Refusal.TheVariants as refusals
 use Rattle.txn_words.specs.Sizes.{is_bad_key, Sizes, are_limits}
 use Rattle.txn_drive.specs.declared.call.Call.{Call}
 use Rattle.txn_drive.specs.declared.call.Call.TheVariants as calls
-use Rattle.txn_drive.specs.declared.drive.Drive.{Drive}
 use Rattle.txn_drive.specs.declared.phase.Phase.{Phase}
 use Rattle.txn_drive.specs.declared.phase.Phase.TheVariants as phases
 use Rattle.txn_drive.specs.declared.way.Way.{Way}
 use Rattle.txn_drive.specs.Drives.{first_phase, step_in, sized_in, towards, told_help, told_init_seek, told_link, told_store, told_in, new_drive, step_of, sized_of, turn_in, ended_by, end_of, told_of}
 use Rattle.txn_drive.proofs.WayLemmas.{IsAncestor-root, child_towards-le}
-use Rattle.split_key.specs.Split.{IsAncestor}
 use Rattle.boost_core.specs.State.{State, Helper, is_set}
 use Rattle.boost_core.specs.Machine.{Move}
 use Rattle.boost_core.specs.Whole.{IsWhole}

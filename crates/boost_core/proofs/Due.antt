@@ -1,18 +1,10 @@
 -- The jobs of a caller stay due while others work on other keys.
 use Rattle.std.proofs.Common.{◌≡◌, ℕ, ◌+◌, ◌==◌, true, false, cond, List, [], ◌∷◌, ◌++◌, Option, Some, None, is_some, refl, sym, ap, subst, ◌∙◌, IsSome, map, reverse, option_to_list, nat_eq, eq-eqb, ne_eqb, append-nil, inl, inr}
-use Rattle.std.specs.Option.{option_eq}
-use Rattle.std.specs.List.{AllByRecursion}
-use Rattle.std.proofs.lemmas.Bool.{cases_Bool, cases_eq}
-use Rattle.std.proofs.lemmas.List.{reverse-append}
-use Rattle.map_ops.specs.TableAt.{SpareAt}
-use Rattle.txn_words.specs.declared.op.Op.{Op}
-use Rattle.txn_words.specs.declared.op.Op.TheVariants.{Put, Take, Get, PutIf}
+use Rattle.boost_core.proofs.Vocabulary.{option_eq, AllByRecursion, cases_Bool, cases_eq, reverse-append, SpareAt, Op, Put, Take, Get, PutIf, MapJob, Relink}
 use Rattle.txn_words.specs.Map.{Map, get, insert, key_of, reply_of, after, set_at}
 use Rattle.txn_words.specs.Shape.{changes}
 use Rattle.txn_words.proofs.Maps.{same_map, get-insert-here, get-remove-here, get-set_at}
 use Rattle.txn_words.proofs.Effects.{after_unchanged, get-after_other, changes-reply}
-use Rattle.map_ops.specs.declared.job.MapJob.{MapJob}
-use Rattle.map_ops.specs.declared.job.MapJob.TheVariants.{Relink}
 use Rattle.map_ops.specs.Jobs.{takes_node, key_of_job, value_before, IsDue, unput, relink, job_of}
 use Rattle.boost_core.specs.Sessions.{change_of, changes_of, AreDue}
 

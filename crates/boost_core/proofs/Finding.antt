@@ -1,9 +1,6 @@
 -- The seek of a caller, and an act at a cursor that no longer fits.
 use Rattle.std.proofs.Common.{◌≡◌, ℕ, ◌+◌, ◌-◌, ◌^◌, ◌<◌, ◌≤◌, true, false, [], ◌++◌, length, Option, Some, None, refl, sym, ap, subst, ◌∙◌, slice_get, slice_set, map, ne_eqb, inl, inr}
-use Rattle.std.specs.Option.{option_map}
-use Rattle.std.proofs.lemmas.Bool.{false≢true, cases_eq, and_from}
-use Rattle.std.proofs.lemmas.Option.{slice_get_within}
-use Rattle.map_ops.specs.TableAt.{fits, TableAt, Cursor, cursor_changes, map_of, table_changes, IsPlaced}
+use Rattle.boost_core.proofs.Vocabulary.{option_map, false≢true, cases_eq, and_from, slice_get_within, fits, TableAt, Cursor, cursor_changes, map_of, table_changes, IsPlaced}
 use Rattle.txn_words.specs.declared.step.Step.TheVariants as steps
 use Rattle.txn_words.specs.declared.answer.Answer.TheVariants as answers
 use Rattle.boost_core.specs.declared.session.Session.{Session}

@@ -1,22 +1,15 @@
 -- The effect of each step that is no caller's on the cursors.
 use Rattle.std.proofs.Common.{◌≡◌, ◌≢◌, ℕ, Some, Result, Ok, Err, refl, sym, ap, subst, slice_get}
-use Rattle.split_key.specs.Sort.{dummy_at}
+use Rattle.boost_core.proofs.Vocabulary.{dummy_at, Refusal, Step, Answer, InitSeek, InitLink, SweepOutcome, IsSound}
 use Rattle.bucket_table.specs.Dummies.{dummy_node}
-use Rattle.txn_words.specs.declared.refusal.Refusal.{Refusal}
 use Rattle.txn_words.specs.declared.refusal.Refusal.TheVariants as refusals
-use Rattle.txn_words.specs.declared.step.Step.{Step}
 use Rattle.txn_words.specs.declared.step.Step.TheVariants as steps
-use Rattle.txn_words.specs.declared.answer.Answer.{Answer}
-use Rattle.map_ops.specs.InitSeek.{InitSeek}
 use Rattle.map_ops.specs.InitSeek.TheVariants as seeks
-use Rattle.map_ops.specs.InitLink.{InitLink}
 use Rattle.map_ops.specs.InitLink.TheVariants as links
-use Rattle.map_ops.specs.SweepOutcome.{SweepOutcome}
 use Rattle.map_ops.specs.SweepOutcome.TheVariants as outcomes
 use Rattle.map_ops.specs.Changes.{Sweeps}
 use Rattle.map_ops.specs.Buckets.{SeekChanges, SeekWrites, LinkChanges, LinkWrites, StoreChanges, helper_fits, link_answer_of}
 use Rattle.map_ops.specs.TableAt.{TableAt, Sought, KeepsList, helper_cursor, nodes_of, linked_of, helps_of, last_of}
-use Rattle.node_list.specs.Sound.{IsSound}
 use Rattle.boost_core.specs.State.{Caller, Helper}
 use Rattle.boost_core.specs.Nodes.{Cursors, Fits, KeepsGaps, mover_of}
 use Rattle.boost_core.specs.Serves as said

@@ -1,19 +1,10 @@
 -- The effect of each step of a caller on the cursors.
 use Rattle.std.proofs.Common.{◌≡◌, ◌≢◌, ℕ, inl, inr, List, length, set, Option, Some, is_some, sym, ap, subst, ◌∙◌, arith, map, slice_get, slice_set, length-set, get_or-set_same, get_or-set_other}
-use Rattle.std.proofs.lemmas.Bool.{cases_lt}
+use Rattle.boost_core.proofs.Vocabulary.{cases_lt, regular_at, Op, key_of, stripe_of, Refusal, Step, Answer, nodes_of, IsSound}
 use Rattle.std.proofs.lemmas.Option.{slice_get_within, slice_get_past, slice_get-get_or}
-use Rattle.split_key.specs.Sort.{regular_at}
-use Rattle.txn_words.specs.declared.op.Op.{Op}
-use Rattle.txn_words.specs.Map.{key_of}
-use Rattle.txn_trace.specs.Locks.{stripe_of}
-use Rattle.txn_words.specs.declared.refusal.Refusal.{Refusal}
 use Rattle.txn_words.specs.declared.refusal.Refusal.TheVariants as refusals
-use Rattle.txn_words.specs.declared.step.Step.{Step}
 use Rattle.txn_words.specs.declared.step.Step.TheVariants as steps
-use Rattle.txn_words.specs.declared.answer.Answer.{Answer}
 use Rattle.txn_words.specs.declared.answer.Answer.TheVariants as answers
-use Rattle.map_ops.specs.TableAt.{nodes_of}
-use Rattle.node_list.specs.Sound.{IsSound}
 use Rattle.boost_core.specs.declared.session.Session.{Session}
 use Rattle.boost_core.specs.State.{State, Gap, Caller, Helper, gap_in, gap_for}
 use Rattle.boost_core.specs.Refusals.{owner_of}

@@ -15,6 +15,7 @@ pub record Given (t t' : TableAt) (takes : Bool) (spare : Option SpareAt) : Type
   pub most : last_of t' ≤ last_of t + 1
   pub covered : (others : ℕ → ℕ → ℕ) → IsCovered others t → IsCovered (λ place stamp. others place stamp + times_of spare place stamp) t'
 
+-- Each case of a spare that is given or not.
 pub given_for : (t t' : TableAt) (takes : Bool) (spare : Option SpareAt) → GivesFor t t' takes spare → Given t t' takes spare
 given_for t t' true (Some spare) gives =
     let last = gives.last in

@@ -1,32 +1,18 @@
 -- The invariants of a core that hold when one caller's side changes.
 use Rattle.std.proofs.Common.{◌≡◌, ◌≢◌, ℕ, ◌+◌, ◌-◌, ◌<◌, ◌≤◌, true, cond, List, [], ◌∷◌, ◌++◌, length, get_or, set, Option, Some, None, refl, sym, ap, subst, ◌∙◌, arith, slice_get, slice_set, sum_by, reverse, length-set, get_or-set_same, get_or-set_other, ◌⊎◌, inl, inr}
 use Rattle.std.specs.Option.{option_and_then}
-use Rattle.std.specs.List.{AllByRecursion}
-use Rattle.std.proofs.lemmas.Bool.{cases_eq}
+use Rattle.boost_core.proofs.Vocabulary.{AllByRecursion, cases_eq, slice_get_within, get_or_from_slice_get, slice_get-get_or, Entry, Map, get, caller_of, is_began, is_commit, now, Phase, Closed, LeavingTo, Seat, RoomySeat, row, seat_after, own, log_of, stripe_of, holder_of, IsLevelIn, seat_leveled, MapJob, TableAt, Cursor, content, IsPlaced, largest_of, helps_of}
 use Rattle.std.proofs.lemmas.List.{length-map, length-reverse}
 use Rattle.std.proofs.lemmas.List.Sums.{sum_by-set, get_or-le-sum_by}
 use Rattle.std.proofs.lemmas.List.Elements.{All-push}
-use Rattle.std.proofs.lemmas.Option.{slice_get_within, get_or_from_slice_get, slice_get-get_or}
 use Rattle.txn_words.specs.declared.holder.Holder.{Holder}
-use Rattle.txn_words.specs.declared.entry.Entry.{Entry}
-use Rattle.txn_words.specs.Map.{Map, get}
-use Rattle.txn_words.specs.Kinds.{caller_of, is_began, is_commit}
-use Rattle.txn_trace.specs.Now.{now}
-use Rattle.txn_words.specs.declared.seat.Phase.{Phase}
-use Rattle.txn_words.specs.declared.seat.Phase.TheVariants.{Closed, LeavingTo}
-use Rattle.txn_words.specs.Shape.{Seat, RoomySeat, row, seat_after, own}
 use Rattle.txn_words.specs.Seats.{is_saved}
-use Rattle.txn_trace.specs.Log.{log_of}
-use Rattle.txn_trace.specs.Locks.{stripe_of, holder_of}
 use Rattle.txn_trace.specs.Legal.{IsLegal, runs, is_running}
 use Rattle.txn_trace.proofs.Pushes.{how_many-push}
 use Rattle.txn_trace.proofs.Next.{Next, seat-own}
 use Rattle.txn_trace.proofs.Entries.{length-log_of}
 use Rattle.txn_trace.proofs.Held.{log_held}
-use Rattle.txn_words.proofs.Levels.{IsLevelIn, seat_leveled}
 use Rattle.key_locks.specs.Locks.{holder_of as held_by}
-use Rattle.map_ops.specs.declared.job.MapJob.{MapJob}
-use Rattle.map_ops.specs.TableAt.{TableAt, Cursor, content, IsPlaced, largest_of, helps_of}
 use Rattle.boost_core.specs.declared.counts.Counts.{Counts}
 use Rattle.boost_core.specs.declared.session.Session.{Session}
 use Rattle.boost_core.specs.State.{Owner, holder_by}

@@ -1,8 +1,6 @@
 -- The cursors of helpers, from the table.
 use Rattle.std.proofs.Common.{◌≡◌, ◌≢◌, ℕ, Bool, true, false, zero, suc, List, [], ◌∷◌, replicate, Option, Some, None, is_some, refl, sym, ap, ◌∙◌, map, slice_index_or, unwrap_or}
-use Rattle.std.specs.Option.{option_map}
-use Rattle.std.proofs.lemmas.Bool.{false≢true}
-use Rattle.std.proofs.lemmas.Option.{slice_get-map, unwrap_or-slice_get}
+use Rattle.boost_core.proofs.Vocabulary.{option_map, false≢true, slice_get-map, unwrap_or-slice_get, dummy_at}
 use Rattle.std.proofs.Math.ListN as lists
 use Rattle.node_list.specs.Order.{IsRising, IsSpread}
 use Rattle.bucket_table.specs.declared.helper.Helper.{Helper as TableHelper}
@@ -17,7 +15,6 @@ use Rattle.boost_core.specs.Core.{nodes_at, gap_if, helper_gaps_of, World, state
 use Rattle.boost_core.proofs.GapLists.{Stay}
 use Rattle.boost_core.proofs.Neighbours.{fit_of}
 use Rattle.boost_core.proofs.Gaps.{cursor_still, gap_here, no_gap, stands_at, same_fits}
-use Rattle.split_key.specs.Sort.{dummy_at}
 
 -- The nodes beside a helper's cursor, from that cursor.
 pub helper_gap_is : (t : TableAt) (h : ℕ) → gap_in (helper_gaps_of t) h ≡ gap_if t (helper_cursor t h)

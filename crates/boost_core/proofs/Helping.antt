@@ -1,19 +1,13 @@
 -- The steps of the table and of its helpers.
 use Rattle.std.proofs.Common.{◌≡◌, ◌≢◌, ℕ, ◌≤◌, ◌&&◌, Bool, true, false, cond, List, [], ◌++◌, length, Option, Some, None, Result, Ok, Err, refl, sym, ap, subst, ◌∙◌, arith, slice_get, slice_set, unwrap_or, map, nat_le, not, le-leb, append-nil, inl, inr}
-use Rattle.std.proofs.lemmas.Bool.{false≢true, cases_lt}
-use Rattle.std.proofs.lemmas.Option.{slice_get_within, slice_get-get_or, unwrap_or-slice_get}
+use Rattle.boost_core.proofs.Vocabulary.{false≢true, cases_lt, slice_get_within, slice_get-get_or, unwrap_or-slice_get, InitSeek, Refusal, Entry, Step, Answer}
 use Rattle.map_ops.specs.Double.{Double}
-use Rattle.map_ops.specs.InitSeek.{InitSeek}
 use Rattle.map_ops.specs.InitSeek.TheVariants as seeks
 use Rattle.bucket_table.specs.declared.answer.InitRefusal.{InitRefusal}
 use Rattle.bucket_table.specs.declared.answer.InitRefusal.TheVariants as inits
-use Rattle.txn_words.specs.declared.refusal.Refusal.{Refusal}
 use Rattle.txn_words.specs.declared.refusal.Refusal.TheVariants as refusals
 use Rattle.map_ops.specs.Buckets.{Becomes, Helps, Seeks, Stores, Doubles, size_after, is_stored, answer_for, seek_answer, store_answer, parent_of, LacksSegment}
-use Rattle.txn_words.specs.declared.entry.Entry.{Entry}
-use Rattle.txn_words.specs.declared.step.Step.{Step}
 use Rattle.txn_words.specs.declared.step.Step.TheVariants as steps
-use Rattle.txn_words.specs.declared.answer.Answer.{Answer}
 use Rattle.txn_words.specs.declared.answer.Answer.TheVariants as answers
 use Rattle.map_ops.specs.TableAt.{TableAt, Help, Nothing, Sought, Dummy, Follows, Keeps, KeepsSpares, content, map_of, regular, size_of, stored_of, linked_of, helps_of, table_changes, last_of, largest_of}
 use Rattle.boost_core.specs.State.{State, Owner, Helper, is_set, help_in, bucket_at}
@@ -99,9 +93,14 @@ became w t' placed' size stored linked helps = record (state_of w) {
   placed = placed';
 }
 
+-- The state after such a change.
 pub becomes_state : (w : World) (t' : TableAt) (placed' : Option Owner) (size : ℕ) (stored linked : List Bool) (helps : List Help)
     → Becomes w.table t' size stored linked helps → state_of (served w t' placed')
-    ≡ record (became w t' placed' size stored linked helps) { nodes = nodes_at t'; gaps = map (gap_by t') w.sessions; helper_gaps = helper_gaps_of t' }
+    ≡ record (became w t' placed' size stored linked helps) {
+      nodes = nodes_at t';
+      gaps = map (gap_by t') w.sessions;
+      helper_gaps = helper_gaps_of t';
+    }
 becomes_state w t' placed' size stored linked helps becomes = λ i. record (state_of w) {
   history = append_none w.history i;
   size = becomes.size_is i;
@@ -125,7 +124,8 @@ pub becomes_move : (w : World) (t' : TableAt) (placed' : Option Owner) (size : �
 becomes_move w t' placed' size stored linked helps step answer becomes allowed after_is rises kept same = record {
   allowed = allowed;
   state = becomes_state w t' placed' size stored linked helps becomes
-      ∙ ap (λ (s : State). record s { nodes = nodes_at t'; gaps = map (gap_by t') w.sessions; helper_gaps = helper_gaps_of t' }) (sym after_is);
+      ∙ ap (λ (s : State). record s { nodes = nodes_at t'; gaps = map (gap_by t') w.sessions; helper_gaps = helper_gaps_of t' })
+      (sym after_is);
   changes = rises;
   list_kept = kept;
   stamp = omega arith;

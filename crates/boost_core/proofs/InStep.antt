@@ -2,14 +2,11 @@
 -- the core between them; and the call keeps to its bucket, which is stored when the call is at its
 -- end.
 use Rattle.std.proofs.Common.{◌≡◌, ◌≢◌, ℕ, ◌*◌, ◌^◌, ◌%◌, ◌<◌, ◌≤◌, ◌==◌, ◌&&◌, nat_lt, Bool, true, false, if◌then◌else◌, List, [], ◌∷◌, length, Some, None, refl, sym, ap, subst, ◌∙◌, arith, nat_le, not, unwrap_or, slice_get, slice_set, eqb-true, lt-ltb, get_or-set_same}
-use Rattle.std.proofs.lemmas.Bool.{false≢true, eqb-false}
+use Rattle.std.proofs.lemmas.Bool.{false≢true, eqb-false, leb-false}
 use Rattle.std.proofs.lemmas.Nat.{mod_below}
-use Rattle.std.proofs.lemmas.Option.{unwrap_or-slice_get}
-use Rattle.txn_words.specs.declared.step.Step.{Step}
+use Rattle.boost_core.proofs.Vocabulary.{unwrap_or-slice_get, Step, Answer, Refusal}
 use Rattle.txn_words.specs.declared.step.Step.TheVariants as steps
-use Rattle.txn_words.specs.declared.answer.Answer.{Answer}
 use Rattle.txn_words.specs.declared.answer.Answer.TheVariants as answers
-use Rattle.txn_words.specs.declared.refusal.Refusal.{Refusal}
 use Rattle.txn_words.specs.declared.refusal.Refusal.TheVariants as refusals
 use Rattle.txn_drive.specs.declared.call.Call.TheVariants as calls
 use Rattle.txn_drive.specs.declared.phase.Phase.{Phase}
@@ -24,7 +21,7 @@ use Rattle.boost_core.specs.Refusals.{refusal_of, MayLack, has_cursor, has_dummy
 use Rattle.boost_core.specs.Machine.{Move}
 use Rattle.boost_core.specs.Whole.{IsWhole}
 use Rattle.boost_core.specs.Helps.{IsOnWay, HelpSuits}
-use Rattle.boost_core.proofs.Refused.{le_false, le_false_lt}
+use Rattle.boost_core.proofs.Refused.{le_false}
 use Rattle.boost_core.proofs.Calls.{never_refused, and_none}
 
 -- The size after a move: only a doubling changes it.
@@ -166,7 +163,7 @@ target_small : (m : State) (way : Way) → IsWhole m → IsOnWay m way → way.t
 target_small m way whole on = let less = on.target in let most = whole.most in let fits = whole.fits in omega arith
 
 helper_there : (m : State) (c : ℕ) → IsWhole m → nat_le m.limits.callers c ≡ false → c < length m.helpers
-helper_there m c whole within = let less = le_false_lt m.limits.callers c within in let count = whole.helpers in omega arith
+helper_there m c whole within = let less = leb-false m.limits.callers c within in let count = whole.helpers in omega arith
 
 -- After the position of a bucket's dummy was sought.
 pub help_suits_seek : (m n : State) (c : ℕ) (way : Way) (again : ℕ) (a : Answer) → IsWhole m → nat_le m.limits.callers c ≡ false → IsOnWay m way → Move m (steps.InitSeek c way.bucket) a n → HelpSuits n c (told_init_seek way again a)

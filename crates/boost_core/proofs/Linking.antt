@@ -1,11 +1,9 @@
 -- The step by which a helper links a dummy.
 use Rattle.std.proofs.Common.{◌≡◌, ◌≢◌, ℕ, ◌-◌, ◌^◌, ◌<◌, ◌≤◌, ◌==◌, Bool, true, false, cond, List, length, Option, Some, None, Result, Ok, Err, is_some, refl, sym, ap, subst, ◌∙◌, arith, slice_get, slice_set, unwrap_or, map, nat_le, not, ne_eqb, inl, inr}
-use Rattle.std.proofs.lemmas.Bool.{false≢true, cases_eq, and_from}
-use Rattle.map_ops.specs.InitLink.{InitLink}
+use Rattle.boost_core.proofs.Vocabulary.{false≢true, cases_eq, and_from, InitLink, Refusal}
 use Rattle.map_ops.specs.InitLink.TheVariants as links
 use Rattle.bucket_table.specs.declared.answer.InitRefusal.{InitRefusal}
 use Rattle.bucket_table.specs.declared.answer.InitRefusal.TheVariants as inits
-use Rattle.txn_words.specs.declared.refusal.Refusal.{Refusal}
 use Rattle.txn_words.specs.declared.refusal.Refusal.TheVariants as refusals
 use Rattle.map_ops.specs.Buckets.{Helps, Holds, Links, is_stored, answer_for, link_answer, helper_fits, link_answer_of}
 use Rattle.txn_words.specs.declared.step.Step.TheVariants as steps
@@ -135,8 +133,11 @@ module _ (w : World) (helper : ℕ) (many : length (helps_of w.table) ≡ w.limi
   link_again_move is fresh unmoved t' helps stays =
       let sought = has_sought (helper_fits w.table helper) (linked_of w.table) (last_of w.table) (slice_get (helps_of w.table) helper) (Ok links.Again) is refl in
       becomes_move w t' None (size_of w.table) (stored_of w.table) (linked_of w.table) (slice_set (helps_of w.table) helper Nothing)
-      (steps.InitLink helper) answers.Again helps.becomes
-      (link_refusal ∙ ap refusal_by_test is, stale sought.bucket sought.noted sought.had (linking_again (helper_fits w.table helper) (is_stored (linked_of w.table) sought.bucket) (last_of w.table == 2 ^ 64 - 2) sought.answer))
+      (steps.InitLink helper) answers.Again helps.becomes (
+        link_refusal ∙ ap refusal_by_test is,
+        stale sought.bucket sought.noted sought.had
+            (linking_again (helper_fits w.table helper) (is_stored (linked_of w.table) sought.bucket) (last_of w.table == 2 ^ 64 - 2) sought.answer),
+      )
       refl (omega arith) (λ kept. stays) helps.last
     where
       not_fresh : helper_fits w.table helper ≡ false → (o : Option Owner) → IsFresh w.table w.sessions o → is_just_placed (Helper helper) o ≡ false
@@ -157,8 +158,10 @@ module _ (w : World) (helper : ℕ) (many : length (helps_of w.table) ≡ w.limi
   pub link_present_move : answer_now ≡ Ok links.Present → (t' : TableAt) → Holds w.table t' helper → Move before (steps.InitLink helper) answers.Present (state_of (served w t' None))
   link_present_move is t' holds =
       becomes_move w t' None (size_of w.table) (stored_of w.table) (linked_of w.table)
-      (slice_set (helps_of w.table) helper (Dummy holds.bucket)) (steps.InitLink helper) answers.Present holds.helps.becomes
-      (link_refusal ∙ ap refusal_by_test is, ap not (lacks_when holds.bucket holds.changes true holds.had (ap (λ (o : Option Bool). unwrap_or o false) holds.there)))
+      (slice_set (helps_of w.table) helper (Dummy holds.bucket)) (steps.InitLink helper) answers.Present holds.helps.becomes (
+        link_refusal ∙ ap refusal_by_test is,
+        ap not (lacks_when holds.bucket holds.changes true holds.had (ap (λ (o : Option Bool). unwrap_or o false) holds.there)),
+      )
       (ap (λ n. became w t' None (size_of w.table) (stored_of w.table) (linked_of w.table) (slice_set (helps_of w.table) helper (Dummy n)))
       (bucket_had (Sought holds.bucket holds.changes) holds.had))
       (let same = holds.kept in omega arith) (λ kept. holds.kept) holds.helps.last

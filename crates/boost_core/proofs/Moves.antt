@@ -1,14 +1,8 @@
 -- Moves of the machine, from the changes of a step to the table and to one caller's side.
 use Rattle.std.proofs.Common.{◌≡◌, ℕ, ◌+◌, ◌≤◌, List, set, Option, Some, None, refl, sym, ap, subst, ◌∙◌, arith, ◌-◌, ◌^◌, ◌<◌, ◌==◌, ◌&&◌, Bool, true, false, map, nat_lt, not, slice_get, slice_set, eq-eqb, eqb-true, ltb-true, inl, inr}
-use Rattle.std.specs.Option.{option_map}
-use Rattle.std.proofs.lemmas.Bool.{and_parts, cases_Bool}
+use Rattle.boost_core.proofs.Vocabulary.{option_map, and_parts, cases_Bool, get_or_from_slice_get, Entry, Refusal, Step, Answer}
 use Rattle.std.proofs.lemmas.List.{map-set}
-use Rattle.std.proofs.lemmas.Option.{get_or_from_slice_get}
 use Rattle.std.proofs.Math.Seq.{map-set_same}
-use Rattle.txn_words.specs.declared.entry.Entry.{Entry}
-use Rattle.txn_words.specs.declared.refusal.Refusal.{Refusal}
-use Rattle.txn_words.specs.declared.step.Step.{Step}
-use Rattle.txn_words.specs.declared.answer.Answer.{Answer}
 use Rattle.txn_words.specs.declared.answer.Answer.TheVariants.{Refused}
 use Rattle.map_ops.specs.TableAt.{cursor_changes, TableAt, Keeps, KeepsBuckets, size_of, stored_of, linked_of, helps_of, table_changes, last_of}
 use Rattle.boost_core.specs.Sessions.{Rests}
@@ -44,12 +38,21 @@ runs_same t = record { size = refl; stored = refl; linked = refl; helps = refl; 
 -- `Runs` holds if the buckets and the last stamp are unchanged.
 pub runs_of : (t t' : TableAt) → KeepsBuckets t t' → linked_of t' ≡ linked_of t → table_changes t ≤ table_changes t'
     → last_of t' ≡ last_of t → Runs t t'
-runs_of t t' buckets linked rises same =
-    record { size = buckets.size; stored = buckets.stored; linked = linked; helps = buckets.helps; rises = rises; last = omega arith; one_last = omega arith }
+runs_of t t' buckets linked rises same = record {
+  size = buckets.size;
+  stored = buckets.stored;
+  linked = linked;
+  helps = buckets.helps;
+  rises = rises;
+  last = omega arith;
+  one_last = omega arith;
+}
 
+-- `Runs` holds if only spares have changed.
 pub rests_runs : (t t' : TableAt) → Rests t t' → Runs t t'
 rests_runs t t' rests = runs_of t t' rests.nodes.buckets rests.nodes.linked (let same = rests.nodes.changes in omega arith) rests.last
 
+-- `Runs` holds if only the list has changed.
 pub keeps_runs : (t t' : TableAt) → Keeps t t' → table_changes t ≤ table_changes t' → Runs t t'
 keeps_runs t t' keeps rises = runs_of t t' keeps.buckets keeps.linked rises keeps.last
 
@@ -66,6 +69,7 @@ changes_set sessions c y noted is = map-set session_changes sessions c y ∙ ap 
 pub changes_same : (sessions : List Session) (c : ℕ) (x y : Session) → slice_get sessions c ≡ Some x → session_changes y ≡ session_changes x → map session_changes (slice_set sessions c y) ≡ map session_changes sessions
 changes_same sessions c x y at same = map-set_same session_changes sessions c y x (same ∙ ap session_changes (sym (get_or_from_slice_get sessions c x x at)))
 
+-- To drop the cursor of a caller that has none changes nothing.
 pub none_dropped : (sessions : List Session) (c : ℕ) (x : Session) → slice_get sessions c ≡ Some x → x.cursor ≡ None
     → slice_set (map session_changes sessions) c None ≡ map session_changes sessions
 none_dropped sessions c x at none =

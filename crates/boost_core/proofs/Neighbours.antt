@@ -1,9 +1,7 @@
 -- A cursor still fits if its two nodes are still neighbours.
-use Rattle.std.proofs.Common.{◌≡◌, ℕ, ◌==◌, ◌&&◌, Bool, true, false, inl, inr, List, [], ◌∷◌, ◌++◌, Option, Some, None, refl, sym, ap, subst, ◌∙◌, not, eq-eqb, eqb-true}
-use Rattle.std.specs.Option.{option_map}
-use Rattle.std.specs.List.{AllByRecursion}
-use Rattle.std.proofs.lemmas.Bool.{false≢true, cases_Bool, and_parts, and_from}
-use Rattle.split_key.specs.Sort.{IsBefore}
+use Rattle.std.proofs.Common.{◌≡◌, ℕ, ◌==◌, ◌&&◌, true, false, inl, inr, List, [], ◌∷◌, ◌++◌, Option, Some, None, refl, sym, ap, subst, ◌∙◌, not, eq-eqb, eqb-true}
+use Rattle.std.proofs.lemmas.Bool.{not-true}
+use Rattle.boost_core.proofs.Vocabulary.{option_map, AllByRecursion, false≢true, cases_Bool, and_parts, and_from, IsBefore}
 use Rattle.node_list.specs.Nodes.{NodeAt, Listing, node_of, next_of, first}
 use Rattle.node_list.specs.Order.{IsRising, IsSpread, IsNodeBefore}
 use Rattle.list_steps.specs.declared.cursor.Cursor.{Cursor}
@@ -15,16 +13,11 @@ use Rattle.boost_core.specs.Core.{node_at}
 use Rattle.boost_core.proofs.NodeLists.{seen, node_here, node_later, none_of_none, order_behind}
 use Rattle.boost_core.proofs.GapLists.{IsStill, Stay, each_at, place_at, next_here, next_later, next_found, one_of_key, apart_keys}
 
--- A noted node is there.
-not_marked : (b : Bool) → not b ≡ true → b ≡ false
-not_marked true is = absurd (false≢true is)
-not_marked false is = refl
-
 noted_node : (o : Option NodeAt) (stamp : ℕ) → is_noted o stamp ≡ true → (n : NodeAt) × (o ≡ Some n) × (n.stamp ≡ stamp) × (n.marked ≡ false)
 noted_node None stamp is = absurd (false≢true is)
 noted_node (Some n) stamp is =
     let parts = and_parts (n.stamp == stamp) (not n.marked) is in
-    (n, refl, eqb-true n.stamp stamp parts.0, not_marked n.marked parts.1)
+    (n, refl, eqb-true n.stamp stamp parts.0, not-true n.marked parts.1)
 
 abbrev pub NextIs : Option NodeAt → Option Noted → Type 0
 NextIs None None = Unit {0}
@@ -36,7 +29,7 @@ next_is None None is = tt
 next_is (Some n) (Some noted) is =
     let parts = and_parts (n.place == noted.place) (n.stamp == noted.stamp && not n.marked) is in
     let rest = and_parts (n.stamp == noted.stamp) (not n.marked) parts.1 in
-    (eqb-true n.place noted.place parts.0, eqb-true n.stamp noted.stamp rest.0, not_marked n.marked rest.1)
+    (eqb-true n.place noted.place parts.0, eqb-true n.stamp noted.stamp rest.0, not-true n.marked rest.1)
 next_is _ _ is = false≢true is
 
 next_noted : (o : Option NodeAt) (noted : Option Noted) → NextIs o noted → is_next_noted o noted ≡ true

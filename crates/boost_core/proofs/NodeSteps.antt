@@ -1,33 +1,15 @@
 -- The effect of each step on the nodes, the change number and the last stamp.
 use Rattle.std.proofs.Common.{◌≡◌, ◌⊎◌, ℕ, ◌+◌, ◌-◌, ◌%◌, ◌<◌, Bool, true, false, cond, List, [], ◌∷◌, ◌++◌, length, Option, Some, None, is_some, inl, inr, refl, sym, ap, subst, ◌∙◌, arith, reverse, slice_get, unwrap_or, nat_lt, nat_eq, IsSome, ltb-true}
-use Rattle.std.specs.Option.{option_map, option_eq}
-use Rattle.std.proofs.lemmas.Bool.{false≢true, cases_Bool}
+use Rattle.boost_core.proofs.Vocabulary.{option_map, option_eq, false≢true, cases_Bool, slice_get-map, unwrap_or-slice_get, regular_at, Op, Put, Take, Get, PutIf, Refusal, Step, Answer, Phase, Waiting, LeavingTo, LeavingToEnd, Map, get, key_of, now, log_of, stripe_of, Seat, kept_at, newest_above, MapJob, Unput, Restore, Relink}
 use Rattle.std.proofs.lemmas.List.{length-map, reverse-append}
-use Rattle.std.proofs.lemmas.Option.{slice_get-map, unwrap_or-slice_get}
 use Rattle.split_key.specs.Split.{ancestor_of}
-use Rattle.split_key.specs.Sort.{regular_at}
 use Rattle.node_list.specs.Nodes.{NodeAt, changes_after}
 use Rattle.list_steps.specs.Seek.{sought}
 use Rattle.bucket_table.specs.Directory as directories
 use Rattle.bucket_table.specs.Dummies.{IsDummyAt}
-use Rattle.txn_words.specs.declared.op.Op.{Op}
-use Rattle.txn_words.specs.declared.op.Op.TheVariants.{Put, Take, Get, PutIf}
-use Rattle.txn_words.specs.declared.refusal.Refusal.{Refusal}
 use Rattle.txn_words.specs.declared.refusal.Refusal.TheVariants as refusals
-use Rattle.txn_words.specs.declared.step.Step.{Step}
 use Rattle.txn_words.specs.declared.step.Step.TheVariants as steps
-use Rattle.txn_words.specs.declared.answer.Answer.{Answer}
 use Rattle.txn_words.specs.declared.answer.Answer.TheVariants as answers
-use Rattle.txn_words.specs.declared.seat.Phase.{Phase}
-use Rattle.txn_words.specs.declared.seat.Phase.TheVariants.{Waiting, LeavingTo, LeavingToEnd}
-use Rattle.txn_words.specs.Map.{Map, get, key_of}
-use Rattle.txn_trace.specs.Now.{now}
-use Rattle.txn_trace.specs.Log.{log_of}
-use Rattle.txn_trace.specs.Locks.{stripe_of}
-use Rattle.txn_words.specs.Shape.{Seat}
-use Rattle.undo_log.specs.UndoLog.{kept_at, newest_above}
-use Rattle.map_ops.specs.declared.job.MapJob.{MapJob}
-use Rattle.map_ops.specs.declared.job.MapJob.TheVariants.{Unput, Restore, Relink}
 use Rattle.map_ops.specs.Jobs.{PendingAt, key_of_job, value_before, takes_node, IsDue}
 use Rattle.map_ops.specs.TableAt.{TableAt, SpareAt, KeepsNodes, KeepsList, NamesDummies, content, nodes_of, size_of, stored_of, table_changes, last_of}
 use Rattle.map_ops.specs.Changes.{SeeksNear, IsRefused}
@@ -212,7 +194,10 @@ module _ (w : World) (tells : Tells w) (c : ℕ) (x : Session) (at : slice_get w
   module _ (w' : World) (y : Session) (locks' : List (Option ℕ)) where
     asked : (op : Op) (stripe : ℕ) (answer : Answer) → IsAsked c stripe op x w.table w.locks answer y w'.table locks' → Lists (state_of w) (steps.Ask c op) answer (state_of w')
     asked op stripe answers.Asked is =
-        record { nodes = rested w w' is.prepares.nodes; stamp = (given_for w.table w'.table (takes_node op) is.pending.spare is.prepares.given).last }
+        record {
+          nodes = rested w w' is.prepares.nodes;
+          stamp = (given_for w.table w'.table (takes_node op) is.pending.spare is.prepares.given).last;
+        }
     asked op stripe (answers.Busy holder) is = record {
       nodes = record { nodes = ap seen is.back.nodes.all ∙ ap seen is.prepares.nodes.all; changes = is.back.nodes.changes ∙ is.prepares.nodes.changes };
       stamp = is.back.last ∙ (given_for w.table is.between (takes_node op) is.pending.spare is.prepares.given).last;

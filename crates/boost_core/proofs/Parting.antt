@@ -1,24 +1,13 @@
 -- The steps that begin, divide and end transactions.
 use Rattle.std.proofs.Common.{◌≡◌, ℕ, ◌+◌, ◌≤◌, true, false, cond, List, [], ◌∷◌, ◌++◌, length, take, Option, Some, None, refl, sym, ap, subst, ◌∙◌, add-one, arith, slice_get, slice_set, slice_index, map, nat_eq, nat_lt, not, eq-eqb}
-use Rattle.std.specs.Option.{option_eq}
-use Rattle.std.proofs.lemmas.Bool.{false≢true, and_from}
+use Rattle.std.proofs.lemmas.Bool.{leb-false, ltb-false}
+use Rattle.boost_core.proofs.Vocabulary.{option_eq, false≢true, and_from, serial, now, holder_of, log_of, Phase, Closed, Opened, Waiting, LeavingTo, LeavingToEnd, Seat, closed_seat, Next, kept_at, PendingAt, TableAt, map_of}
 use Rattle.txn_words.specs.declared.entry.Entry.TheVariants as entry
 use Rattle.txn_words.specs.declared.step.Step.TheVariants as steps
 use Rattle.txn_words.specs.declared.answer.Answer.TheVariants as answers
-use Rattle.txn_trace.specs.Serial.{serial}
-use Rattle.txn_trace.specs.Now.{now}
-use Rattle.txn_trace.specs.Locks.{holder_of}
-use Rattle.txn_trace.specs.Log.{log_of}
-use Rattle.txn_words.specs.declared.seat.Phase.{Phase}
-use Rattle.txn_words.specs.declared.seat.Phase.TheVariants.{Closed, Opened, Waiting, LeavingTo, LeavingToEnd}
-use Rattle.txn_words.specs.Shape.{Seat, closed_seat}
-use Rattle.txn_trace.proofs.Next.{Next}
 use Rattle.txn_trace.proofs.Entries as laws
 use Rattle.txn_trace.proofs.Settled.{settled}
-use Rattle.undo_log.specs.UndoLog.{kept_at}
 use Rattle.key_locks.specs.Locks.{Releases}
-use Rattle.map_ops.specs.Jobs.{PendingAt}
-use Rattle.map_ops.specs.TableAt.{TableAt, map_of}
 use Rattle.boost_core.specs.declared.session.Session.{Session}
 use Rattle.boost_core.specs.State.{seat_in, holder_by}
 use Rattle.boost_core.specs.Refusals.{refusal_of, is_closed, is_waiting, is_leaving, has_job}
@@ -30,8 +19,7 @@ use Rattle.boost_core.proofs.Moves.{runs_same, rests_runs, none_dropped}
 use Rattle.boost_core.proofs.Outcomes.{Called, entered}
 use Rattle.boost_core.specs.Sessions.{side_of, spare_if, times_kept, changes_of, StaysIn, SavesIn, ReturnsIn, EndsIn, SettlesIn, WithdrawsIn}
 use Rattle.boost_core.proofs.Settling.{no_jobs}
-use Rattle.boost_core.proofs.Sides.{at_most}
-use Rattle.boost_core.proofs.Refused.{seat_here, seat_free, begin_closed, save_open, back_open, commit_open, abort_runs, le_false_lt}
+use Rattle.boost_core.proofs.Refused.{seat_here, seat_free, begin_closed, three_tests, back_open, commit_open, abort_runs}
 use Rattle.boost_core.proofs.Quiet.{idle_cursor, nothing_waits, quiet, level_in, released_holders, no_newest}
 
 module _ (w : World) (tells : Tells w) (c : ℕ) (x : Session) (at : slice_get w.sessions c ≡ Some x) where
@@ -54,7 +42,7 @@ module _ (w : World) (tells : Tells w) (c : ℕ) (x : Session) (at : slice_get w
   -- Save.
   pub saved : refusal_of (state_of w) (steps.Save c) ≡ None → (n : ℕ) (y : Session) → SavesIn n x y → Called w c x (steps.Save c) (answers.Saved n) y w.table w.locks
   saved none n y saves =
-      let opened = save_open w.limits.half x.seat.seat c (seat_free w tells c x at (steps.Save c) refl none) in
+      let opened = (three_tests x.seat.seat _ _ _ _ (seat_free w tells c x at (steps.Save c) refl none)).0 in
       let agrees = (tells.seated c x at).agrees in
       entered w c x y w.table w.locks (steps.Save c) (answers.Saved n) (entry.Saved c) (map session_changes w.sessions) refl refl refl
       (none_dropped w.sessions c x at (idle_cursor w tells c x at Opened opened refl)) (
@@ -80,7 +68,7 @@ module _ (w : World) (tells : Tells w) (c : ℕ) (x : Session) (at : slice_get w
       (quiet w tells c x at (entry.Leave c (Some n)) y
       (record { phase = LeavingTo n; standing = x.seat.seat.standing; kept = x.seat.seat.kept }) x.log.kept (log_of c w.history)
       (serial w.history) (λ s. holder_of w.limits.stripes s w.history) w.locks w.counts
-      (laws.left_to w.limits.stripes w.history tells.legal c n x.seat.seat (tells.seated c x at).seat free.0 (le_false_lt (length x.seat.seat.kept) n free.1)) (tells.seated c x at).log
+      (laws.left_to w.limits.stripes w.history tells.legal c n x.seat.seat (tells.seated c x at).seat free.0 (leb-false (length x.seat.seat.kept) n free.1)) (tells.seated c x at).log
       refl (λ saved. absurd (false≢true saved)) (tells.seated c x at).agrees.kept refl (nothing_waits w tells c x at Opened free.0 refl) no_cursor (ap side_of is ∙ (λ i. record (side_of x) { cursor = sym no_cursor i }))
       (no_more w.counts.began) (no_more w.counts.committed) refl tells.holders)
 
@@ -114,7 +102,7 @@ module _ (w : World) (tells : Tells w) (c : ℕ) (x : Session) (at : slice_get w
             let before : IsCovered (λ p s. others p s + times_in x.log.jobs p s) w.table = λ p s.
             let same : times_of (spare_if x.pending) p s ≡ 0 = ap (λ (o : Option PendingAt). times_of (spare_if o) p s) nothing in
             let exact : others p s + times_kept (side_of x) p s ≡ times_out w.table p s = covered p s in
-            omega arith in
+            drop_zero (others p s) (times_of (spare_if x.pending) p s) (times_in x.log.jobs p s) (times_out w.table p s) same exact in
             sym (no_more (others place stamp)) ∙ settles.spares others before place stamp;
         largest = settles.rests.nodes.buckets.largest;
         helpers = ap length settles.rests.nodes.buckets.helps;
@@ -123,6 +111,9 @@ module _ (w : World) (tells : Tells w) (c : ℕ) (x : Session) (at : slice_get w
         long = releases.as_many;
         holders = released_holders w tells c x at locks' releases;
       })
+    where
+      drop_zero : (a z b n : ℕ) → z ≡ 0 → a + (z + b) ≡ n → a + b ≡ n
+      drop_zero a z b n is exact = omega arith
 
   -- Abort.
   pub withdrawn : refusal_of (state_of w) (steps.Abort c) ≡ None → (y : Session) (t' : TableAt) → WithdrawsIn x w.table y t' → Called w c x (steps.Abort c) answers.Leaving y t' w.locks
@@ -182,7 +173,7 @@ module _ (w : World) (tells : Tells w) (c : ℕ) (x : Session) (at : slice_get w
         let more : nat_lt (kept_at x.log.kept n) (length x.log.jobs) ≡ false = none_above (LeavingTo n) returns.phase in
         let agrees = (tells.seated c x at).agrees in
         let reached : slice_index x.seat.seat.kept n ≡ x.seat.seat.standing =
-        ap (λ ks. slice_index ks n) agrees.kept ∙ reach (kept_at x.log.kept n) (length x.log.jobs) (subst (λ ks. slice_index ks n ≤ length x.log.jobs) agrees.kept (subst (λ k. slice_index x.seat.seat.kept n ≤ k) agrees.standing level.1)) (at_most (kept_at x.log.kept n) (length x.log.jobs) more) ∙ sym agrees.standing in
+        ap (λ ks. slice_index ks n) agrees.kept ∙ reach (kept_at x.log.kept n) (length x.log.jobs) (subst (λ ks. slice_index ks n ≤ length x.log.jobs) agrees.kept (subst (λ k. slice_index x.seat.seat.kept n ≤ k) agrees.standing level.1)) (ltb-false (kept_at x.log.kept n) (length x.log.jobs) more) ∙ sym agrees.standing in
         entered w c x y w.table w.locks (steps.Act c) (answers.Returned n) (entry.Returned c n)
         (map session_changes w.sessions) refl refl refl
         (none_dropped w.sessions c x at (idle_cursor w tells c x at (LeavingTo n) returns.phase (no_newest x.log n more)))
@@ -203,7 +194,7 @@ module _ (w : World) (tells : Tells w) (c : ℕ) (x : Session) (at : slice_get w
     ended y locks' ends =
         let more : nat_lt 0 (length x.log.jobs) ≡ false = none_above LeavingToEnd ends.phase in
         let agrees = (tells.seated c x at).agrees in
-        let empty : x.log.jobs ≡ [] = no_jobs x.log.jobs (at_most 0 (length x.log.jobs) more) in
+        let empty : x.log.jobs ≡ [] = no_jobs x.log.jobs (ltb-false 0 (length x.log.jobs) more) in
         let nil : x.seat.seat.standing ≡ 0 = agrees.standing ∙ ap length empty in
         entered w c x y w.table locks' (steps.Act c) answers.Aborted (entry.Aborted c) (map session_changes w.sessions) refl refl refl
         (none_dropped w.sessions c x at (idle_cursor w tells c x at LeavingToEnd ends.phase (no_newest x.log 0 more)))

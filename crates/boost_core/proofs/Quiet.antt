@@ -1,23 +1,10 @@
 -- Steps that leave the table unchanged.
 use Rattle.std.proofs.Common.{◌≡◌, ℕ, ◌+◌, ◌-◌, ◌<◌, Bool, true, false, cond, List, ◌∷◌, length, Option, Some, None, refl, sym, ap, subst, ◌∙◌, slice_get, nat_eq, nat_lt}
-use Rattle.std.specs.Option.{option_eq}
-use Rattle.std.proofs.lemmas.Bool.{false≢true}
+use Rattle.boost_core.proofs.Vocabulary.{option_eq, false≢true, Entry, Map, caller_of, is_began, is_commit, now, holder_of, Phase, Closed, Opened, Waiting, LeavingTo, LeavingToEnd, Seat, own, IsLevelIn, seat_leveled, Next, MapJob, PendingAt}
 use Rattle.boost_core.specs.State.{holder_by}
-use Rattle.txn_words.specs.declared.entry.Entry.{Entry}
-use Rattle.txn_words.specs.Map.{Map}
-use Rattle.txn_words.specs.Kinds.{caller_of, is_began, is_commit}
-use Rattle.txn_trace.specs.Now.{now}
-use Rattle.txn_trace.specs.Locks.{holder_of}
-use Rattle.txn_words.specs.declared.seat.Phase.{Phase}
-use Rattle.txn_words.specs.declared.seat.Phase.TheVariants.{Closed, Opened, Waiting, LeavingTo, LeavingToEnd}
-use Rattle.txn_words.specs.Shape.{Seat, own}
 use Rattle.txn_words.specs.Seats.{is_waiting, is_saved}
-use Rattle.txn_words.proofs.Levels.{IsLevelIn, seat_leveled}
-use Rattle.txn_trace.proofs.Next.{Next}
 use Rattle.undo_log.specs.UndoLog.{Log, kept_at, newest_above}
 use Rattle.key_locks.specs.Locks.{Releases, without_caller, holder_of as held_by}
-use Rattle.map_ops.specs.declared.job.MapJob.{MapJob}
-use Rattle.map_ops.specs.Jobs.{PendingAt}
 use Rattle.boost_core.specs.declared.counts.Counts.{Counts}
 use Rattle.boost_core.specs.declared.session.Session.{Session}
 use Rattle.boost_core.specs.Core.{World, Tells}

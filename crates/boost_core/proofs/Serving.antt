@@ -1,22 +1,15 @@
 -- The outcome of each step that is no caller's.
-use Rattle.std.proofs.Common.{◌≡◌, ℕ, ◌*◌, ◌<◌, ◌≤◌, ◌==◌, ◌&&◌, Bool, true, false, cond, Some, None, Result, Ok, Err, refl, sym, ap, subst, ◌∙◌, arith, nat_le, nat_lt, not, lt-ltb, ltb-true, le-leb, length-set, inl, inr}
-use Rattle.std.proofs.lemmas.Bool.{cases_Bool, cases_lt}
-use Rattle.txn_words.specs.declared.step.Step.{Step}
+use Rattle.std.proofs.Common.{◌≡◌, ℕ, ◌*◌, ◌≤◌, ◌==◌, ◌&&◌, Bool, true, false, cond, Some, None, Result, Ok, Err, refl, sym, ap, subst, ◌∙◌, nat_le, nat_lt, not, lt-ltb, le-leb, length-set, inl, inr}
+use Rattle.std.proofs.lemmas.Bool.{lt-leb, le-ltb}
+use Rattle.boost_core.proofs.Vocabulary.{cases_lt, Step, Answer, now, InitSeek, InitLink, Refusal, SweepOutcome, TableAt, Follows, content, size_of, stored_of, helps_of, table_changes, largest_of}
 use Rattle.txn_words.specs.declared.step.Step.TheVariants as steps
-use Rattle.txn_words.specs.declared.answer.Answer.{Answer}
 use Rattle.txn_words.specs.Map.{Map, count_of}
-use Rattle.txn_trace.specs.Now.{now}
 use Rattle.map_ops.specs.Double.{Double}
 use Rattle.map_ops.specs.Double.TheVariants as doubles
-use Rattle.map_ops.specs.InitSeek.{InitSeek}
 use Rattle.map_ops.specs.InitSeek.TheVariants as seeks
-use Rattle.map_ops.specs.InitLink.{InitLink}
 use Rattle.map_ops.specs.InitLink.TheVariants as links
-use Rattle.txn_words.specs.declared.refusal.Refusal.{Refusal}
-use Rattle.map_ops.specs.SweepOutcome.{SweepOutcome}
 use Rattle.map_ops.specs.SweepOutcome.TheVariants as sweeps
 use Rattle.map_ops.specs.Buckets.{Doubles, SeekChanges, LinkChanges, StoreChanges, seek_answer, double_answer}
-use Rattle.map_ops.specs.TableAt.{TableAt, Follows, content, size_of, stored_of, helps_of, table_changes, largest_of}
 use Rattle.boost_core.specs.State.{Helper}
 use Rattle.boost_core.specs.Answers.{IsAnswer}
 use Rattle.boost_core.specs.Placed.{placed_then}
@@ -25,7 +18,6 @@ use Rattle.std.specs.List.{slice_get}
 use Rattle.boost_core.specs.Serves as said
 use Rattle.boost_core.specs.Serves.{Serves, Sweeping, Linking, Storing}
 use Rattle.boost_core.specs.Core.{World, Tells, state_of}
-use Rattle.boost_core.proofs.Refused.{le_false}
 use Rattle.boost_core.proofs.Helping.{served, sweep_tells, swept_move, clean_move, becomes_tells, becomes_move, double_tells, seek_refusal, refusal_in_result, seek_ready_move, seek_placed_move, helper_refused, store_refused_move, stored_move}
 use Rattle.boost_core.proofs.Linking.{link_refused_move, link_again_move, link_present_move, link_linked_move}
 
@@ -36,15 +28,9 @@ pub record Served (w : World) (step : Step) (answer : Answer) (t' : TableAt) : T
 
 lt_not_le : (a b : ℕ) → nat_lt a b ≡ not (nat_le b a)
 lt_not_le a b = elim (cases_lt a b) [
-  | inl less ↦ lt-ltb a b less ∙ sym (ap not (le_false b a less))
-  | inr most ↦ no_less most ∙ sym (ap not (le-leb b a most))
+  | inl less ↦ lt-ltb a b less ∙ sym (ap not (lt-leb b a less))
+  | inr most ↦ le-ltb a b most ∙ sym (ap not (le-leb b a most))
 ]
-  where
-    no_less : b ≤ a → nat_lt a b ≡ false
-    no_less most = elim (cases_Bool (nat_lt a b)) [
-      | inl is ↦ absurd (let less : a < b = ltb-true a b is in omega arith)
-      | inr is ↦ is
-    ]
 
 module _ (w : World) (tells : Tells w) (t' : TableAt) (follows : Follows w.table t') (rises : table_changes w.table ≤ table_changes t') where
   -- Nothing has changed.

@@ -1,10 +1,8 @@
 -- The parts of a table that are unchanged while spares are given back.
 use Rattle.std.proofs.Common.{◌≡◌, ℕ, ◌+◌, ◌<◌, ◌≤◌, true, List, [], ◌∷◌, ◌++◌, length, Option, None, is_some, length-append, refl, sym, ap, ◌∙◌, arith, inl, inr}
 use Rattle.std.proofs.lemmas.List.Sums.{sum_by_push}
-use Rattle.std.proofs.lemmas.Bool.{cases_lt, false≢true}
-use Rattle.map_ops.specs.declared.job.MapJob.{MapJob}
+use Rattle.boost_core.proofs.Vocabulary.{cases_lt, false≢true, MapJob, TableAt, SpareAt, Follows}
 use Rattle.map_ops.specs.Jobs.{spare_of_job}
-use Rattle.map_ops.specs.TableAt.{TableAt, SpareAt, Follows}
 use Rattle.map_ops.specs.Changes.{OwnsIf, GivesBack}
 use Rattle.boost_core.specs.Spares.{times_of, times_in, times_out, IsCovered}
 use Rattle.boost_core.specs.Sessions.{Rests}
@@ -29,8 +27,13 @@ rests_more t0 t t' spare rests back follows = record {
   placed = record { placed = λ cursor key is. follows.placed cursor key (rests.placed.placed cursor key is); sound = λ sound. follows.list.sound (rests.placed.sound sound) };
 }
 
-times_pushed : (jobs jobs' : List MapJob) (job : MapJob) (place stamp : ℕ) → jobs ≡ jobs' ++ job ∷ [] → times_in jobs place stamp ≡ times_in jobs' place stamp + times_of (spare_of_job job) place stamp
-times_pushed jobs jobs' job place stamp is = ap (λ js. times_in js place stamp) is ∙ sum_by_push (λ (j : MapJob). times_of (spare_of_job j) place stamp) jobs' job
+-- How often one more job keeps a spare.
+pub times_more : (jobs : List MapJob) (job : MapJob) (place stamp : ℕ) → times_in (jobs ++ job ∷ []) place stamp ≡ times_in jobs place stamp + times_of (spare_of_job job) place stamp
+times_more jobs job place stamp = sum_by_push (λ (j : MapJob). times_of (spare_of_job j) place stamp) jobs job
+
+-- The same, of a list that has one more job.
+pub times_pushed : (jobs jobs' : List MapJob) (job : MapJob) (place stamp : ℕ) → jobs ≡ jobs' ++ job ∷ [] → times_in jobs place stamp ≡ times_in jobs' place stamp + times_of (spare_of_job job) place stamp
+times_pushed jobs jobs' job place stamp is = ap (λ js. times_in js place stamp) is ∙ times_more jobs' job place stamp
 
 -- The spare of the newest job belongs to the table.
 pub newest_owned : (t : TableAt) (jobs jobs' : List MapJob) (job : MapJob) → jobs ≡ jobs' ++ job ∷ [] → (others : ℕ → ℕ → ℕ) → IsCovered (λ place stamp. others place stamp + times_in jobs place stamp) t → OwnsIf t (spare_of_job job)

@@ -1,20 +1,13 @@
 -- The steps that a caller may take if its side fits the table.
-use Rattle.std.proofs.Common.{◌≡◌, ℕ, ◌+◌, ◌-◌, ◌<◌, ◌≤◌, ◌&&◌, ◌||◌, Bool, true, false, cond, List, [], ◌∷◌, ◌++◌, length, Option, Some, None, is_some, refl, sym, ap, subst, ◌∙◌, arith, slice_get, map, reverse, nat_lt, not, ltb-true, lt-ltb, inl, inr}
-use Rattle.std.proofs.lemmas.Bool.{false≢true, cases_lt}
+use Rattle.std.proofs.Common.{◌≡◌, ℕ, ◌+◌, ◌-◌, ◌<◌, ◌&&◌, ◌||◌, Bool, true, false, cond, List, [], ◌∷◌, ◌++◌, length, Option, Some, None, is_some, refl, sym, ap, subst, ◌∙◌, arith, slice_get, map, reverse, nat_lt, not, ltb-true}
+use Rattle.std.proofs.lemmas.Bool.{not-false, ltb-false, or_right}
+use Rattle.boost_core.proofs.Vocabulary.{false≢true, slice_get-get_or, Phase, Waiting, LeavingTo, LeavingToEnd, MapJob, PendingAt, TableAt, Cursor, content, OwnsIf}
 use Rattle.std.proofs.lemmas.List.{reverse-append, length_push, get_or_push}
-use Rattle.std.proofs.lemmas.Option.{slice_get-get_or}
-use Rattle.txn_words.specs.declared.seat.Phase.{Phase}
-use Rattle.txn_words.specs.declared.seat.Phase.TheVariants.{Waiting, LeavingTo, LeavingToEnd}
 use Rattle.txn_words.specs.Seats.{is_waiting, is_leaving, has_job, has_target}
 use Rattle.txn_trace.proofs.Seated.{the_some}
 use Rattle.undo_log.specs.UndoLog.{Log, kept_at, newest_above}
-use Rattle.map_ops.specs.declared.job.MapJob.{MapJob}
-use Rattle.map_ops.specs.Jobs.{PendingAt}
-use Rattle.map_ops.specs.TableAt.{TableAt, Cursor, content}
-use Rattle.map_ops.specs.Changes.{OwnsIf}
 use Rattle.boost_core.specs.declared.session.Session.{Session}
 use Rattle.boost_core.specs.Sessions.{level_of, Waits, key_of_newest, target_in, target_of, spare_if, change_of, changes_of, AreDue, IsPlacedFor, IsSoughtAt, GoesWith, CanAct, CanUndo, CanArrive}
-use Rattle.boost_core.proofs.Refused.{not_false}
 use Rattle.boost_core.proofs.Settling.{newest_owned}
 
 pub record Last (jobs : List MapJob) : Type 0 where
@@ -73,22 +66,12 @@ none_above_if (LeavingTo n) standing kept leaves is = is
 none_above_if LeavingToEnd standing kept leaves is = is
 none_above_if _ standing kept leaves is = absurd (false≢true leaves)
 
-pub at_most : (a b : ℕ) → nat_lt a b ≡ false → b ≤ a
-at_most a b is = elim (cases_lt a b) [
-  | inl less ↦ absurd (false≢true (sym is ∙ lt-ltb a b less))
-  | inr most ↦ most
-]
-
-pub either : (a b : Bool) → b ≡ true → (a || b) ≡ true
-either true b is = refl
-either false b is = is
-
 pub or_left : (a b : Bool) → (a || b) ≡ true → b ≡ false → a ≡ true
 or_left true b is none = refl
 or_left false b is none = absurd (false≢true (sym none ∙ is))
 
 and_true : (a b : Bool) → (a && not b) ≡ false → a ≡ true → b ≡ true
-and_true a b is both = not_false b (ap (λ v. v && not b) (sym both) ∙ is)
+and_true a b is both = not-false b (ap (λ v. v && not b) (sym both) ∙ is)
 
 module _ (x : Session) (t : TableAt) (goes : GoesWith x t) where
   -- The seat agrees with the log.
@@ -123,7 +106,7 @@ module _ (x : Session) (t : TableAt) (goes : GoesWith x t) where
         let more = ltb-true (kept_at x.log.kept (level_of x.seat.seat.phase)) (length x.log.jobs) gone.1 in
         let last = last_job x.log.jobs (omega arith) in
         let newest : newest_above x.log (level_of x.seat.seat.phase) ≡ Some last.job = ap (λ (b : Bool). cond b (slice_get x.log.jobs (length x.log.jobs - 1)) None) gone.1 ∙ at_last x.log.jobs last.front last.job last.is in
-        let cursor = cursor_there (either (is_waiting x.seat.seat.phase) (has_job x.seat.seat) has) in
+        let cursor = cursor_there (or_right (is_waiting x.seat.seat.phase) (has_job x.seat.seat) has) in
         record {
           level = goes.agrees.level;
           job = last.job;
@@ -143,7 +126,7 @@ module _ (x : Session) (t : TableAt) (goes : GoesWith x t) where
       record {
         leaves = leaves;
         level = goes.agrees.level;
-        none_above = at_most (kept_at x.log.kept (level_of x.seat.seat.phase)) (length x.log.jobs) (none_above_if x.seat.seat.phase (length x.log.jobs) x.log.kept leaves (ap has_job (sym seat_is) ∙ no_job));
+        none_above = ltb-false (kept_at x.log.kept (level_of x.seat.seat.phase)) (length x.log.jobs) (none_above_if x.seat.seat.phase (length x.log.jobs) x.log.kept leaves (ap has_job (sym seat_is) ∙ no_job));
       }
     where
       no_pending : (o : Option PendingAt) → is_some o ≡ false → o ≡ None

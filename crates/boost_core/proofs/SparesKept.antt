@@ -1,18 +1,11 @@
 -- The spares that a caller keeps after its operation is done.
 use Rattle.std.proofs.Common.{◌≡◌, ℕ, ◌+◌, cond, List, [], ◌∷◌, ◌++◌, Option, Some, None, ap, ◌∙◌, arith, nat_eq, option_to_list, append-nil, inl, inr}
-use Rattle.std.specs.Option.{option_eq}
-use Rattle.std.proofs.lemmas.Bool.{cases_Bool}
-use Rattle.std.proofs.lemmas.List.Sums.{sum_by_push}
-use Rattle.txn_words.specs.declared.op.Op.{Op}
-use Rattle.txn_words.specs.declared.op.Op.TheVariants.{Put, Take, Get, PutIf}
-use Rattle.txn_words.specs.Map.{get, Map}
-use Rattle.map_ops.specs.declared.job.MapJob.TheVariants.{Unput, Restore, Relink}
-use Rattle.map_ops.specs.Jobs.{spare_of_job, unput, relink, job_of}
-use Rattle.map_ops.specs.TableAt.{SpareAt, KeepsSpares, TableAt}
+use Rattle.boost_core.proofs.Vocabulary.{option_eq, cases_Bool, Op, Put, Take, Get, PutIf, get, Map, Unput, Restore, Relink, SpareAt, KeepsSpares, TableAt, MapJob}
+use Rattle.map_ops.specs.Jobs.{unput, relink, job_of}
 use Rattle.map_ops.specs.Changes.{Spends, SpendsFor}
-use Rattle.map_ops.specs.declared.job.MapJob.{MapJob}
 use Rattle.boost_core.specs.Spares.{times_of, times_in, times_out, IsCovered}
 use Rattle.boost_core.proofs.Numbers.{no_more}
+use Rattle.boost_core.proofs.Settling.{times_more}
 use Rattle.boost_core.proofs.Spares.{spent, still_covered}
 
 relinked_put : (k : ℕ) (o : Option ℕ) (j v : ℕ) (kept : SpareAt) (spare : Option SpareAt) → Some (Relink j v kept) ≡ unput k o → spare ≡ Some kept
@@ -44,9 +37,6 @@ spent_covered t t' spare jobs jobs' same spends others covered place stamp =
     omega arith) place stamp in
     let is = same place stamp in
     omega arith
-
-pub times_more : (jobs : List MapJob) (job : MapJob) (place stamp : ℕ) → times_in (jobs ++ job ∷ []) place stamp ≡ times_in jobs place stamp + times_of (spare_of_job job) place stamp
-times_more jobs job place stamp = sum_by_push (λ (j : MapJob). times_of (spare_of_job j) place stamp) jobs job
 
 pub times_same : (jobs : List MapJob) (place stamp : ℕ) → times_in (jobs ++ []) place stamp ≡ times_in jobs place stamp + 0
 times_same jobs place stamp = ap (λ (js : List MapJob). times_in js place stamp) (append-nil jobs) ∙ no_more (times_in jobs place stamp)

@@ -1,17 +1,9 @@
 -- No step of a caller unlinks an unmarked node, nor touches the buckets and the helpers.
 use Rattle.std.proofs.Common.{◌≡◌, ℕ, Bool, true, false, List, Option, Some, None, refl, sym, ap, subst, ◌∙◌, nat_eq}
-use Rattle.std.specs.Option.{option_eq}
-use Rattle.split_key.specs.Sort.{regular_at}
+use Rattle.boost_core.proofs.Vocabulary.{option_eq, regular_at, IsSpread, Op, Put, Take, Get, PutIf, Step, Answer, MapJob, Unput, Restore, Relink}
 use Rattle.node_list.specs.Nodes.{NodeAt, Listing}
-use Rattle.node_list.specs.Order.{IsSpread}
-use Rattle.txn_words.specs.declared.op.Op.{Op}
-use Rattle.txn_words.specs.declared.op.Op.TheVariants.{Put, Take, Get, PutIf}
-use Rattle.txn_words.specs.declared.step.Step.{Step}
 use Rattle.txn_words.specs.declared.step.Step.TheVariants as steps
-use Rattle.txn_words.specs.declared.answer.Answer.{Answer}
 use Rattle.txn_words.specs.declared.answer.Answer.TheVariants as answers
-use Rattle.map_ops.specs.declared.job.MapJob.{MapJob}
-use Rattle.map_ops.specs.declared.job.MapJob.TheVariants.{Unput, Restore, Relink}
 use Rattle.map_ops.specs.TableAt.{TableAt, SpareAt, KeepsNodes, nodes_of}
 use Rattle.map_ops.specs.Nodes.{LinksNode, MarksNode, WritesNode, WritesNothing, OpWrites, PutWrites, PutIfWrites, TakeWrites, JobWrites, node_for}
 use Rattle.boost_core.specs.declared.claim.Claim.{Claim}
@@ -74,7 +66,10 @@ module _ (t t' : TableAt) (spread : IsSpread (nodes_of t')) where
     asked : (c stripe : ℕ) (op : Op) (answer : Answer) → IsAsked c stripe op x t locks answer y t' locks' → Leaves t t'
     asked c stripe op answers.Asked is = rested is.prepares.nodes
     asked c stripe op (answers.Busy holder) is =
-        record { nodes = stay_same (nodes_of t) (nodes_of t') (is.back.nodes.all ∙ is.prepares.nodes.all); buckets = is.back.nodes.buckets.all ∙ is.prepares.nodes.buckets.all }
+        record {
+          nodes = stay_same (nodes_of t) (nodes_of t') (is.back.nodes.all ∙ is.prepares.nodes.all);
+          buckets = is.back.nodes.buckets.all ∙ is.prepares.nodes.buckets.all;
+        }
     asked c stripe op (answers.Refused refusal) is = same is.2
     asked c stripe op _ is = absurd is
 
@@ -93,6 +88,7 @@ module _ (t t' : TableAt) (spread : IsSpread (nodes_of t')) where
     acted c answers.Aborted is = same is.2
     acted c _ is = absurd is
 
+    -- The parts that each step of a caller leaves unchanged.
     pub does_stay : (claim : Claim) (stripes : ℕ) (counts : Counts) (step : Step) (answer : Answer)
         → Does claim stripes counts step x t locks answer y t' locks' → Leaves t t'
     does_stay claim stripes counts (steps.Begin d) (answers.Began n) is = same is.2
