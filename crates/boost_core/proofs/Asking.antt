@@ -1,68 +1,55 @@
 -- An operation that is asked for.
-use Rattle.std.proofs.Common.{◌≡◌, ℕ, ◌+◌, ◌-◌, ◌^◌, ◌<◌, ◌==◌, ◌||◌, true, false, cond, List, [], ◌∷◌, ◌++◌, length, Option, Some, None, refl, sym, ap, subst, ◌∙◌, arith}
-use Rattle.std.specs.Prelude.{slice_get, slice_set, map, nat_eq, not}
-use Rattle.std.specs.Option.{option_eq, option_map}
-use Rattle.std.proofs.lemmas.Bool.{false≢true, cases_eq, eq-eqb, ne_eqb, and_from, or_right}
-use Rattle.std.proofs.lemmas.List.{append-nil}
-use Rattle.std.proofs.lemmas.Option.{slice_get_within}
-use mathlib.Core.Logic.{inl, inr, ◌⊎◌}
+use Rattle.std.proofs.Common.{◌≡◌, ℕ, ◌+◌, ◌-◌, ◌^◌, ◌<◌, ◌==◌, ◌||◌, true, false, cond, List, [], ◌++◌, length, Option, Some, None, refl, sym, ap, subst, ◌∙◌, arith, slice_get, slice_set, map, nat_eq, not, eq-eqb, ne_eqb, append-nil, inl, inr, ◌⊎◌}
+use Rattle.boost_core.proofs.Vocabulary.{option_eq, option_map, slice_get_within, Op, Refusal, key_of, takes_node, PendingAt, Step, serial, now, Phase, Opened, Waiting, LeavingToEnd, RoomySeat, Next, TableAt, Cursor, cursor_changes, map_of, nodes_of}
+use Rattle.std.proofs.lemmas.Bool.{false≢true, cases_eq, and_from, or_right}
 use Rattle.txn_words.specs.declared.holder.Holder.TheVariants.{Now}
-use Rattle.txn_words.specs.declared.op.Op.{Op}
-use Rattle.txn_words.specs.declared.refusal.Refusal.{Refusal}
 use Rattle.txn_words.specs.declared.refusal.Refusal.TheVariants as refusals
-use Rattle.txn_words.specs.Map.{key_of}
-use Rattle.txn_trace.specs.Locks.{stripe_of, is_locked, LocksHold}
+use Rattle.txn_trace.specs.Locks.{stripe_of, is_locked, LocksHold, holder_of}
 use Rattle.txn_trace.proofs.Now.{same_is}
 use Rattle.txn_trace.proofs.Holders.{is_locked-asked, is_locked-busy}
-use Rattle.map_ops.specs.Jobs.{takes_node}
 use Rattle.map_ops.specs.Changes.{Prepares, IsRefused}
 use Rattle.txn_words.specs.declared.entry.Entry.TheVariants as entry
-use Rattle.txn_words.specs.declared.step.Step.{Step}
 use Rattle.txn_words.specs.declared.step.Step.TheVariants as steps
 use Rattle.txn_words.specs.declared.answer.Answer.TheVariants as answers
-use Rattle.txn_trace.specs.Serial.{serial}
 use Rattle.txn_words.specs.Entries.{entries_of}
-use Rattle.txn_trace.specs.Now.{now}
-use Rattle.txn_trace.specs.Locks.{holder_of}
-use Rattle.txn_words.specs.declared.seat.Phase.{Phase}
-use Rattle.txn_words.specs.declared.seat.Phase.TheVariants.{Opened, Waiting, LeavingToEnd}
-use Rattle.txn_words.specs.Shape.{RoomySeat}
-use Rattle.txn_trace.proofs.Next.{Next}
 use Rattle.txn_trace.proofs.Entries as laws
 use Rattle.key_locks.specs.Locks.{holder_of as held_by}
-use Rattle.map_ops.specs.Jobs.{PendingAt}
-use Rattle.map_ops.specs.TableAt.{TableAt, Cursor, cursor_changes, map_of}
 use Rattle.boost_core.specs.declared.session.Session.{Session}
 use Rattle.boost_core.specs.State.{Owner, Caller, Helper, holder_by}
-use Rattle.boost_core.specs.Refusals.{refusal_of}
+use Rattle.boost_core.specs.Refusals.{refusal_of, has_stamp_for, MayLack}
 use Rattle.boost_core.specs.Spares.{times_of, times_in, times_out, IsCovered}
 use Rattle.boost_core.specs.Core.{World, Tells, IsFresh, state_of, session_changes, gap_if}
 use Rattle.boost_core.proofs.Numbers.{no_more}
-use Rattle.boost_core.proofs.Moves.{Runs, state_is, changes_same, gaps_same}
+use Rattle.boost_core.proofs.Moves.{Runs, changes_same, gaps_same, lacks, none_dropped}
 use Rattle.boost_core.proofs.Grow.{Stays, world_after, seated_as, set_cases}
-use Rattle.boost_core.proofs.Outcomes.{Comes, Called, CalledBy, move_is, same_world}
-use Rattle.boost_core.specs.Refusals.{has_stamp_for, MayLack}
+use Rattle.boost_core.proofs.Outcomes.{Comes, Called, CalledBy, same_world, entered}
 use Rattle.boost_core.specs.Answers.{may_stand}
 use Rattle.boost_core.specs.Machine.{Move}
 use Rattle.boost_core.specs.Words.{Claim, Lock, Goes}
 use Rattle.boost_core.specs.Sessions.{Side, side_of, target_in, IsSoughtAt, KeepsPlaced, Waits, spare_if, times_kept, StaysIn, AsksIn, MeetsIn}
-use Rattle.boost_core.proofs.Moves.{lacks}
 use Rattle.boost_core.proofs.Spares.{spent}
-use Rattle.boost_core.proofs.Refused.{seat_free, ask_open, save_open}
+use Rattle.boost_core.proofs.Refused.{seat_free, three_tests}
 use Rattle.boost_core.proofs.Quiet.{idle_cursor, nothing_waits}
-use Rattle.boost_core.proofs.Given.{prepared_covered, given_spare, stamped, one_stamp_more, open_to, last_rises}
+use Rattle.boost_core.proofs.Gaps.{same_fits}
+use Rattle.boost_core.proofs.HelperGaps.{same_helper}
+use Rattle.boost_core.proofs.Given.{given_for, open_to}
 
 module _ (w : World) (tells : Tells w) (c : ℕ) (x : Session) (at : slice_get w.sessions c ≡ Some x) where
+  -- The cursor that was placed last still fits if the nodes, the buckets and the caller's cursor are
+  -- unchanged.
+  pub fresh_kept : (y : Session) → y.cursor ≡ x.cursor → (t' : TableAt) → nodes_of t' ≡ nodes_of w.table → t'.buckets ≡ w.table.buckets
+      → (seat' : RoomySeat) (o : Option Owner) → IsFresh w.table w.sessions o → IsFresh t' (slice_set w.sessions c (seated_as y seat')) o
+  fresh_kept y same t' nodes buckets seat' None fresh = tt
+  fresh_kept y same t' nodes buckets seat' (Some (Helper d)) fresh = same_helper w.table t' d nodes buckets ∙ fresh
+  fresh_kept y same t' nodes buckets seat' (Some (Caller d)) fresh =
+      λ s cursor at_d had. same_fits w.table t' cursor nodes ∙
+      (elim (set_cases w.sessions c d (seated_as y seat') s (slice_get_within w.sessions c x at) at_d) [
+        | inl mine ↦ fresh x cursor (ap (slice_get w.sessions) mine.0 ∙ at) (sym same ∙ ap (λ (q : Session). q.cursor) (sym mine.1) ∙ had)
+        | inr other ↦ fresh s cursor other.1 had
+      ])
+
   -- The step is refused, and nothing has changed but room.
   module _ (claim : Claim) (step : Step) (refusal : Refusal) (goes : Goes claim (state_of w) step (answers.Refused refusal) (state_of w)) (opened : x.seat.seat.phase ≡ Opened) (y : Session) (stays : StaysIn x y) where
-    still_fresh : (seat' : RoomySeat) (o : Option Owner) → IsFresh w.table w.sessions o → IsFresh w.table (slice_set w.sessions c (seated_as y seat')) o
-    still_fresh seat' None fresh = tt
-    still_fresh seat' (Some (Helper d)) fresh = fresh
-    still_fresh seat' (Some (Caller d)) fresh = λ s cursor at_d had. elim (set_cases w.sessions c d (seated_as y seat') s (slice_get_within w.sessions c x at) at_d) [
-      | inl mine ↦ fresh x cursor (ap (slice_get w.sessions) mine.0 ∙ at) (ap (λ (s : Side). s.cursor) (sym stays.becomes) ∙ ap (λ (q : Session). q.cursor) (sym mine.1) ∙ had)
-      | inr other ↦ fresh s cursor other.1 had
-    ]
-
     pub lacking_stays : Stays w c x y w.table w.locks w.counts
     lacking_stays = record {
       cursor = x.cursor;
@@ -88,17 +75,17 @@ module _ (w : World) (tells : Tells w) (c : ℕ) (x : Session) (at : slice_get w
     lacking_called no_entry = record {
       comes = subst (Comes w c x y w.table w.locks w.counts) (sym no_entry) lacking_stays;
       move = λ seat'. subst (λ g. Goes claim (state_of w) step (answers.Refused refusal) (state_of (world_after w c (seated_as y seat') g w.counts w.table w.locks w.placed))) (sym (ap (λ es. w.history ++ es) no_entry ∙ append-nil w.history)) (lacking_goes seat');
-      fresh = λ seat'. still_fresh seat' w.placed tells.fresh;
+      fresh = λ seat'. fresh_kept y (ap (λ (s : Side). s.cursor) stays.becomes) w.table refl refl seat' w.placed tells.fresh;
     }
 
   -- Memory for a savepoint is refused.
   pub save_refused : refusal_of (state_of w) (steps.Save c) ≡ None → (y : Session) (t' : TableAt) (locks' : List (Option ℕ)) → StaysIn x y → t' ≡ w.table → locks' ≡ w.locks → Called w c x (steps.Save c) (answers.Refused refusals.NoMemory) y t' locks'
   save_refused none y t' locks' stays table same = same_world (Called w c x (steps.Save c) (answers.Refused refusals.NoMemory) y) w.table t' w.locks locks' table same
-      (lacking_called Lock (steps.Save c) refusals.NoMemory (lacks (state_of w) (steps.Save c) refusals.NoMemory none tt) (save_open w.limits.half x.seat.seat c (seat_free w tells c x at (steps.Save c) refl none)) y stays refl)
+      (lacking_called Lock (steps.Save c) refusals.NoMemory (lacks (state_of w) (steps.Save c) refusals.NoMemory none tt) (three_tests x.seat.seat _ _ _ _ (seat_free w tells c x at (steps.Save c) refl none)).0 y stays refl)
 
   module _ (op : Op) (none : refusal_of (state_of w) (steps.Ask c op) ≡ None) where
     pub opened : x.seat.seat.phase ≡ Opened
-    opened = ask_open w.limits.half x.seat.seat c op (seat_free w tells c x at (steps.Ask c op) refl none)
+    opened = (three_tests x.seat.seat _ _ _ _ (seat_free w tells c x at (steps.Ask c op) refl none)).0
 
     pub nothing : x.pending ≡ None
     nothing = nothing_waits w tells c x at Opened opened refl
@@ -128,7 +115,7 @@ module _ (w : World) (tells : Tells w) (c : ℕ) (x : Session) (at : slice_get w
     spares_before : (t' : TableAt) (pending : PendingAt) → Prepares w.table t' op pending → (others : ℕ → ℕ → ℕ) → IsCovered (λ place stamp. others place stamp + times_kept (side_of x) place stamp) w.table
         → IsCovered (λ place stamp. others place stamp + times_in x.log.jobs place stamp + times_of pending.spare place stamp) t'
     spares_before t' pending prepares others covered =
-        prepared_covered w.table t' (takes_node op) pending.spare prepares.given (λ p s. others p s + times_in x.log.jobs p s) (λ p s.
+        (given_for w.table t' (takes_node op) pending.spare prepares.given).covered (λ p s. others p s + times_in x.log.jobs p s) (λ p s.
         let same : times_of (spare_if x.pending) p s ≡ 0 = ap (λ (o : Option PendingAt). times_of (spare_if o) p s) nothing in
         let exact : others p s + (times_of (spare_if x.pending) p s + times_in x.log.jobs p s) ≡ times_out w.table p s = covered p s in
         regroup (others p s) (times_of (spare_if x.pending) p s) (times_in x.log.jobs p s) (times_out w.table p s) same exact)
@@ -143,8 +130,8 @@ module _ (w : World) (tells : Tells w) (c : ℕ) (x : Session) (at : slice_get w
       linked = prepares.nodes.linked;
       helps = prepares.nodes.buckets.helps;
       rises = let same = prepares.nodes.changes in omega arith;
-      last = last_rises w.table t' (takes_node op) pending.spare prepares.given;
-      one_last = one_stamp_more w.table t' (takes_node op) pending.spare prepares.given;
+      last = (given_for w.table t' (takes_node op) pending.spare prepares.given).rises;
+      one_last = (given_for w.table t' (takes_node op) pending.spare prepares.given).most;
     }
 
     -- The stripe is free or the caller's, and the operation waits.
@@ -175,39 +162,39 @@ module _ (w : World) (tells : Tells w) (c : ℕ) (x : Session) (at : slice_get w
           regroup a j s n exact = omega arith
 
       pub asked_called : Called w c x (steps.Ask c op) answers.Asked y t' locks'
-      asked_called = record {
-        comes = record {
-          seat = record { phase = Waiting op; standing = x.seat.seat.standing; kept = x.seat.seat.kept };
-          committed = serial w.history;
-          current = now w.history;
-          holder = holder;
-          side = asked_side;
-          becomes = asks.becomes ∙ (λ i. record asked_side { cursor = no_cursor_there i });
-          next = subst (λ l. Next (holder_by w.words) w.limits.stripes w.history (entry.Asked c op) (record { phase = Waiting op; standing = x.seat.seat.standing; kept = x.seat.seat.kept }) l (serial w.history) (now w.history) holder)
-              (tells.seated c x at).log (laws.asked w.limits.stripes w.history tells.legal c op x.seat.seat (tells.seated c x at).seat opened locked);
-          mine = refl;
-          saved = λ is. absurd (false≢true is);
-          kept = (tells.seated c x at).agrees.kept;
-          waits = (asks.prepares.op_is, asks.room, given_spare w.table t' (takes_node op) asks.pending.spare asks.prepares.given);
-          due = (tells.seated c x at).due;
-          content = ap map_of asks.prepares.nodes.regular ∙ tells.content;
-          apart = λ d other k held. refl;
-          placed = keeps;
-          spares = asked_covered;
-          largest = asks.prepares.nodes.buckets.largest;
-          helpers = ap length asks.prepares.nodes.buckets.helps;
-          begins = no_more w.counts.began;
-          commits = no_more w.counts.committed;
-          long = asks.grants.as_many;
-          holders = asked_holders;
-        };
-        move = λ seat'. move_is w (world_after w c (seated_as y seat') (w.history ++ entry.Asked c op ∷ []) w.counts t' locks' None) (steps.Ask c op) answers.Asked
-            (none, and_from (has_stamp_for (state_of w) op) (may_stand (state_of w) (entry.Asked c op)) (stamped w.table t' (takes_node op) asks.pending.spare asks.prepares.given) locked)
-            (state_is w (w.history ++ entry.Asked c op ∷ []) (w.history ++ entry.Asked c op ∷ []) w.counts t' (map session_changes w.sessions) (slice_set w.sessions c (seated_as y seat')) locks' None (prepared_runs t' asks.pending asks.prepares) refl
-            (changes_same w.sessions c x (seated_as y seat') at (ap (λ (s : Side). option_map cursor_changes s.cursor) asks.becomes)))
-            (prepared_runs t' asks.pending asks.prepares) (λ kept. asks.prepares.nodes.changes);
-        fresh = λ seat'. tt;
-      }
+      asked_called =
+          entered w c x y t' locks' (steps.Ask c op) answers.Asked (entry.Asked c op) (map session_changes w.sessions) refl refl refl
+          (none_dropped w.sessions c x at no_cursor_there) (
+            none,
+            and_from (has_stamp_for (state_of w) op) (may_stand (state_of w) (entry.Asked c op))
+                (given_for w.table t' (takes_node op) asks.pending.spare asks.prepares.given).stamped locked,
+          )
+          (prepared_runs t' asks.pending asks.prepares) (λ kept. asks.prepares.nodes.changes)
+          (record {
+            seat = record { phase = Waiting op; standing = x.seat.seat.standing; kept = x.seat.seat.kept };
+            committed = serial w.history;
+            current = now w.history;
+            holder = holder;
+            side = asked_side;
+            becomes = asks.becomes ∙ (λ i. record asked_side { cursor = no_cursor_there i });
+            next = subst (λ l. Next (holder_by w.words) w.limits.stripes w.history (entry.Asked c op) (record { phase = Waiting op; standing = x.seat.seat.standing; kept = x.seat.seat.kept }) l (serial w.history) (now w.history) holder)
+                (tells.seated c x at).log (laws.asked w.limits.stripes w.history tells.legal c op x.seat.seat (tells.seated c x at).seat opened locked);
+            mine = refl;
+            saved = λ is. absurd (false≢true is);
+            kept = (tells.seated c x at).agrees.kept;
+            waits = (asks.prepares.op_is, asks.room, (given_for w.table t' (takes_node op) asks.pending.spare asks.prepares.given).has);
+            due = (tells.seated c x at).due;
+            content = ap map_of asks.prepares.nodes.regular ∙ tells.content;
+            apart = λ d other k held. refl;
+            placed = keeps;
+            spares = asked_covered;
+            largest = asks.prepares.nodes.buckets.largest;
+            helpers = ap length asks.prepares.nodes.buckets.helps;
+            begins = no_more w.counts.began;
+            commits = no_more w.counts.committed;
+            long = asks.grants.as_many;
+            holders = asked_holders;
+          })
 
     -- Another caller holds the stripe: the prepared operation is given up, and the caller leaves to
     -- the end.
@@ -221,7 +208,7 @@ module _ (w : World) (tells : Tells w) (c : ℕ) (x : Session) (at : slice_get w
           (same_is (holder_of w.limits.stripes stripe w.history) (Some holder) (sym (tells.holders stripe within) ∙ meets.refuses.held)))
 
       pub busy_stamped : has_stamp_for (state_of w) op ≡ true
-      busy_stamped = stamped w.table meets.between (takes_node op) meets.pending.spare meets.prepares.given
+      busy_stamped = (given_for w.table meets.between (takes_node op) meets.pending.spare meets.prepares.given).stamped
 
       pub busy_runs : Runs w.table t'
       busy_runs =
@@ -246,36 +233,33 @@ module _ (w : World) (tells : Tells w) (c : ℕ) (x : Session) (at : slice_get w
           regroup a j p n none exact = omega arith
 
       pub busy_called : w.words ≡ false → Called w c x (steps.Ask c op) (answers.Busy holder) y t' locks'
-      busy_called words = record {
-        comes = record {
-          seat = record { phase = LeavingToEnd; standing = x.seat.seat.standing; kept = x.seat.seat.kept };
-          committed = serial w.history;
-          current = now w.history;
-          holder = λ s. holder_of w.limits.stripes s w.history;
-          side = side_of x;
-          becomes = meets.becomes ∙ (λ i. record (side_of x) { cursor = no_cursor_there i });
-          next = subst (λ l. Next (holder_by w.words) w.limits.stripes w.history (entry.Busy c op holder) (record { phase = LeavingToEnd; standing = x.seat.seat.standing; kept = x.seat.seat.kept }) l (serial w.history) (now w.history) (λ s. holder_of w.limits.stripes s w.history))
-              (tells.seated c x at).log (laws.busy w.limits.stripes w.history tells.legal c op holder x.seat.seat (tells.seated c x at).seat opened (stands words));
-          mine = refl;
-          saved = λ is. absurd (false≢true is);
-          kept = (tells.seated c x at).agrees.kept;
-          waits = subst (λ (o : Option PendingAt). Waits LeavingToEnd o y.log.room) (sym nothing) tt;
-          due = (tells.seated c x at).due;
-          content = ap map_of (meets.back.nodes.regular ∙ meets.prepares.nodes.regular) ∙ tells.content;
-          apart = λ d other k held. refl;
-          placed = keeps;
-          spares = busy_covered;
-          largest = meets.back.nodes.buckets.largest ∙ meets.prepares.nodes.buckets.largest;
-          helpers = ap length (meets.back.nodes.buckets.helps ∙ meets.prepares.nodes.buckets.helps);
-          begins = no_more w.counts.began;
-          commits = no_more w.counts.committed;
-          long = ap length meets.refuses.same;
-          holders = λ s below. ap (λ ls. held_by ls s) meets.refuses.same ∙ tells.holders s below;
-        };
-        move = λ seat'. move_is w (world_after w c (seated_as y seat') (w.history ++ entry.Busy c op holder ∷ []) w.counts t' locks' None) (steps.Ask c op) (answers.Busy holder)
-            (none, and_from (w.words || has_stamp_for (state_of w) op) (may_stand (state_of w) (entry.Busy c op holder)) (or_right w.words (has_stamp_for (state_of w) op) busy_stamped) (stands words))
-            (state_is w (w.history ++ entry.Busy c op holder ∷ []) (w.history ++ entry.Busy c op holder ∷ []) w.counts t' (map session_changes w.sessions) (slice_set w.sessions c (seated_as y seat')) locks' None busy_runs refl
-            (changes_same w.sessions c x (seated_as y seat') at (ap (λ (s : Side). option_map cursor_changes s.cursor) meets.becomes)))
-            busy_runs (λ kept. meets.back.nodes.changes ∙ meets.prepares.nodes.changes);
-        fresh = λ seat'. tt;
-      }
+      busy_called words =
+          entered w c x y t' locks' (steps.Ask c op) (answers.Busy holder) (entry.Busy c op holder)
+          (map session_changes w.sessions) refl refl refl (none_dropped w.sessions c x at no_cursor_there)
+          (none, and_from (w.words || has_stamp_for (state_of w) op) (may_stand (state_of w) (entry.Busy c op holder)) (or_right w.words (has_stamp_for (state_of w) op) busy_stamped) (stands words))
+          busy_runs (λ kept. meets.back.nodes.changes ∙ meets.prepares.nodes.changes)
+          (record {
+            seat = record { phase = LeavingToEnd; standing = x.seat.seat.standing; kept = x.seat.seat.kept };
+            committed = serial w.history;
+            current = now w.history;
+            holder = λ s. holder_of w.limits.stripes s w.history;
+            side = side_of x;
+            becomes = meets.becomes ∙ (λ i. record (side_of x) { cursor = no_cursor_there i });
+            next = subst (λ l. Next (holder_by w.words) w.limits.stripes w.history (entry.Busy c op holder) (record { phase = LeavingToEnd; standing = x.seat.seat.standing; kept = x.seat.seat.kept }) l (serial w.history) (now w.history) (λ s. holder_of w.limits.stripes s w.history))
+                (tells.seated c x at).log (laws.busy w.limits.stripes w.history tells.legal c op holder x.seat.seat (tells.seated c x at).seat opened (stands words));
+            mine = refl;
+            saved = λ is. absurd (false≢true is);
+            kept = (tells.seated c x at).agrees.kept;
+            waits = subst (λ (o : Option PendingAt). Waits LeavingToEnd o y.log.room) (sym nothing) tt;
+            due = (tells.seated c x at).due;
+            content = ap map_of (meets.back.nodes.regular ∙ meets.prepares.nodes.regular) ∙ tells.content;
+            apart = λ d other k held. refl;
+            placed = keeps;
+            spares = busy_covered;
+            largest = meets.back.nodes.buckets.largest ∙ meets.prepares.nodes.buckets.largest;
+            helpers = ap length (meets.back.nodes.buckets.helps ∙ meets.prepares.nodes.buckets.helps);
+            begins = no_more w.counts.began;
+            commits = no_more w.counts.committed;
+            long = ap length meets.refuses.same;
+            holders = λ s below. ap (λ ls. held_by ls s) meets.refuses.same ∙ tells.holders s below;
+          })

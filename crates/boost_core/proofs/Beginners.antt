@@ -1,24 +1,18 @@
 -- The callers that have begun a transaction, noted entry by entry.
-use Rattle.std.proofs.Common.{◌≡◌, ℕ, ◌<◌, ◌||◌, Bool, true, false, cond, List, [], ◌∷◌, ◌++◌, length, set, get_or, replicate, Option, Some, None, refl, sym, ap, subst, ◌∙◌, arith}
-use Rattle.std.specs.Prelude.{nat_lt, option_to_list, slice_index_or}
-use Rattle.std.proofs.lemmas.Bool.{cases_eq, cases_lt, lt-ltb, or_right}
-use Rattle.std.proofs.lemmas.List.{append-nil, length-set, length-replicate, get_or-replicate, get_or_past, get_or-set_same, get_or-set_other}
-use mathlib.Core.Logic.{inl, inr}
-use Rattle.txn_words.specs.declared.entry.Entry.{Entry}
+use Rattle.std.proofs.Common.{◌≡◌, ℕ, ◌<◌, ◌||◌, Bool, true, false, cond, List, [], ◌∷◌, ◌++◌, length, set, get_or, replicate, Option, Some, None, refl, sym, ap, subst, ◌∙◌, arith, option_to_list, lt-ltb, append-nil, length-set, get_or-set_same, get_or-set_other, inl, inr}
+use Rattle.std.proofs.Math.Bool.{or-false}
+use Rattle.std.proofs.lemmas.Bool.{cases_eq, cases_lt, or_right}
+use Rattle.std.proofs.lemmas.List.{length-replicate, get_or-replicate, get_or_past}
+use Rattle.boost_core.proofs.Vocabulary.{Entry, caller_of, is_began}
 use Rattle.txn_words.specs.declared.entry.Entry.TheVariants.{Began}
-use Rattle.txn_words.specs.Kinds.{caller_of, is_began}
 use Rattle.txn_trace.specs.Locks.{has_begun}
 use Rattle.txn_trace.proofs.Naming.{has_begun-own, has_begun-other}
 use Rattle.boost_core.specs.Begun.{begun_with, AreNoted}
 
-or_none : (b : Bool) → (b || false) ≡ b
-or_none true = refl
-or_none false = refl
-
 -- An entry that begins nothing.
 stays : (c : ℕ) (h : List Entry) (e : Entry) → is_began e ≡ false → has_begun c (h ++ e ∷ []) ≡ has_begun c h
 stays c h e begins = elim (cases_eq c (caller_of e)) [
-  | inl mine ↦ (λ i. has_begun (mine i) (h ++ e ∷ [])) ∙ has_begun-own h e ∙ ap (λ b. has_begun (caller_of e) h || b) begins ∙ or_none (has_begun (caller_of e) h) ∙ (λ i. has_begun (sym mine i) h)
+  | inl mine ↦ (λ i. has_begun (mine i) (h ++ e ∷ [])) ∙ has_begun-own h e ∙ ap (λ b. has_begun (caller_of e) h || b) begins ∙ or-false (has_begun (caller_of e) h) ∙ (λ i. has_begun (sym mine i) h)
   | inr other ↦ has_begun-other c h e other
 ]
 

@@ -1,42 +1,27 @@
 -- The outcome of each step of a caller.
-use Rattle.std.proofs.Common.{◌≡◌, ℕ, ◌+◌, ◌-◌, ◌^◌, ◌<◌, ◌≤◌, Bool, true, false, List, Option, Some, None, is_some, refl, sym, ap, subst, ◌∙◌, arith}
-use Rattle.std.specs.Prelude.{slice_get, slice_set, map, reverse, unwrap_or}
-use Rattle.std.specs.Option.{option_map}
-use mathlib.Core.Logic.{inr}
-use Rattle.std.proofs.lemmas.Bool.{false≢true}
-use Rattle.std.proofs.lemmas.List.{length-set, get_or-set_same}
-use Rattle.std.proofs.lemmas.Option.{slice_get_within, slice_get-map}
-use Rattle.txn_words.specs.declared.step.Step.{Step}
+use Rattle.std.proofs.Common.{◌≡◌, ℕ, ◌+◌, ◌-◌, ◌^◌, ◌<◌, ◌≤◌, Bool, true, false, List, Option, Some, None, is_some, refl, sym, ap, subst, ◌∙◌, arith, slice_get, slice_set, map, reverse, unwrap_or, inr, length-set, get_or-set_same}
+use Rattle.std.proofs.lemmas.Bool.{leb-false}
+use Rattle.boost_core.proofs.Vocabulary.{option_map, false≢true, slice_get_within, slice_get-map, Step, Answer, TableAt, Cursor, cursor_changes, table_changes, key_of, Op, stripe_of}
 use Rattle.txn_words.specs.declared.step.Step.TheVariants as steps
-use Rattle.txn_words.specs.declared.answer.Answer.{Answer}
 use Rattle.txn_words.specs.declared.answer.Answer.TheVariants as answers
-use Rattle.map_ops.specs.TableAt.{TableAt, Cursor, cursor_changes, table_changes}
 use Rattle.boost_core.specs.declared.counts.Counts.{Counts}
 use Rattle.boost_core.specs.declared.session.Session.{Session}
 use Rattle.boost_core.specs.State.{Caller, caller_changes}
-use Rattle.boost_core.specs.Refusals.{refusal_of}
+use Rattle.boost_core.specs.Refusals.{refusal_of, owner_of}
 use Rattle.boost_core.specs.Words.{Claim, Lock, Right, Held, Stale, IsClaim}
 use Rattle.boost_core.specs.Spares.{times_of, times_in, times_out}
 use Rattle.boost_core.specs.Core.{World, Tells, state_of, session_changes, all_times}
 use Rattle.boost_core.proofs.Outcomes.{Called, CalledBy, same_world}
 use Rattle.txn_words.specs.declared.refusal.Refusal.TheVariants as refusals
-use Rattle.txn_words.specs.Map.{key_of}
-use Rattle.txn_words.specs.declared.op.Op.{Op}
-use Rattle.txn_trace.specs.Locks.{stripe_of}
-use Rattle.boost_core.specs.Refusals.{owner_of}
 use Rattle.boost_core.specs.Sessions.{side_of, Does, ActsIn, ReturnsIn, Saves, IsAsked, AsksBy, unless_busy, KeepsPlaced, Takes, AreDue, spare_if, times_kept}
 use Rattle.boost_core.proofs.Spares.{owns_if}
 use Rattle.boost_core.proofs.Grow.{one_of_sum}
-use Rattle.boost_core.proofs.Refused.{index_at, free, seat_free, cursor_free, le_false_lt}
-use Rattle.boost_core.proofs.Parting.{begun_called, saved_called, left_called, committed, withdrawn, returned, ended}
+use Rattle.boost_core.proofs.Refused.{caller_in, index_at, free, seat_free, cursor_free}
+use Rattle.boost_core.proofs.Parting.{begun, saved, left, committed, withdrawn, returned, ended}
 use Rattle.boost_core.proofs.Asking.{asked_called, busy_called, ask_refused, save_refused}
 use Rattle.boost_core.proofs.Claims.{stale_called, held_called, word_stale_called}
 use Rattle.boost_core.proofs.Working.{did_called, undone_called}
 use Rattle.boost_core.proofs.Finding.{sought_called, again_called}
-
--- A statement about a step's caller, by the caller's number.
-of_owner : (P : ℕ → Type 0) (d c : ℕ) → Some (Caller d) ≡ Some (Caller c) → P d → P c
-of_owner P d c same p = let is : d ≡ c = cc (same) in subst P is p
 
 -- An Ask locks its stripe only if stripes are not words.
 no_words : (words : Bool) → (words ≡ true → true ≡ false) → words ≡ false
@@ -83,62 +68,46 @@ module _ (w : World) (tells : Tells w) (x : Session) (y : Session) (t' : TableAt
   acted c at none _ does = absurd does
 
   saved_here : (c : ℕ) → slice_get w.sessions c ≡ Some x → refusal_of (state_of w) (steps.Save c) ≡ None → (answer : Answer) → Saves x answer y → t' ≡ w.table → locks' ≡ w.locks → Called w c x (steps.Save c) answer y t' locks'
-  saved_here c at none (answers.Saved n) does table same = saved_called w tells c x at none n y t' locks' does table same
+  saved_here c at none (answers.Saved n) does table same =
+      same_world (Called w c x (steps.Save c) (answers.Saved n) y) w.table t' w.locks locks' table same (saved w tells c x at none n y does)
   saved_here c at none (answers.Refused refusals.NoMemory) does table same = save_refused w tells c x at none y t' locks' does table same
   saved_here c at none _ does table same = absurd does
 
   -- The outcome of each step that claims no word.
-  locked : (c : ℕ) (step : Step) → owner_of step ≡ Some (Caller c) → slice_get w.sessions c ≡ Some x → refusal_of (state_of w) step ≡ None → 0 < w.limits.stripes → IsClaim Lock (state_of w) step → (answer : Answer)
-      → Does Lock w.limits.stripes w.counts step x w.table w.locks answer y t' locks' → Called w c x step answer y t' locks'
-  locked c (steps.Begin d) owner at none some claims answer does = of_owner (λ k. Called w k x (steps.Begin d) answer y t' locks') d c owner (begun answer does)
-    where
-      at_d : slice_get w.sessions d ≡ Some x
-      at_d = of_owner (λ k. slice_get w.sessions k ≡ Some x) c d (sym owner) at
+  locked : (step : Step) → slice_get w.sessions (caller_in (owner_of step)) ≡ Some x → refusal_of (state_of w) step ≡ None
+      → 0 < w.limits.stripes → IsClaim Lock (state_of w) step → (answer : Answer)
+      → Does Lock w.limits.stripes w.counts step x w.table w.locks answer y t' locks'
+      → Called w (caller_in (owner_of step)) x step answer y t' locks'
+  locked (steps.Begin c) at none some claims (answers.Began n) does =
+      same_world (Called w c x (steps.Begin c) (answers.Began n) y) w.table t' w.locks locks' does.2 does.3
+      (begun w tells c x at none n y does.0 does.1)
+  locked (steps.Ask c op) at none some claims answer does = asked c op at none (grind arith) (no_words w.words claims) answer does
+  locked (steps.Seek c) at none some claims answers.Placed does =
+      subst (Called w c x (steps.Seek c) answers.Placed y t') (sym does.1) (sought_called w tells c x at none y t' does.0 keeps rises)
+  locked (steps.Act c) at none some claims answer does = acted c at none answer does
+  locked (steps.Save c) at none some claims answer does = saved_here c at none answer does.0 does.1 does.2
+  locked (steps.Back c n) at none some claims answers.Leaving does =
+      same_world (Called w c x (steps.Back c n) answers.Leaving y) w.table t' w.locks locks' does.1 does.2
+      (left w tells c x at n none y does.0)
+  locked (steps.Commit c) at none some claims (answers.Committed p) does = committed w tells c x at none p y t' locks' does.0 does.1 does.2
+  locked (steps.Abort c) at none some claims answers.Leaving does =
+      subst (Called w c x (steps.Abort c) answers.Leaving y t') (sym does.1) (withdrawn w tells c x at none y t' does.0)
+  locked _ at none some claims _ does = absurd does
 
-      begun : (answer : Answer) → Does Lock w.limits.stripes w.counts (steps.Begin d) x w.table w.locks answer y t' locks' → Called w d x (steps.Begin d) answer y t' locks'
-      begun (answers.Began n) does = begun_called w tells d x at_d none n y t' locks' does.0 does.1 does.2 does.3
-      begun _ does = absurd does
-  locked c (steps.Ask d op) owner at none some claims answer does = of_owner (λ k. Called w k x (steps.Ask d op) answer y t' locks') d c owner
-      (asked d op (of_owner (λ k. slice_get w.sessions k ≡ Some x) c d (sym owner) at) none (grind arith) (no_words w.words claims) answer does)
-  locked c (steps.Seek d) owner at none some claims answer does = of_owner (λ k. Called w k x (steps.Seek d) answer y t' locks') d c owner (sought answer does)
-    where
-      sought : (answer : Answer) → Does Lock w.limits.stripes w.counts (steps.Seek d) x w.table w.locks answer y t' locks' → Called w d x (steps.Seek d) answer y t' locks'
-      sought answers.Placed does = subst (Called w d x (steps.Seek d) answers.Placed y t') (sym does.1) (sought_called w tells d x (of_owner (λ k. slice_get w.sessions k ≡ Some x) c d (sym owner) at) none y t' does.0 keeps rises)
-      sought _ does = absurd does
-  locked c (steps.Act d) owner at none some claims answer does = of_owner (λ k. Called w k x (steps.Act d) answer y t' locks') d c owner
-      (acted d (of_owner (λ k. slice_get w.sessions k ≡ Some x) c d (sym owner) at) none answer does)
-  locked c (steps.Save d) owner at none some claims answer does = of_owner (λ k. Called w k x (steps.Save d) answer y t' locks') d c owner
-      (saved_here d (of_owner (λ k. slice_get w.sessions k ≡ Some x) c d (sym owner) at) none answer does.0 does.1 does.2)
-  locked c (steps.Back d n) owner at none some claims answer does = of_owner (λ k. Called w k x (steps.Back d n) answer y t' locks') d c owner (gone answer does)
-    where
-      gone : (answer : Answer) → Does Lock w.limits.stripes w.counts (steps.Back d n) x w.table w.locks answer y t' locks' → Called w d x (steps.Back d n) answer y t' locks'
-      gone answers.Leaving does = left_called w tells d x (of_owner (λ k. slice_get w.sessions k ≡ Some x) c d (sym owner) at) n none y t' locks' does.0 does.1 does.2
-      gone _ does = absurd does
-  locked c (steps.Commit d) owner at none some claims answer does = of_owner (λ k. Called w k x (steps.Commit d) answer y t' locks') d c owner (done answer does)
-    where
-      done : (answer : Answer) → Does Lock w.limits.stripes w.counts (steps.Commit d) x w.table w.locks answer y t' locks' → Called w d x (steps.Commit d) answer y t' locks'
-      done (answers.Committed p) does = committed w tells d x (of_owner (λ k. slice_get w.sessions k ≡ Some x) c d (sym owner) at) none p y t' locks' does.0 does.1 does.2
-      done _ does = absurd does
-  locked c (steps.Abort d) owner at none some claims answer does = of_owner (λ k. Called w k x (steps.Abort d) answer y t' locks') d c owner (gone answer does)
-    where
-      gone : (answer : Answer) → Does Lock w.limits.stripes w.counts (steps.Abort d) x w.table w.locks answer y t' locks' → Called w d x (steps.Abort d) answer y t' locks'
-      gone answers.Leaving does = subst (Called w d x (steps.Abort d) answers.Leaving y t') (sym does.1) (withdrawn w tells d x (of_owner (λ k. slice_get w.sessions k ≡ Some x) c d (sym owner) at) none y t' does.0)
-      gone _ does = absurd does
-  locked c _ owner at none some claims answer does = absurd does
+  claimed : (claim : Claim) (step : Step) → slice_get w.sessions (caller_in (owner_of step)) ≡ Some x → refusal_of (state_of w) step ≡ None
+      → 0 < w.limits.stripes → IsClaim claim (state_of w) step → (answer : Answer)
+      → Does claim w.limits.stripes w.counts step x w.table w.locks answer y t' locks'
+      → CalledBy claim w (caller_in (owner_of step)) x step answer y t' locks'
+  claimed Lock step at none some claims answer does = locked step at none some claims answer does
+  claimed claim (steps.Ask c op) at none some claims answer does = asked_by claim c op at none (grind arith) claims answer does
+  claimed _ _ at none some claims answer does = absurd claims
 
   -- The outcome of each step, by its claim.
   pub called : (claim : Claim) (c : ℕ) (step : Step) → owner_of step ≡ Some (Caller c) → slice_get w.sessions c ≡ Some x → refusal_of (state_of w) step ≡ None → 0 < w.limits.stripes → IsClaim claim (state_of w) step → (answer : Answer)
       → Does claim w.limits.stripes w.counts step x w.table w.locks answer y t' locks' → CalledBy claim w c x step answer y t' locks'
-  called Lock c step owner at none some claims answer does = locked c step owner at none some claims answer does
-  called Right c (steps.Ask d op) owner at none some claims answer does = of_owner (λ k. CalledBy Right w k x (steps.Ask d op) answer y t' locks') d c owner
-      (asked_by Right d op (of_owner (λ k. slice_get w.sessions k ≡ Some x) c d (sym owner) at) none (grind arith) claims answer does)
-  called Right c _ owner at none some claims answer does = absurd claims
-  called (Held named) c (steps.Ask d op) owner at none some claims answer does = of_owner (λ k. CalledBy (Held named) w k x (steps.Ask d op) answer y t' locks') d c owner
-      (asked_by (Held named) d op (of_owner (λ k. slice_get w.sessions k ≡ Some x) c d (sym owner) at) none (grind arith) claims answer does)
-  called (Held named) c _ owner at none some claims answer does = absurd claims
-  called Stale c (steps.Ask d op) owner at none some claims answer does = of_owner (λ k. CalledBy Stale w k x (steps.Ask d op) answer y t' locks') d c owner
-      (asked_by Stale d op (of_owner (λ k. slice_get w.sessions k ≡ Some x) c d (sym owner) at) none (grind arith) claims answer does)
-  called Stale c _ owner at none some claims answer does = absurd claims
+  called claim c step owner at none some claims answer does =
+      subst (λ k. CalledBy claim w k x step answer y t' locks') (ap caller_in owner)
+      (claimed claim step (subst (λ k. slice_get w.sessions k ≡ Some x) (sym (ap caller_in owner)) at) none some claims answer does)
 
 -- The requirements of a step on its caller's side, if nothing refuses it.
 pub takes : (w : World) → Tells w → (c : ℕ) (x : Session) → slice_get w.sessions c ≡ Some x → (step : Step) → owner_of step ≡ Some (Caller c) → refusal_of (state_of w) step ≡ None
@@ -163,7 +132,7 @@ takes w tells c x at step owner none callers some began done = record {
   owner = (c, owner);
   caller = λ d is.
       let same : d ≡ c = same_caller d c (sym is ∙ owner) in
-      let below : c < w.limits.callers = le_false_lt w.limits.callers c (free (state_of w) c step owner none).within in
+      let below : c < w.limits.callers = leb-false w.limits.callers c (free (state_of w) c step owner none).within in
       omega arith;
   many = tells.stripes;
   some_stripe = some;
@@ -193,18 +162,12 @@ placed_cursor claim stripes counts step x t locks answer y t' locks' does is = a
     never_placed : (claim : Claim) (c : ℕ) (op : Op) → AsksBy claim c (stripe_of stripes (key_of op)) op x t locks answers.Placed y t' locks' → ⊥
     never_placed Lock c op does = does
     never_placed Right c op does = not_own does.0 c op does.1 does.2
-    never_placed (Held named) c op does = cc (does.0)
-    never_placed Stale c op does = cc (does.0)
+    never_placed _ c op does = cc (does.0)
 
     at : (step : Step) → Does claim stripes counts step x t locks answers.Placed y t' locks' → is_some y.cursor ≡ true
     at (steps.Seek c) does = ap (λ (s : Session). is_some s.cursor) does.0.becomes
-    at (steps.Begin c) does = absurd does
     at (steps.Ask c op) does = absurd (never_placed claim c op does)
-    at (steps.Act c) does = absurd does
     at (steps.Save c) does = absurd does.0
-    at (steps.Back c n) does = absurd does
-    at (steps.Commit c) does = absurd does
-    at (steps.Abort c) does = absurd does
     at _ does = absurd does
 
 -- The change number of the cursor of a caller whose side has changed.

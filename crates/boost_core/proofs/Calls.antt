@@ -1,35 +1,22 @@
 -- Several steps of one caller in a row: no later one is refused if the first is not, and none has
 -- the answer `again`.
-use Rattle.std.proofs.Common.{◌≡◌, ℕ, ◌-◌, ◌^◌, ◌<◌, ◌≤◌, ◌==◌, ◌&&◌, ◌||◌, Bool, true, false, cond, List, [], ◌∷◌, ◌++◌, Option, Some, None, is_some, refl, sym, ap, subst, ◌∙◌, arith}
-use Rattle.std.specs.Prelude.{nat_le, nat_lt, not, unwrap_or, slice_index}
-use Rattle.std.specs.List.{All}
+use Rattle.std.proofs.Common.{◌≡◌, ℕ, ◌-◌, ◌<◌, ◌≤◌, ◌&&◌, ◌||◌, Bool, true, false, cond, List, [], ◌∷◌, ◌++◌, Option, Some, None, is_some, refl, sym, ap, subst, ◌∙◌, arith, nat_le, not, unwrap_or, slice_index, eqb-true, ltb-true, ne_eqb, append-nil, inl, inr, ◌⊎◌}
+use Rattle.std.proofs.Math.Bool.{and-false, or-true}
+use Rattle.boost_core.proofs.Vocabulary.{All, false≢true, and_parts, Op, Entry, Refusal, Step, Answer, Map, Sizes, caller_of, Phase, Opened, Waiting, LeavingTo, LeavingToEnd, Seat, closed_seat, row, seat_after, own}
 use Rattle.std.specs.Option.{option_and_then}
-use Rattle.std.proofs.lemmas.Bool.{false≢true, and_parts, eq-eqb, eqb-true, ltb-true, ne_eqb}
-use Rattle.std.proofs.lemmas.List.{append-nil}
 use Rattle.std.proofs.lemmas.List.Elements.{All-head, All-tail}
-use mathlib.Core.Logic.{inl, inr, ◌⊎◌}
-use Rattle.txn_words.specs.declared.op.Op.{Op}
-use Rattle.txn_words.specs.declared.entry.Entry.{Entry}
 use Rattle.txn_words.specs.declared.entry.Entry.TheVariants as entry
-use Rattle.txn_words.specs.declared.refusal.Refusal.{Refusal}
 use Rattle.txn_words.specs.declared.refusal.Refusal.TheVariants as refusals
-use Rattle.txn_words.specs.declared.step.Step.{Step}
 use Rattle.txn_words.specs.declared.step.Step.TheVariants.{Ask, Seek, Act, Back, Abort}
-use Rattle.txn_words.specs.declared.answer.Answer.{Answer}
 use Rattle.txn_words.specs.declared.answer.Answer.TheVariants.{Refused, Asked, Placed, Again, Done, Undone, Leaving, Returned, Aborted}
-use Rattle.txn_words.specs.Map.{Map}
-use Rattle.txn_words.specs.Sizes.{Sizes}
-use Rattle.txn_words.specs.Kinds.{caller_of}
-use Rattle.txn_words.specs.declared.seat.Phase.{Phase}
-use Rattle.txn_words.specs.declared.seat.Phase.TheVariants.{Closed, Opened, Waiting, LeavingTo, LeavingToEnd}
-use Rattle.txn_words.specs.Shape.{Seat, closed_seat, row, seat_after, own}
 use Rattle.txn_trace.proofs.Pushes.{own-push_in, seat_after-push}
-use Rattle.boost_core.specs.State.{State, Owner, Caller, seat_in, caller_changes}
+use Rattle.boost_core.specs.State.{State, Caller, seat_in, caller_changes}
 use Rattle.boost_core.specs.Refusals.{refusal_of, lacks_in, MayLack, is_closed, is_waiting, is_leaving, has_job, has_target}
-use Rattle.boost_core.specs.Answers.{IsReply, is_back_at, is_at_end, end_of, owner_changes, is_just_placed, may_be_stale}
+use Rattle.boost_core.specs.Answers.{IsReply, is_back_at, is_at_end, end_of, may_be_stale}
 use Rattle.boost_core.specs.Machine.{Move, Event}
 use Rattle.boost_core.specs.Plain.{Operates, Returns, Aborts}
-use Rattle.boost_core.proofs.Refused.{or_else, refusal_parts, free, ask_open}
+use Rattle.boost_core.proofs.Moves.{just_placed}
+use Rattle.boost_core.proofs.Refused.{or_else, refusal_parts, free, three_tests}
 
 -- The seat of a caller that has a transaction is that of its entries.
 pub seat_there : (h : List Entry) (c : ℕ) → is_closed (seat_in h c).phase ≡ false → seat_after (own c h) ≡ Some (seat_in h c)
@@ -68,20 +55,13 @@ seek_places old new c (Refused refusal) none move = absurd (never_refused old (S
 seek_places old new c Placed none move = refl
 seek_places old new c _ none move = absurd move.allowed.1
 
--- The cursor that was placed last fits.
-just_placed : (state : State) (c : ℕ) → state.placed ≡ Some (Caller c) → may_be_stale state (Caller c) ≡ false
-just_placed state c placed = at (owner_changes state (Caller c))
-  where
-    at : (o : Option ℕ) → elim o as (λ _. Bool) [ None ↦ false | Some noted ↦ not (is_just_placed (Caller c) state.placed) && not (noted == state.changes && nat_lt noted (2 ^ 64 - 1)) ] ≡ false
-    at None = refl
-    at (Some noted) = ap (λ (o : Option Owner). not (is_just_placed (Caller c) o) && not (noted == state.changes && nat_lt noted (2 ^ 64 - 1))) placed ∙ ap (λ b. not b && not (noted == state.changes && nat_lt noted (2 ^ 64 - 1))) (eq-eqb c c refl)
-
 never_again : (state : State) (c : ℕ) → state.placed ≡ Some (Caller c) → (has_target (seat_in state.history c) && may_be_stale state (Caller c)) ≡ true → ⊥
-never_again state c placed is = false≢true (sym (just_placed state c placed) ∙ (and_parts (has_target (seat_in state.history c)) (may_be_stale state (Caller c)) is).1)
+never_again state c placed is =
+    false≢true (sym (just_placed state (Caller c) placed) ∙
+    (and_parts (has_target (seat_in state.history c)) (may_be_stale state (Caller c)) is).1)
 
 pub and_none : (b : Bool) → (b && false) ≡ false
-and_none true = refl
-and_none false = refl
+and_none b = and-false b
 
 -- An operation that waits is done, if its cursor was placed last.
 pub act_does : (old new : State) (c : ℕ) (op : Op) (answer : Answer) → nat_le old.limits.callers c ≡ false → (seat_in old.history c).phase ≡ Waiting op → is_some (caller_changes old.cursors c) ≡ true → old.placed ≡ Some (Caller c)
@@ -105,32 +85,21 @@ act_does old new c op answer within waits cursor placed move = at answer move
 
 -- A caller that takes changes back and has none left has arrived at its level or at the end.
 no_reply : (q : Phase) (m : Map) (reply : Option ℕ) → is_leaving q ≡ true → IsReply q m reply → ⊥
-no_reply Closed m reply leaves is = is
-no_reply Opened m reply leaves is = is
 no_reply (Waiting op) m reply leaves is = false≢true leaves
-no_reply (LeavingTo n) m reply leaves is = is
-no_reply LeavingToEnd m reply leaves is = is
+no_reply _ m reply leaves is = is
 
 back_end : (q : Phase) (n : ℕ) → is_back_at n q ≡ true → Returned n ≡ end_of q
-back_end Closed n is = absurd (false≢true is)
-back_end Opened n is = absurd (false≢true is)
-back_end (Waiting op) n is = absurd (false≢true is)
 back_end (LeavingTo m) n is = ap Returned (eqb-true n m is)
-back_end LeavingToEnd n is = absurd (false≢true is)
+back_end _ n is = absurd (false≢true is)
 
 at_end : (q : Phase) → is_at_end q ≡ true → Aborted ≡ end_of q
-at_end Closed is = absurd (false≢true is)
-at_end Opened is = absurd (false≢true is)
-at_end (Waiting op) is = absurd (false≢true is)
-at_end (LeavingTo m) is = absurd (false≢true is)
 at_end LeavingToEnd is = refl
+at_end _ is = absurd (false≢true is)
 
 leaving_open : (q : Phase) → is_leaving q ≡ true → (is_closed q ≡ false) × (is_waiting q ≡ false)
-leaving_open Closed leaves = absurd (false≢true leaves)
-leaving_open Opened leaves = absurd (false≢true leaves)
-leaving_open (Waiting op) leaves = absurd (false≢true leaves)
 leaving_open (LeavingTo n) leaves = (refl, refl)
 leaving_open LeavingToEnd leaves = (refl, refl)
+leaving_open _ leaves = absurd (false≢true leaves)
 
 pub act_ends : (old new : State) (c : ℕ) (answer : Answer) → nat_le old.limits.callers c ≡ false → is_leaving (seat_in old.history c).phase ≡ true → has_job (seat_in old.history c) ≡ false
     → Move old (Act c) answer new → answer ≡ end_of (seat_in old.history c).phase
@@ -169,13 +138,11 @@ act_undoes old new c answer within leaves job cursor placed move = at answer mov
     at _ move = absurd move.allowed.1
 
 row_undone : (s : Seat) (q : Phase) (c : ℕ) → is_leaving q ≡ true → has_job (record s { phase = q }) ≡ true → (row s q (entry.Undone c) ≡ Some (record s { standing = s.standing - 1 })) × (0 < s.standing)
-row_undone s Closed c leaves job = absurd (false≢true leaves)
-row_undone s Opened c leaves job = absurd (false≢true leaves)
-row_undone s (Waiting op) c leaves job = absurd (false≢true leaves)
 row_undone s (LeavingTo n) c leaves job =
     let more = ltb-true (slice_index s.kept n) s.standing job in
     (ap (λ b. cond b (Some (record s { standing = s.standing - 1 })) None) job, omega arith)
 row_undone s LeavingToEnd c leaves job = (ap (λ b. cond b (Some (record s { standing = s.standing - 1 })) None) job, ltb-true 0 s.standing job)
+row_undone s _ c leaves job = absurd (false≢true leaves)
 
 -- The states and answers when a change was sought and taken back.
 pub record TookBack (old between new : State) (c : ℕ) (first second : Answer) : Type 0 where
@@ -189,13 +156,9 @@ pub took_back : (old between new : State) (c : ℕ) (first second : Answer) → 
     → Move old (Seek c) first between → (first ≡ Placed → is_some (caller_changes between.cursors c) ≡ true) → Move between (Act c) second new → TookBack old between new c first second
 took_back old between new c first second within leaves job seeks cursor acts =
     let open_here = leaving_open (seat_in old.history c).phase leaves in
-    let is_placed : first ≡ Placed = seek_places old between c first (seek_free old c within open_here.0 (ap (λ b. is_waiting (seat_in old.history c).phase || b) job ∙ or_true (is_waiting (seat_in old.history c).phase))) seeks in
+    let is_placed : first ≡ Placed = seek_places old between c first (seek_free old c within open_here.0 (ap (λ b. is_waiting (seat_in old.history c).phase || b) job ∙ or-true (is_waiting (seat_in old.history c).phase))) seeks in
     go is_placed (subst (λ a. Move old (Seek c) a between) is_placed seeks)
   where
-    or_true : (b : Bool) → (b || true) ≡ true
-    or_true true = refl
-    or_true false = refl
-
     go : first ≡ Placed → Move old (Seek c) Placed between → TookBack old between new c first second
     go is_placed sought =
         let same_history : between.history ≡ old.history = ap (λ (s : State). s.history) sought.state ∙ append-nil old.history in
@@ -226,7 +189,7 @@ pub operated : (old asked sought new : State) (c : ℕ) (op : Op) (first second 
     → Operates old c op second new
 operated old asked sought new c op first second asks seeks cursor acts =
     let is_free = free old c (Ask c op) refl asks.move.allowed.0 in
-    let opened : (seat_in old.history c).phase ≡ Opened = ask_open old.limits.half (seat_in old.history c) c op is_free.seat in
+    let opened : (seat_in old.history c).phase ≡ Opened = (three_tests (seat_in old.history c) _ _ _ _ is_free.seat).0 in
     let seat : seat_in asked.history c ≡ record (seat_in old.history c) { phase = Waiting op } = seat_pushed old.history asked.history c (entry.Asked c op) _ (ap (λ (s : State). s.history) asks.move.state) refl (ap is_closed opened) (ap (λ q. row (seat_in old.history c) q (entry.Asked c op)) opened) in
     let waits : (seat_in asked.history c).phase ≡ Waiting op = ap (λ (s : Seat). s.phase) seat in
     let within : nat_le asked.limits.callers c ≡ false = ap (λ (s : State). nat_le s.limits.callers c) asks.move.state ∙ is_free.within in

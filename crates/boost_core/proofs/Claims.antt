@@ -1,63 +1,27 @@
 -- An operation that is asked for when stripes are words: the outcome with a stale right, and with a
 -- word.
-use Rattle.std.proofs.Common.{◌≡◌, ℕ, ◌<◌, ◌==◌, ◌&&◌, ◌||◌, Bool, true, false, cond, List, [], ◌∷◌, ◌++◌, length, Option, Some, None, refl, sym, ap, subst, ◌∙◌, arith}
-use Rattle.std.specs.Prelude.{slice_get, slice_set, map, not, if◌then◌else◌}
-use Rattle.std.specs.Option.{option_map}
-use Rattle.std.proofs.lemmas.Bool.{false≢true, and_from, eq-eqb, ne_eqb, or_left}
-use Rattle.std.proofs.lemmas.List.{append-nil}
-use Rattle.std.proofs.lemmas.Option.{slice_get_within}
-use mathlib.Core.Logic.{inl, inr}
-use Rattle.txn_words.specs.declared.op.Op.{Op}
+use Rattle.std.proofs.Common.{◌≡◌, ℕ, ◌<◌, ◌==◌, ◌||◌, Bool, true, List, [], ◌++◌, length, Option, Some, None, refl, sym, ap, subst, ◌∙◌, arith, slice_get, slice_set, map, not, eq-eqb, ne_eqb, append-nil, inl, inr}
+use Rattle.boost_core.proofs.Vocabulary.{option_map, Op, Phase, Opened, LeavingToEnd, key_of, serial, log_of, stripe_of, holder_of, RoomySeat, PendingAt, TableAt, Cursor, cursor_changes, nodes_of, last_of, map_of}
+use Rattle.std.proofs.lemmas.Bool.{false≢true, and_from, or_left}
 use Rattle.txn_words.specs.declared.entry.Entry.TheVariants as entry
 use Rattle.txn_words.specs.declared.refusal.Refusal.TheVariants.{StaleWord}
 use Rattle.txn_words.specs.declared.step.Step.TheVariants as steps
 use Rattle.txn_words.specs.declared.answer.Answer.TheVariants as answers
-use Rattle.txn_words.specs.declared.seat.Phase.{Phase}
-use Rattle.txn_words.specs.declared.seat.Phase.TheVariants.{Opened, LeavingToEnd}
-use Rattle.txn_words.specs.Map.{key_of}
-use Rattle.txn_trace.specs.Serial.{serial}
-use Rattle.txn_trace.specs.Now.{now}
-use Rattle.txn_trace.specs.Log.{log_of}
-use Rattle.txn_trace.specs.Locks.{stripe_of, holder_of}
-use Rattle.txn_words.specs.Shape.{RoomySeat}
 use Rattle.txn_trace.proofs.Entries as laws
 use Rattle.txn_trace.proofs.Holders.{is_locked-asked}
-use Rattle.node_list.specs.Nodes.{node_of, next_of}
-use Rattle.list_steps.specs.Found.{fits as list_fits, pred_of, is_noted, is_next_noted}
-use Rattle.map_ops.specs.Jobs.{PendingAt}
-use Rattle.map_ops.specs.TableAt.{TableAt, Cursor, cursor_changes, fits, nodes_of, table_changes, last_of, map_of, helper_cursor}
-use Rattle.map_ops.specs.Buckets.{helper_fits}
 use Rattle.boost_core.specs.declared.session.Session.{Session}
-use Rattle.boost_core.specs.State.{State, Owner, Caller, Helper, holder_by}
+use Rattle.boost_core.specs.State.{holder_by}
 use Rattle.boost_core.specs.Refusals.{refusal_of, has_stamp_for}
 use Rattle.boost_core.specs.Answers.{may_stand}
 use Rattle.boost_core.specs.Words.{Right, Held, Stale, is_taken}
 use Rattle.boost_core.specs.Sessions.{Side, target_in, IsSoughtAt, KeepsPlaced, Waits, MeetsIn}
-use Rattle.boost_core.specs.Core.{World, Tells, IsFresh, state_of, session_changes, nodes_at, gap_by, gap_at, gap_if, helper_gaps_of}
+use Rattle.boost_core.specs.Core.{World, Tells, state_of, session_changes, nodes_at, gap_by, helper_gaps_of}
 use Rattle.boost_core.proofs.Numbers.{no_more}
-use Rattle.boost_core.proofs.Moves.{runs_same, state_is, changes_same}
-use Rattle.boost_core.proofs.Grow.{Stays, world_after, seated_as, set_cases}
-use Rattle.boost_core.proofs.Outcomes.{CalledBy, move_is}
+use Rattle.boost_core.proofs.Moves.{runs_same, state_is, changes_same, none_dropped}
+use Rattle.boost_core.proofs.Grow.{Stays, world_after, seated_as}
+use Rattle.boost_core.proofs.Outcomes.{CalledBy, Called, entered}
 use Rattle.boost_core.proofs.Quiet.{quiet}
-use Rattle.boost_core.proofs.HelperGaps.{fits_if, fits_by, cursors_stay}
-use Rattle.boost_core.proofs.Asking.{opened, nothing, no_cursor_there, busy_runs, busy_covered, busy_stamped, lacking_called}
-
--- Whether a cursor fits depends only on the nodes, and so does its position.
-pub same_fits : (t t' : TableAt) (cursor : Cursor) → nodes_of t' ≡ nodes_of t → fits t' cursor ≡ fits t cursor
-unfolding list_fits
-same_fits t t' cursor same = λ i. is_noted (node_of (same i) (pred_of cursor)) cursor.pred.stamp && is_next_noted (next_of (same i) (pred_of cursor)) cursor.cur
-
-pub same_gap : (t t' : TableAt) (o : Option Cursor) → nodes_of t' ≡ nodes_of t → gap_if t' o ≡ gap_if t o
-same_gap t t' None same = refl
-same_gap t t' (Some cursor) same = λ i. cond (same_fits t t' cursor same i) (gap_at (node_of (same i) (pred_of cursor)) (next_of (same i) (pred_of cursor))) None
-
--- A helper's cursor still fits if the nodes and the buckets are unchanged.
-same_helper : (t t' : TableAt) (h : ℕ) → nodes_of t' ≡ nodes_of t → t'.buckets ≡ t.buckets → helper_fits t' h ≡ helper_fits t h
-same_helper t t' h same buckets = fits_by t' h ∙ ap (fits_if t') (cursors_stay t t' h buckets) ∙ at (helper_cursor t h) ∙ sym (fits_by t h)
-  where
-    at : (o : Option Cursor) → fits_if t' o ≡ fits_if t o
-    at None = refl
-    at (Some cursor) = same_fits t t' cursor same
+use Rattle.boost_core.proofs.Asking.{opened, nothing, no_cursor_there, busy_runs, busy_covered, busy_stamped, lacking_called, fresh_kept}
 
 module _ (w : World) (tells : Tells w) (c : ℕ) (x : Session) (at : slice_get w.sessions c ≡ Some x) (op : Op) (none : refusal_of (state_of w) (steps.Ask c op) ≡ None) where
   abbrev stripe : ℕ
@@ -92,14 +56,6 @@ module _ (w : World) (tells : Tells w) (c : ℕ) (x : Session) (at : slice_get w
       same_counts = refl;
     }
 
-    stale_fresh : (seat' : RoomySeat) (o : Option Owner) → IsFresh w.table w.sessions o → IsFresh t' (slice_set w.sessions c (seated_as y seat')) o
-    stale_fresh seat' None fresh = tt
-    stale_fresh seat' (Some (Helper d)) fresh = same_helper w.table t' d same_nodes same_buckets ∙ fresh
-    stale_fresh seat' (Some (Caller d)) fresh = λ s cursor at_d had. same_fits w.table t' cursor same_nodes ∙ (elim (set_cases w.sessions c d (seated_as y seat') s (slice_get_within w.sessions c x at) at_d) [
-      | inl mine ↦ fresh x cursor (ap (slice_get w.sessions) mine.0 ∙ at) (ap (λ (s : Side). s.cursor) (sym meets.becomes) ∙ ap (λ (q : Session). q.cursor) (sym mine.1) ∙ had)
-      | inr other ↦ fresh s cursor other.1 had
-    ])
-
     -- Only the last stamp of the state has changed.
     stale_state : (seat' : RoomySeat) → state_of (world_after w c (seated_as y seat') (w.history ++ []) w.counts t' locks' w.placed)
         ≡ record (state_of w) { stamp = last_of t'; nodes = nodes_at t'; gaps = map (gap_by t') (slice_set w.sessions c (seated_as y seat')); helper_gaps = helper_gaps_of t' }
@@ -119,26 +75,27 @@ module _ (w : World) (tells : Tells w) (c : ℕ) (x : Session) (at : slice_get w
         stamp = (busy_runs w tells c x at op none holder y t' locks' meets keeps within).last;
         one_stamp = (busy_runs w tells c x at op none holder y t' locks' meets keeps within).one_last;
       });
-      fresh = λ seat'. stale_fresh seat' w.placed tells.fresh;
+      fresh = λ seat'. fresh_kept w tells c x at y
+          (ap (λ (s : Side). s.cursor) meets.becomes) t' same_nodes same_buckets seat' w.placed tells.fresh;
     }
 
   -- A word that names a caller that may hold the stripe: the caller leaves to the end.
   pub held_called : (named : ℕ) → w.words ≡ true → may_stand (state_of w) (entry.Busy c op named) ≡ true → CalledBy (Held named) w c x (steps.Ask c op) (answers.Busy named) x w.table w.locks
-  held_called named words stands = record {
-    comes = quiet w tells c x at (entry.Busy c op named) x (record { phase = LeavingToEnd; standing = x.seat.seat.standing; kept = x.seat.seat.kept }) x.log.kept (log_of c w.history) (serial w.history) (λ s. holder_of w.limits.stripes s w.history) w.locks w.counts
-        (laws.busy w.limits.stripes w.history tells.legal c op named x.seat.seat (tells.seated c x at).seat (opened w tells c x at op none) stands) (tells.seated c x at).log
-        refl (λ is. absurd (false≢true is)) (tells.seated c x at).agrees.kept refl (nothing w tells c x at op none) (no_cursor_there w tells c x at op none) refl
-        (no_more w.counts.began) (no_more w.counts.committed) refl tells.holders;
-    move = λ seat'. inr (
-      eq-eqb named named refl,
-      move_is w (world_after w c (seated_as x seat') (w.history ++ entry.Busy c op named ∷ []) w.counts w.table w.locks None) (steps.Ask c op) (answers.Busy named)
-          (none, and_from (w.words || has_stamp_for (state_of w) op) (may_stand (state_of w) (entry.Busy c op named)) (or_left w.words (has_stamp_for (state_of w) op) words) stands)
-          (state_is w (w.history ++ entry.Busy c op named ∷ []) (w.history ++ entry.Busy c op named ∷ []) w.counts w.table (map session_changes w.sessions) (slice_set w.sessions c (seated_as x seat')) w.locks None (runs_same w.table) refl
-          (changes_same w.sessions c x (seated_as x seat') at refl))
-          (runs_same w.table) (λ kept. refl),
-    );
-    fresh = λ seat'. tt;
-  }
+  held_called named words stands =
+      let is : Called w c x (steps.Ask c op) (answers.Busy named) x w.table w.locks =
+      entered w c x x w.table w.locks (steps.Ask c op) (answers.Busy named) (entry.Busy c op named)
+      (map session_changes w.sessions) refl refl refl (none_dropped w.sessions c x at (no_cursor_there w tells c x at op none)) (
+        none,
+        and_from (w.words || has_stamp_for (state_of w) op) (may_stand (state_of w) (entry.Busy c op named))
+            (or_left w.words (has_stamp_for (state_of w) op) words) stands,
+      ) (runs_same w.table) (λ kept. refl)
+      (quiet w tells c x at (entry.Busy c op named) x
+      (record { phase = LeavingToEnd; standing = x.seat.seat.standing; kept = x.seat.seat.kept }) x.log.kept (log_of c w.history)
+      (serial w.history) (λ s. holder_of w.limits.stripes s w.history) w.locks w.counts
+      (laws.busy w.limits.stripes w.history tells.legal c op named x.seat.seat (tells.seated c x at).seat (opened w tells c x at op none) stands) (tells.seated c x at).log
+      refl (λ is. absurd (false≢true is)) (tells.seated c x at).agrees.kept refl (nothing w tells c x at op none) (no_cursor_there w tells c x at op none) refl
+      (no_more w.counts.began) (no_more w.counts.committed) refl tells.holders) in
+      record { comes = is.comes; move = λ seat'. inr (eq-eqb named named refl, is.move seat'); fresh = is.fresh }
 
   -- A word that names no caller that may hold the stripe.
   pub word_stale_called : CalledBy Stale w c x (steps.Ask c op) (answers.Refused StaleWord) x w.table w.locks

@@ -1,26 +1,20 @@
 -- A caller's call for help while nobody else takes steps on the core: the invariant of each phase
 -- of its drive, the number of steps left, a round of the call's loop, and its outcome.
-use Rattle.std.proofs.Common.{◌≡◌, ℕ, ◌+◌, ◌*◌, ◌-◌, ◌^◌, ◌%◌, ◌<◌, ◌≤◌, ◌==◌, ◌&&◌, Bool, true, false, if◌then◌else◌, Option, Some, None, refl, sym, ap, subst, ◌∙◌, arith}
-use Rattle.std.specs.Prelude.{nat_le, nat_lt, not}
-use Rattle.std.proofs.lemmas.Bool.{false≢true, eq-eqb}
+use Rattle.std.proofs.Common.{◌≡◌, ℕ, ◌+◌, ◌*◌, ◌-◌, ◌^◌, ◌%◌, ◌<◌, ◌≤◌, Bool, true, false, if◌then◌else◌, Option, Some, None, refl, sym, ap, subst, ◌∙◌, arith, nat_le, unwrap_or}
+use Rattle.boost_core.proofs.Vocabulary.{false≢true, Step, Answer, Drive, IsAncestor}
 use Rattle.std.proofs.lemmas.Nat.{mod_below}
-use Rattle.txn_words.specs.declared.step.Step.{Step}
 use Rattle.txn_words.specs.declared.step.Step.TheVariants as steps
-use Rattle.txn_words.specs.declared.answer.Answer.{Answer}
 use Rattle.txn_words.specs.declared.answer.Answer.TheVariants as answers
 use Rattle.txn_words.specs.declared.refusal.Refusal.TheVariants as refusals
 use Rattle.txn_words.specs.Sizes.{is_bad_key, Sizes, are_limits}
 use Rattle.txn_drive.specs.declared.call.Call.{Call}
 use Rattle.txn_drive.specs.declared.call.Call.TheVariants as calls
-use Rattle.txn_drive.specs.declared.drive.Drive.{Drive}
 use Rattle.txn_drive.specs.declared.phase.Phase.{Phase}
 use Rattle.txn_drive.specs.declared.phase.Phase.TheVariants as phases
 use Rattle.txn_drive.specs.declared.way.Way.{Way}
 use Rattle.txn_drive.specs.Drives.{first_phase, step_in, sized_in, towards, told_help, told_init_seek, told_link, told_store, told_in, new_drive, step_of, sized_of, turn_in, ended_by, end_of, told_of}
 use Rattle.txn_drive.proofs.WayLemmas.{IsAncestor-root, child_towards-le}
-use Rattle.split_key.specs.Split.{IsAncestor}
-use Rattle.boost_core.specs.State.{State, Owner, Helper, is_set}
-use Rattle.boost_core.specs.Answers.{owner_changes, is_just_placed, may_be_stale}
+use Rattle.boost_core.specs.State.{State, Helper, is_set}
 use Rattle.boost_core.specs.Machine.{Move}
 use Rattle.boost_core.specs.Whole.{IsWhole}
 use Rattle.boost_core.specs.Helps.{IsOnWay, HelpSuits}
@@ -28,6 +22,7 @@ use Rattle.boost_core.specs.Words.{is_ask}
 use Rattle.boost_core.specs.Plain.{Drives, Helps, outcome_of}
 use Rattle.boost_core.proofs.InStep.{Sized, sized, is_double, at_towards, at_heading, at_refused, at_double, Reaches, double_reaches, seek_reaches, link_reaches, store_reaches, help_suits_told}
 use Rattle.boost_core.proofs.Ways.{rises}
+use Rattle.boost_core.proofs.Moves.{just_placed}
 use Rattle.boost_core.proofs.Refused.{le_false}
 
 -- The cursor with which a dummy is to be linked is the one placed last.
@@ -86,19 +81,10 @@ sought_nears state new c again way answers.Placed small on move = record { place
 sought_nears state new c again way (answers.Refused refusal) small on move = at_refused (Nears new c (3 * (way.target - way.bucket) + 3)) refusal (λ r. record { placed = tt; fewer = omega arith })
 sought_nears state new c again way _ small on move = record { placed = tt; fewer = omega arith }
 
--- The cursor that a helper placed last fits.
-just_placed : (state : State) (c : ℕ) → state.placed ≡ Some (Helper c) → may_be_stale state (Helper c) ≡ false
-just_placed state c placed = at (owner_changes state (Helper c))
-  where
-    at : (o : Option ℕ) → elim o as (λ _. Bool) [ None ↦ false | Some noted ↦ not (is_just_placed (Helper c) state.placed) && not (noted == state.changes && nat_lt noted (2 ^ 64 - 1)) ] ≡ false
-    at None = refl
-    at (Some noted) = ap (λ (o : Option Owner). not (is_just_placed (Helper c) o) && not (noted == state.changes && nat_lt noted (2 ^ 64 - 1))) placed ∙ ap (λ b. not b && not (noted == state.changes && nat_lt noted (2 ^ 64 - 1))) (eq-eqb c c refl)
-
 -- After the answer to linking the dummy.
 linked_nears : (state new : State) (c again : ℕ) (way : Way) (answer : Answer) → state.placed ≡ Some (Helper c) → Move state (steps.InitLink c) answer new → Nears new c (3 * (way.target - way.bucket) + 2) (told_link way again answer)
-linked_nears state new c again way answers.Again placed move = absurd (false≢true (sym (just_placed state c placed) ∙ move.allowed.1))
-linked_nears state new c again way answers.Present placed move = record { placed = tt; fewer = omega arith }
-linked_nears state new c again way answers.Linked placed move = record { placed = tt; fewer = omega arith }
+linked_nears state new c again way answers.Again placed move =
+    absurd (false≢true (sym (just_placed state (Helper c) placed) ∙ move.allowed.1))
 linked_nears state new c again way (answers.Refused refusal) placed move = at_refused (Nears new c (3 * (way.target - way.bucket) + 2)) refusal (λ r. record { placed = tt; fewer = omega arith })
 linked_nears state new c again way _ placed move = record { placed = tt; fewer = omega arith }
 
@@ -124,7 +110,7 @@ fits_all state c key phase suits reaches placed = (suits, reaches, placed)
 pub goes : (state new : State) (c key : ℕ) (phase : Phase) (step : Step) (answer : Answer) → IsWhole state → state.limits.buckets ≤ 65536 → nat_le state.limits.callers c ≡ false → Fits state c key phase
     → step_in c (calls.Help key) (sized_in state.size phase) ≡ Some step → Move state step answer new → Goes new c key (left phase) (told_in (calls.Help key) (sized_in state.size phase) answer)
 goes state new c key phase step answer whole most within fits is move =
-    let rests = by phase fits is in
+    let rests = by phase fits is (subst (λ s. Move state s answer new) (sym (ap (λ o. unwrap_or o step) is)) move) in
     record {
       fits = fits_all new c key (told_in (calls.Help key) (sized_in state.size phase) answer) (help_suits_told state new c key phase step answer whole small within (fits_suits state c key phase step fits is) is move) rests.0 rests.1.placed;
       fewer = rests.1.fewer;
@@ -140,30 +126,40 @@ goes state new c key phase step answer whole most within fits is move =
     inside target less = let size = whole.most in omega arith
 
     -- The bucket is that of the key at the size after a step that is no doubling.
-    keeps : (other : Step) (target : ℕ) → other ≡ step → is_double other ≡ false → target ≡ key % state.size → target ≡ key % new.size
-    keeps other target same single is = is ∙ ap (λ n. key % n) (sym (grown.same (ap is_double (sym same) ∙ single)))
+    keeps : (step : Step) (target : ℕ) → is_double step ≡ false → Move state step answer new → target ≡ key % state.size
+        → target ≡ key % new.size
+    keeps step target single move is = is ∙ ap (λ n. key % n) (sym ((sized state new step answer move).same single))
 
     by : (phase : Phase) → Fits state c key phase → step_in c (calls.Help key) (sized_in state.size phase) ≡ Some step
+        → Move state (unwrap_or (step_in c (calls.Help key) (sized_in state.size phase)) step) answer new
         → Reaches (Unit {0}) new (key % new.size) (told_in (calls.Help key) (sized_in state.size phase) answer) × Nears new c (left phase) (told_in (calls.Help key) (sized_in state.size phase) answer)
-    by (phases.Doubling seen) fits is =
-        let same : steps.Double state.size ≡ step = cc is in
-        let moves = subst (λ s. Move state s answer new) (sym same) move in
+    by (phases.Doubling seen) fits is move =
         let least = whole.least in
-        let more = grown.least in
-        (double_reaches (Unit {0}) state new key answer (λ k stored. ap (λ xs. is_set xs 0) stored ∙ whole.first) moves, doubled_nears state new c key answer small (omega arith) moves)
-    by (phases.Initialising way again) fits is =
-        let same : steps.InitSeek c way.bucket ≡ step = cc is in
-        let moves = subst (λ s. Move state s answer new) (sym same) move in
-        (seek_reaches (Unit {0}) state new c (key % new.size) way again answer (keeps (steps.InitSeek c way.bucket) way.target same refl fits.1) moves, sought_nears state new c again way answer (inside way.target fits.0.target) fits.0 moves)
-    by (phases.Linking way again) fits is =
-        let same : steps.InitLink c ≡ step = cc is in
-        (link_reaches (Unit {0}) new (key % new.size) way again answer (keeps (steps.InitLink c) way.target same refl fits.1), linked_nears state new c again way answer fits.2 (subst (λ s. Move state s answer new) (sym same) move))
-    by (phases.Storing way) fits is =
-        let same : steps.InitStore c ≡ step = cc is in
-        (store_reaches (Unit {0}) state new c (key % new.size) way answer (λ k. (whole, fits.0)) (keeps (steps.InitStore c) way.target same refl fits.1) (subst (λ s. Move state s answer new) (sym same) move), stored_nears new c way answer (inside way.target fits.0.0.target) fits.0.0.ancestor)
-    by phases.Helped fits is = absurd (cc is)
-    by (phases.Refused refusal) fits is = absurd (cc is)
-    by phase fits is = absurd fits.0
+        let more = grown.least in (
+          double_reaches (Unit {0}) state new key answer
+              (λ k stored. ap (λ xs. is_set xs 0) stored ∙ whole.first) move,
+          doubled_nears state new c key answer small (omega arith) move,
+        )
+    by (phases.Initialising way again) fits is move = (
+      seek_reaches (Unit {0}) state new c (key % new.size) way again answer
+          (keeps (steps.InitSeek c way.bucket) way.target refl move fits.1) move,
+      sought_nears state new c again way answer
+          (inside way.target fits.0.target) fits.0 move,
+    )
+    by (phases.Linking way again) fits is move = (
+      link_reaches (Unit {0}) new (key % new.size) way again answer
+          (keeps (steps.InitLink c) way.target refl move fits.1),
+      linked_nears state new c again way answer fits.2 move,
+    )
+    by (phases.Storing way) fits is move = (
+      store_reaches (Unit {0}) state new c (key % new.size) way answer (λ k. (whole, fits.0))
+          (keeps (steps.InitStore c) way.target refl move fits.1) move,
+      stored_nears new c way answer
+          (inside way.target fits.0.0.target) fits.0.0.ancestor,
+    )
+    by phases.Helped fits is move = absurd (cc is)
+    by (phases.Refused refusal) fits is move = absurd (cc is)
+    by phase fits is move = absurd fits.0
 
 -- The phase of a new drive keeps its invariant.
 pub fits_first : (state : State) (c key : ℕ) → Fits state c key (first_phase state.limits.half (calls.Help key))

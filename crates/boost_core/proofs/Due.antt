@@ -1,20 +1,10 @@
 -- The jobs of a caller stay due while others work on other keys.
-use Rattle.std.proofs.Common.{◌≡◌, ℕ, ◌+◌, ◌==◌, true, false, cond, List, [], ◌∷◌, ◌++◌, length, Option, Some, None, is_some, refl, sym, ap, subst, ◌∙◌}
-use Rattle.std.specs.Prelude.{IsSome, map, reverse, option_to_list, nat_eq}
-use Rattle.std.specs.Option.{option_eq}
-use Rattle.std.specs.List.{AllByRecursion}
-use Rattle.std.proofs.lemmas.Bool.{cases_Bool, cases_eq, eq-eqb, ne_eqb}
-use Rattle.std.proofs.lemmas.List.{reverse-append, append-nil, length_push}
-use mathlib.Core.Logic.{inl, inr}
-use Rattle.map_ops.specs.TableAt.{SpareAt}
-use Rattle.txn_words.specs.declared.op.Op.{Op}
-use Rattle.txn_words.specs.declared.op.Op.TheVariants.{Put, Take, Get, PutIf}
+use Rattle.std.proofs.Common.{◌≡◌, ℕ, ◌+◌, ◌==◌, true, false, cond, List, [], ◌∷◌, ◌++◌, Option, Some, None, is_some, refl, sym, ap, subst, ◌∙◌, IsSome, map, reverse, option_to_list, nat_eq, eq-eqb, ne_eqb, append-nil, inl, inr}
+use Rattle.boost_core.proofs.Vocabulary.{option_eq, AllByRecursion, cases_Bool, cases_eq, reverse-append, SpareAt, Op, Put, Take, Get, PutIf, MapJob, Relink}
 use Rattle.txn_words.specs.Map.{Map, get, insert, key_of, reply_of, after, set_at}
 use Rattle.txn_words.specs.Shape.{changes}
 use Rattle.txn_words.proofs.Maps.{same_map, get-insert-here, get-remove-here, get-set_at}
 use Rattle.txn_words.proofs.Effects.{after_unchanged, get-after_other, changes-reply}
-use Rattle.map_ops.specs.declared.job.MapJob.{MapJob}
-use Rattle.map_ops.specs.declared.job.MapJob.TheVariants.{Unput, Restore, Relink}
 use Rattle.map_ops.specs.Jobs.{takes_node, key_of_job, value_before, IsDue, unput, relink, job_of}
 use Rattle.boost_core.specs.Sessions.{change_of, changes_of, AreDue}
 
@@ -27,9 +17,8 @@ all_of_changes P [] all = tt
 all_of_changes P (job ∷ jobs) all = (all.0, all_of_changes P jobs all.1)
 
 is_due_same : (m m' : Map) (job : MapJob) → get m' (key_of_job job) ≡ get m (key_of_job job) → IsDue m job → IsDue m' job
-is_due_same m m' (Unput k) same due = subst (λ o. IsSome o) (sym same) due
-is_due_same m m' (Restore k old) same due = subst (λ o. IsSome o) (sym same) due
 is_due_same m m' (Relink k old spare) same due = same ∙ due
+is_due_same m m' _ same due = subst (λ o. IsSome o) (sym same) due
 
 set_at_same : (m m' : Map) (j : ℕ) (o : Option ℕ) (k : ℕ) → get m' k ≡ get m k → get (set_at m' j o) k ≡ get (set_at m j o) k
 set_at_same m m' j o k same = get-set_at m' j o k ∙ ap (cond (k == j) o) same ∙ sym (get-set_at m j o k)
@@ -92,11 +81,6 @@ changes_noted m op spare jobs None is = ap (λ b. cond b ((key_of op, reply_of m
 changes_noted m op spare jobs (Some job) is =
     ap (λ b. cond b ((key_of op, reply_of m op) ∷ changes_of jobs) (changes_of jobs)) is.is_change ∙ ap (λ (change : ℕ × Option ℕ). change ∷ changes_of jobs) (sym is.change)
     ∙ ap (map change_of) (sym (reverse-append jobs (job ∷ [])))
-
-pub standing_noted : (m : Map) (op : Op) (spare : Option SpareAt) (jobs : List MapJob) (job : Option MapJob) → NotedIf m op spare job
-    → cond (changes op (reply_of m op)) (length jobs + 1) (length jobs) ≡ length (jobs ++ option_to_list job)
-standing_noted m op spare jobs None is = ap (λ b. cond b (length jobs + 1) (length jobs)) is ∙ ap length (sym (append-nil jobs))
-standing_noted m op spare jobs (Some job) is = ap (λ b. cond b (length jobs + 1) (length jobs)) is.is_change ∙ sym (length_push jobs job)
 
 no_change : (m : Map) (op : Op) → changes op (reply_of m op) ≡ false → after m op ≡ m
 no_change m op same = after_unchanged m op (sym (changes-reply m op) ∙ same)

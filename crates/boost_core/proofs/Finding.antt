@@ -1,27 +1,19 @@
 -- The seek of a caller, and an act at a cursor that no longer fits.
-use Rattle.std.proofs.Common.{◌≡◌, ℕ, ◌+◌, ◌-◌, ◌^◌, ◌<◌, ◌≤◌, ◌==◌, ◌&&◌, Bool, true, false, [], ◌++◌, length, Option, Some, None, refl, sym, ap, subst, ◌∙◌}
-use Rattle.std.specs.Prelude.{slice_get, slice_set, map, nat_lt, not}
-use Rattle.std.specs.Option.{option_map}
-use Rattle.std.proofs.lemmas.Bool.{false≢true, cases_Bool, cases_eq, ne_eqb, and_from, and_parts, eqb-true, ltb-true}
-use Rattle.std.proofs.lemmas.Option.{slice_get_within}
-use mathlib.Core.Logic.{inl, inr}
-use Rattle.map_ops.specs.TableAt.{fits}
+use Rattle.std.proofs.Common.{◌≡◌, ℕ, ◌+◌, ◌-◌, ◌^◌, ◌<◌, ◌≤◌, true, false, [], ◌++◌, length, Option, Some, None, refl, sym, ap, subst, ◌∙◌, slice_get, slice_set, map, ne_eqb, inl, inr}
+use Rattle.boost_core.proofs.Vocabulary.{option_map, false≢true, cases_eq, and_from, slice_get_within, fits, TableAt, Cursor, cursor_changes, map_of, table_changes, IsPlaced}
 use Rattle.txn_words.specs.declared.step.Step.TheVariants as steps
 use Rattle.txn_words.specs.declared.answer.Answer.TheVariants as answers
-use Rattle.txn_words.specs.Seats.{has_target}
-use Rattle.map_ops.specs.TableAt.{TableAt, Cursor, cursor_changes, map_of, table_changes, IsPlaced}
 use Rattle.boost_core.specs.declared.session.Session.{Session}
-use Rattle.boost_core.specs.State.{Owner, Caller, Helper, seat_in, caller_changes}
-use Rattle.boost_core.specs.Refusals.{refusal_of}
+use Rattle.boost_core.specs.State.{Owner, Caller, Helper, seat_in}
+use Rattle.boost_core.specs.Refusals.{refusal_of, has_target}
 use Rattle.boost_core.specs.Core.{World, Tells, IsFresh, state_of, session_changes}
-use Rattle.boost_core.proofs.Moves.{runs_same, state_is, changes_set}
+use Rattle.boost_core.proofs.Moves.{keeps_runs, runs_same, state_is, changes_set, stale_since}
 use Rattle.boost_core.proofs.Grow.{world_after, seated_as, set_cases}
 use Rattle.boost_core.proofs.Outcomes.{Called, move_is}
 use Rattle.boost_core.specs.Answers.{is_just_placed, may_be_stale}
 use Rattle.boost_core.specs.Sessions.{side_of, target_in, target_of, IsPlacedFor, IsSoughtAt, KeepsPlaced, Waits, times_kept, SeeksIn, Drops}
 use Rattle.boost_core.proofs.Spares.{still_covered}
 use Rattle.boost_core.proofs.Refused.{seat_here, changes_here}
-use Rattle.boost_core.proofs.Working.{keeps_runs}
 
 module _ (w : World) (tells : Tells w) (c : ℕ) (x : Session) (at : slice_get w.sessions c ≡ Some x) where
   here : seat_in w.history c ≡ x.seat.seat
@@ -75,22 +67,12 @@ module _ (w : World) (tells : Tells w) (c : ℕ) (x : Session) (at : slice_get w
     has_key None is = absurd is
     has_key (Some key) is = (key, is)
 
-    not_unmoved : (cursor_changes drops.cursor == table_changes w.table && nat_lt (cursor_changes drops.cursor) (2 ^ 64 - 1)) ≡ false
-    not_unmoved = elim (cases_Bool (cursor_changes drops.cursor == table_changes w.table && nat_lt (cursor_changes drops.cursor) (2 ^ 64 - 1))) [
-      | inr is ↦ is
-      | inl is ↦
-          let parts = and_parts (cursor_changes drops.cursor == table_changes w.table) (nat_lt (cursor_changes drops.cursor) (2 ^ 64 - 1)) is in
-          let same : cursor_changes drops.cursor ≡ table_changes w.table = eqb-true (cursor_changes drops.cursor) (table_changes w.table) parts.0 in
-          let below : cursor_changes drops.cursor < 2 ^ 64 - 1 = ltb-true (cursor_changes drops.cursor) (2 ^ 64 - 1) parts.1 in
-          let placed_for = has_key (target_of x) (subst (λ (o : Option Cursor). IsSoughtAt w.table o (target_of x)) drops.had (tells.sought c x at)) in
-          absurd (false≢true (sym drops.stale ∙ placed_for.1.held (sym same) (subst (λ n. n < 2 ^ 64 - 1) same below)))
-    ]
-
     stale : may_be_stale (state_of w) (Caller c) ≡ true
     stale =
-        let noted : caller_changes (map session_changes w.sessions) c ≡ Some (cursor_changes drops.cursor) = changes_here w tells c x at ∙ ap (option_map cursor_changes) drops.had in
-        ap (λ (o : Option ℕ). elim o as (λ _. Bool) [ None ↦ false | Some noted ↦ not (is_just_placed (Caller c) w.placed) && not (noted == table_changes w.table && nat_lt noted (2 ^ 64 - 1)) ]) noted
-        ∙ (λ i. not (not_fresh i) && not (not_unmoved i))
+        let placed_for = has_key (target_of x) (subst (λ (o : Option Cursor). IsSoughtAt w.table o (target_of x)) drops.had (tells.sought c x at)) in
+        stale_since (state_of w) (Caller c) (cursor_changes drops.cursor)
+        (changes_here w tells c x at ∙ ap (option_map cursor_changes) drops.had) not_fresh
+        (λ same below. false≢true (sym drops.stale ∙ placed_for.1.held (sym same) (subst (λ n. n < 2 ^ 64 - 1) same below)))
 
     again : Called w c x (steps.Act c) answers.Again y w.table w.locks
     again = record {

@@ -1,8 +1,6 @@
 -- Two neighbouring nodes, before and after a change of the list.
-use Rattle.std.proofs.Common.{◌≡◌, ℕ, ◌==◌, Bool, true, false, cond, inl, inr, List, [], ◌∷◌, Some, refl, sym, ap, subst, ◌∙◌, arith}
-use Rattle.std.specs.Prelude.{nat_lt}
-use Rattle.std.specs.List.{AllByRecursion}
-use Rattle.std.proofs.lemmas.Bool.{false≢true, cases_Bool, eq-eqb, eqb-true, ltb-true}
+use Rattle.std.proofs.Common.{◌≡◌, ℕ, ◌==◌, Bool, true, false, cond, inl, inr, List, [], ◌∷◌, Some, refl, sym, ap, subst, ◌∙◌, arith, nat_lt, eq-eqb, eqb-true, ltb-true}
+use Rattle.boost_core.proofs.Vocabulary.{AllByRecursion, false≢true, cases_Bool}
 use Rattle.split_key.specs.Sort.{is_before, IsBefore}
 use Rattle.node_list.specs.Nodes.{NodeAt, node_of, next_of, first, linked_after, changed_at}
 use Rattle.node_list.specs.Order.{IsRising, IsSpread, IsNodeBefore, AbsentFrom}

@@ -1,28 +1,20 @@
 -- The effect of each step that is no caller's on the cursors.
-use Rattle.std.proofs.Common.{◌≡◌, ◌≢◌, ℕ, Some, None, Result, Ok, Err, refl, sym, ap, subst, ◌∙◌}
-use Rattle.std.specs.Prelude.{slice_get, slice_index_or}
-use Rattle.split_key.specs.Sort.{dummy_at}
+use Rattle.std.proofs.Common.{◌≡◌, ◌≢◌, ℕ, Some, Result, Ok, Err, refl, sym, ap, subst, slice_get}
+use Rattle.boost_core.proofs.Vocabulary.{dummy_at, Refusal, Step, Answer, InitSeek, InitLink, SweepOutcome, IsSound}
 use Rattle.bucket_table.specs.Dummies.{dummy_node}
-use Rattle.txn_words.specs.declared.refusal.Refusal.{Refusal}
 use Rattle.txn_words.specs.declared.refusal.Refusal.TheVariants as refusals
-use Rattle.txn_words.specs.declared.step.Step.{Step}
 use Rattle.txn_words.specs.declared.step.Step.TheVariants as steps
-use Rattle.txn_words.specs.declared.answer.Answer.{Answer}
-use Rattle.map_ops.specs.InitSeek.{InitSeek}
 use Rattle.map_ops.specs.InitSeek.TheVariants as seeks
-use Rattle.map_ops.specs.InitLink.{InitLink}
 use Rattle.map_ops.specs.InitLink.TheVariants as links
-use Rattle.map_ops.specs.SweepOutcome.{SweepOutcome}
 use Rattle.map_ops.specs.SweepOutcome.TheVariants as outcomes
 use Rattle.map_ops.specs.Changes.{Sweeps}
 use Rattle.map_ops.specs.Buckets.{SeekChanges, SeekWrites, LinkChanges, LinkWrites, StoreChanges, helper_fits, link_answer_of}
 use Rattle.map_ops.specs.TableAt.{TableAt, Sought, KeepsList, helper_cursor, nodes_of, linked_of, helps_of, last_of}
-use Rattle.node_list.specs.Sound.{IsSound}
 use Rattle.boost_core.specs.State.{Caller, Helper}
 use Rattle.boost_core.specs.Nodes.{Cursors, Fits, KeepsGaps, mover_of}
 use Rattle.boost_core.specs.Serves as said
-use Rattle.boost_core.specs.Serves.{Serves, Linking}
-use Rattle.boost_core.specs.Core.{World, Tells, state_of, gap_if}
+use Rattle.boost_core.specs.Serves.{Serves}
+use Rattle.boost_core.specs.Core.{World, Tells, state_of}
 use Rattle.boost_core.proofs.Linking.{has_sought, fits_where, stale_where}
 use Rattle.boost_core.proofs.GapLists.{Stay, stay_same, stay_swept, stay_sought}
 use Rattle.boost_core.proofs.Gaps.{gap_kept}
@@ -38,9 +30,8 @@ module _ (t t' : TableAt) (sound : IsSound t'.list) where
   swept outcomes.Clean is = kept is.0
 
   sought_bucket : (bucket : ℕ) (outcome : Result InitSeek Refusal) → SeekWrites t t' bucket outcome → Stay (nodes_of t) (nodes_of t')
-  sought_bucket bucket (Ok seeks.Ready) is = kept is
   sought_bucket bucket (Ok seeks.Placed) is = subst (Stay (nodes_of t)) (sym is.nodes) (stay_sought (dummy_at bucket) (nodes_of t) is.start)
-  sought_bucket bucket (Err refusal) is = kept is
+  sought_bucket bucket _ is = kept is
 
   linked_dummy : (h : ℕ) (outcome : Result InitLink Refusal) → (outcome ≢ Err refusals.NoMemory → outcome ≡ link_answer_of t h) → ((bucket noted : ℕ) → slice_get (helps_of t) h ≡ Some (Sought bucket noted) → LinkWrites t t' bucket outcome) → LinkChanges t t' h outcome
       → Stay (nodes_of t) (nodes_of t')
@@ -88,9 +79,8 @@ module _ (t t' : TableAt) (h : ℕ) where
 
 module _ (w w' : World) (tells : Tells w) (sound : IsSound w'.table.list) where
   sought_fits : (h b : ℕ) (outcome : Result InitSeek Refusal) → SeekChanges w.table w'.table h b outcome → Fits (state_of w) (steps.InitSeek h b) (said.sought outcome) (state_of w')
-  sought_fits h b (Ok seeks.Ready) changes = tt
   sought_fits h b (Ok seeks.Placed) changes = helper_stands w' h b sound.spread changes.placed changes.fits
-  sought_fits h b (Err refusal) changes = tt
+  sought_fits h b _ changes = tt
 
   linked_fits : (h : ℕ) (outcome : Result InitLink Refusal) → (outcome ≢ Err refusals.NoMemory → outcome ≡ link_answer_of w.table h) → (outcome ≡ Err refusals.NoMemory → link_answer_of w.table h ≡ Ok links.Linked) → Fits (state_of w) (steps.InitLink h) (said.linked outcome) (state_of w')
   linked_fits h (Ok links.Again) says no_memory = no_helper_gap w.table h (stale_where w.table h (sym (says (λ e. cc (e)))))

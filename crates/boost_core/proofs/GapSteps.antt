@@ -1,25 +1,14 @@
 -- The effect of each step of a caller on the cursors.
-use Rattle.std.proofs.Common.{◌≡◌, ◌≢◌, ℕ, inl, inr, List, length, set, Option, Some, is_some, sym, ap, subst, ◌∙◌, arith}
-use Rattle.std.specs.Prelude.{map, slice_get, slice_set}
-use Rattle.std.proofs.lemmas.Bool.{cases_lt}
-use Rattle.std.proofs.lemmas.List.{length-set, get_or-set_same, get_or-set_other}
+use Rattle.std.proofs.Common.{◌≡◌, ◌≢◌, ℕ, inl, inr, List, length, set, Option, Some, is_some, sym, ap, subst, ◌∙◌, arith, map, slice_get, slice_set, length-set, get_or-set_same, get_or-set_other}
+use Rattle.boost_core.proofs.Vocabulary.{cases_lt, regular_at, Op, key_of, stripe_of, Refusal, Step, Answer, nodes_of, IsSound}
 use Rattle.std.proofs.lemmas.Option.{slice_get_within, slice_get_past, slice_get-get_or}
-use Rattle.split_key.specs.Sort.{regular_at}
-use Rattle.txn_words.specs.declared.op.Op.{Op}
-use Rattle.txn_words.specs.Map.{key_of}
-use Rattle.txn_trace.specs.Locks.{stripe_of}
-use Rattle.txn_words.specs.declared.refusal.Refusal.{Refusal}
 use Rattle.txn_words.specs.declared.refusal.Refusal.TheVariants as refusals
-use Rattle.txn_words.specs.declared.step.Step.{Step}
 use Rattle.txn_words.specs.declared.step.Step.TheVariants as steps
-use Rattle.txn_words.specs.declared.answer.Answer.{Answer}
 use Rattle.txn_words.specs.declared.answer.Answer.TheVariants as answers
-use Rattle.map_ops.specs.TableAt.{nodes_of}
-use Rattle.node_list.specs.Sound.{IsSound}
 use Rattle.boost_core.specs.declared.session.Session.{Session}
 use Rattle.boost_core.specs.State.{State, Gap, Caller, Helper, gap_in, gap_for}
 use Rattle.boost_core.specs.Refusals.{owner_of}
-use Rattle.boost_core.specs.Words.{Claim, Lock, Right, Held, Stale}
+use Rattle.boost_core.specs.Words.{Claim, Lock, Right}
 use Rattle.boost_core.specs.Nodes.{AreNeighbours, Cursors, Fits, KeepsGaps, StandsAt, mover_of, next_key}
 use Rattle.boost_core.specs.Sessions.{Side, Does, ActsIn, SeeksIn, IsAsked, AsksBy}
 use Rattle.boost_core.specs.Core.{World, Tells, state_of, nodes_at, gap_by, gap_if}
@@ -28,10 +17,9 @@ use Rattle.boost_core.proofs.Moves.{gaps_same}
 use Rattle.boost_core.proofs.NodeSteps.{next_is}
 use Rattle.boost_core.proofs.GapLists.{Stay}
 use Rattle.boost_core.proofs.Neighbours.{fit_of}
-use Rattle.boost_core.proofs.Gaps.{gap_here, no_gap, gap_by_side, gap_kept, stands}
+use Rattle.boost_core.proofs.Gaps.{gap_here, no_gap, gap_by_side, gap_kept, stands, same_gap}
 use Rattle.boost_core.proofs.HelperGaps.{cursors_stay, helper_kept}
-use Rattle.boost_core.proofs.Claims.{same_gap}
-use Rattle.boost_core.proofs.Staying.{does_stay, does_buckets}
+use Rattle.boost_core.proofs.Staying.{does_stay}
 
 -- The cursors after a step of an equal state.
 pub cursors_of : (state old new : State) (step : Step) (answer : Answer) → state ≡ old → Cursors state step answer new → Cursors old step answer new
@@ -39,8 +27,6 @@ cursors_of state old new step answer is cursors = subst (λ s. Cursors s step an
 
 -- A refusal leaves the cursors unchanged.
 refused_fits : (old new : State) (step : Step) (c : ℕ) (refusal : Refusal) → owner_of step ≡ Some (Caller c) → Fits old step (answers.Refused refusal) new
-refused_fits old new (steps.Seek d) c refusal owner = tt
-refused_fits old new (steps.Act d) c refusal owner = tt
 refused_fits old new (steps.InitLink h) c refusal owner = absurd (cc (owner))
 refused_fits old new _ c refusal owner = tt
 
@@ -78,8 +64,7 @@ module _ (w : World) (tells : Tells w) (c : ℕ) (x : Session) (at : slice_get w
       own (answers.Busy holder) is = (ap (λ (s : Side). s.cursor) is.becomes, is.back.nodes.all ∙ is.prepares.nodes.all)
       own (answers.Refused refusal) is = (ap (λ (s : Side). s.cursor) is.1.becomes, ap nodes_of is.2)
       own _ is = absurd is
-  asked_stays (Held named) d stripe op refusal is = (ap (λ (s : Session). s.cursor) is.1, ap nodes_of is.2)
-  asked_stays Stale d stripe op refusal is = (ap (λ (s : Session). s.cursor) is.1, ap nodes_of is.2)
+  asked_stays _ d stripe op refusal is = (ap (λ (s : Session). s.cursor) is.1, ap nodes_of is.2)
 
   stays : (claim : Claim) (step : Step) (refusal : Refusal) (stripes : ℕ) → Does claim stripes w.counts step x w.table w.locks (answers.Refused refusal) y w'.table locks' → (y.cursor ≡ x.cursor) × (nodes_of w'.table ≡ nodes_of w.table)
   stays claim (steps.Ask d op) refusal stripes is = asked_stays claim d (stripe_of stripes (key_of op)) op refusal is
@@ -103,10 +88,14 @@ module _ (w : World) (tells : Tells w) (c : ℕ) (x : Session) (at : slice_get w
       gap_kept w w' tells.sound.spread sound.rising stay d gap (ap (λ ss. slice_get ss d) sides ∙ set_other w.sessions c d z apart) is near
 
   keeps : (claim : Claim) (step : Step) → owner_of step ≡ Some (Caller c) → (stripes : ℕ) (answer : Answer) → Does claim stripes w.counts step x w.table w.locks answer y w'.table locks' → KeepsGaps (state_of w) step answer (state_of w')
-  keeps claim step owner stripes answer does (Caller d) gap other is near = other_kept claim step owner stripes answer does (does_stay w.table w'.table sound.spread x y w.locks locks' claim stripes w.counts step answer does) d gap other is near
+  keeps claim step owner stripes answer does (Caller d) gap other is near =
+      other_kept claim step owner stripes answer does
+      (does_stay w.table w'.table sound.spread x y w.locks locks' claim stripes w.counts step answer does).nodes d gap other is near
   keeps claim step owner stripes answer does (Helper h) gap other is near =
-      helper_kept w.table w'.table tells.sound.spread sound.rising (does_stay w.table w'.table sound.spread x y w.locks locks' claim stripes w.counts step answer does) h gap
-      (cursors_stay w.table w'.table h (does_buckets w.table w'.table sound.spread x y w.locks locks' claim stripes w.counts step answer does)) is near
+      helper_kept w.table w'.table tells.sound.spread sound.rising
+      (does_stay w.table w'.table sound.spread x y w.locks locks' claim stripes w.counts step answer does).nodes h gap
+      (cursors_stay w.table w'.table h (does_stay w.table w'.table sound.spread x y w.locks locks' claim stripes w.counts step answer
+      does).buckets) is near
 
   sought : SeeksIn x w.table y w'.table → StandsAt (state_of w') (Caller c) (regular_at (next_key (state_of w) c))
   sought is = subst (λ k. StandsAt (state_of w') (Caller c) (regular_at k)) (sym (next_is w tells c x at is.key is.target))

@@ -1,16 +1,11 @@
 -- The cursors of callers, before and after a step.
-use Rattle.std.proofs.Common.{◌≡◌, ℕ, true, false, cond, inl, inr, List, Option, Some, None, refl, sym, ap, subst, ◌∙◌}
-use Rattle.std.specs.Prelude.{map, slice_get, unwrap_or}
-use Rattle.std.specs.Option.{option_map}
-use Rattle.std.proofs.lemmas.Bool.{cases_Bool}
-use Rattle.std.proofs.lemmas.Option.{slice_get-map}
+use Rattle.std.proofs.Common.{◌≡◌, ℕ, true, false, cond, inl, inr, List, Option, Some, None, refl, sym, ap, subst, ◌∙◌, ◌&&◌, map, slice_get, unwrap_or}
+use Rattle.boost_core.proofs.Vocabulary.{option_map, cases_Bool, slice_get-map, TableAt, IsPlaced, nodes_of, fits, Cursor}
 use Rattle.split_key.specs.Sort.{IsBefore, IsNotBefore, regular_at}
-use Rattle.node_list.specs.Nodes.{NodeAt, node_of}
+use Rattle.node_list.specs.Nodes.{NodeAt, node_of, next_of}
 use Rattle.node_list.specs.Order.{IsRising, IsSpread}
-use Rattle.list_steps.specs.declared.cursor.Cursor.{Cursor}
 use Rattle.list_steps.specs.declared.cursor.Noted.{Noted}
-use Rattle.list_steps.specs.Found.{IsPlaced as IsPlacedIn, pred_of, behind, at_of}
-use Rattle.map_ops.specs.TableAt.{TableAt, IsPlaced, nodes_of, fits}
+use Rattle.list_steps.specs.Found.{IsPlaced as IsPlacedIn, pred_of, behind, at_of, fits as list_fits, is_noted, is_next_noted}
 use Rattle.boost_core.specs.declared.session.Session.{Session}
 use Rattle.boost_core.specs.State.{SortKey, Gap, Owner, Caller, gap_in, gap_for}
 use Rattle.boost_core.specs.Nodes.{AreNeighbours, IsBetween, StandsAt}
@@ -95,3 +90,12 @@ stands_at w' owner cursor at is spread placed at_is fitting =
 pub stands : (w' : World) (c key : ℕ) (y : Session) (cursor : Cursor) → slice_get w'.sessions c ≡ Some y → y.cursor ≡ Some cursor → IsSpread (nodes_of w'.table) → IsPlaced w'.table cursor key → fits w'.table cursor ≡ true → StandsAt (state_of w') (Caller c) (regular_at key)
 stands w' c key y cursor at had spread placed fitting =
     stands_at w' (Caller c) cursor (regular_at key) (gap_by_side w'.table w'.sessions c y (Some cursor) at had) spread placed.list placed.at_is fitting
+
+-- Whether a cursor fits depends only on the nodes, and so does its position.
+pub same_fits : (t t' : TableAt) (cursor : Cursor) → nodes_of t' ≡ nodes_of t → fits t' cursor ≡ fits t cursor
+unfolding list_fits
+same_fits t t' cursor same = λ i. is_noted (node_of (same i) (pred_of cursor)) cursor.pred.stamp && is_next_noted (next_of (same i) (pred_of cursor)) cursor.cur
+
+pub same_gap : (t t' : TableAt) (o : Option Cursor) → nodes_of t' ≡ nodes_of t → gap_if t' o ≡ gap_if t o
+same_gap t t' None same = refl
+same_gap t t' (Some cursor) same = λ i. cond (same_fits t t' cursor same i) (gap_at (node_of (same i) (pred_of cursor)) (next_of (same i) (pred_of cursor))) None

@@ -1,34 +1,18 @@
 -- The invariants of a core that hold when one caller's side changes.
-use Rattle.std.proofs.Common.{◌≡◌, ◌≢◌, ℕ, ◌+◌, ◌-◌, ◌<◌, ◌≤◌, true, cond, List, [], ◌∷◌, ◌++◌, length, get_or, set, Option, Some, None, refl, sym, ap, subst, ◌∙◌, arith}
-use Rattle.std.specs.Prelude.{slice_get, slice_set, sum_by, reverse}
+use Rattle.std.proofs.Common.{◌≡◌, ◌≢◌, ℕ, ◌+◌, ◌-◌, ◌<◌, ◌≤◌, true, cond, List, [], ◌∷◌, ◌++◌, length, get_or, set, Option, Some, None, refl, sym, ap, subst, ◌∙◌, arith, slice_get, slice_set, sum_by, reverse, length-set, get_or-set_same, get_or-set_other, ◌⊎◌, inl, inr}
 use Rattle.std.specs.Option.{option_and_then}
-use Rattle.std.specs.List.{AllByRecursion}
-use Rattle.std.proofs.lemmas.Bool.{cases_eq}
-use Rattle.std.proofs.lemmas.List.{length-set, length-map, length-reverse, get_or-set_same, get_or-set_other}
+use Rattle.boost_core.proofs.Vocabulary.{AllByRecursion, cases_eq, slice_get_within, get_or_from_slice_get, slice_get-get_or, Entry, Map, get, caller_of, is_began, is_commit, now, Phase, Closed, LeavingTo, Seat, RoomySeat, row, seat_after, own, log_of, stripe_of, holder_of, IsLevelIn, seat_leveled, MapJob, TableAt, Cursor, content, IsPlaced, largest_of, helps_of}
+use Rattle.std.proofs.lemmas.List.{length-map, length-reverse}
 use Rattle.std.proofs.lemmas.List.Sums.{sum_by-set, get_or-le-sum_by}
 use Rattle.std.proofs.lemmas.List.Elements.{All-push}
-use Rattle.std.proofs.lemmas.Option.{slice_get_within, get_or_from_slice_get, slice_get-get_or}
-use mathlib.Core.Logic.{◌⊎◌, inl, inr}
 use Rattle.txn_words.specs.declared.holder.Holder.{Holder}
-use Rattle.txn_words.specs.declared.entry.Entry.{Entry}
-use Rattle.txn_words.specs.Map.{Map, get}
-use Rattle.txn_words.specs.Kinds.{caller_of, is_began, is_commit}
-use Rattle.txn_trace.specs.Now.{now}
-use Rattle.txn_words.specs.declared.seat.Phase.{Phase}
-use Rattle.txn_words.specs.declared.seat.Phase.TheVariants.{Closed, Opened, Waiting, LeavingTo, LeavingToEnd}
-use Rattle.txn_words.specs.Shape.{Seat, RoomySeat, row, seat_after, own}
 use Rattle.txn_words.specs.Seats.{is_saved}
-use Rattle.txn_trace.specs.Log.{log_of}
-use Rattle.txn_trace.specs.Locks.{stripe_of, holder_of}
 use Rattle.txn_trace.specs.Legal.{IsLegal, runs, is_running}
 use Rattle.txn_trace.proofs.Pushes.{how_many-push}
 use Rattle.txn_trace.proofs.Next.{Next, seat-own}
 use Rattle.txn_trace.proofs.Entries.{length-log_of}
 use Rattle.txn_trace.proofs.Held.{log_held}
-use Rattle.txn_words.proofs.Levels.{IsLevelIn, seat_leveled}
 use Rattle.key_locks.specs.Locks.{holder_of as held_by}
-use Rattle.map_ops.specs.declared.job.MapJob.{MapJob}
-use Rattle.map_ops.specs.TableAt.{TableAt, Cursor, content, IsPlaced, largest_of, helps_of}
 use Rattle.boost_core.specs.declared.counts.Counts.{Counts}
 use Rattle.boost_core.specs.declared.session.Session.{Session}
 use Rattle.boost_core.specs.State.{Owner, holder_by}
@@ -112,10 +96,7 @@ still_due stripes h d s room current legal is same = at s.seat.phase refl
     at Closed is_q =
         let none : s.seat.standing ≡ 0 = (subst (λ q. IsLevelIn q s.seat.standing s.seat.kept) is_q (seat_leveled (own d h) s.seat is.seat).within).0 in
         closed_due current (reverse s.jobs) (length-reverse s.jobs ∙ sym is.agrees.standing ∙ none)
-    at Opened is_q = run Opened is_q refl
-    at (Waiting op) is_q = run (Waiting op) is_q refl
-    at (LeavingTo n) is_q = run (LeavingTo n) is_q refl
-    at LeavingToEnd is_q = run LeavingToEnd is_q refl
+    at q is_q = run q is_q refl
 
 -- A step that adds an entry: the history after it, the caller's side, which has no cursor, before
 -- its seat enters the entry, and the proof that no other caller is disturbed.
@@ -166,11 +147,8 @@ abbrev pub seated_as : Session → RoomySeat → Session
 seated_as y seat = record { seat = seat; pending = y.pending; cursor = y.cursor; log = y.log }
 
 level_at : (q : Phase) (standing : ℕ) (kept : List ℕ) → IsLevelIn q standing (0 ∷ kept) → level_of q ≤ length kept
-level_at Closed standing kept is = omega arith
-level_at Opened standing kept is = omega arith
-level_at (Waiting op) standing kept is = omega arith
 level_at (LeavingTo level) standing kept is = let below : level < length (0 ∷ kept) = is.0 in omega arith
-level_at LeavingToEnd standing kept is = omega arith
+level_at _ standing kept is = omega arith
 
 module _ (w : World) (tells : Tells w) (c : ℕ) (x y : Session) (at : slice_get w.sessions c ≡ Some x) (t' : TableAt) (locks' : List (Option ℕ)) (counts' : Counts) where
   within : c < length w.sessions

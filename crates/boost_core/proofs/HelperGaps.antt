@@ -1,9 +1,6 @@
 -- The cursors of helpers, from the table.
-use Rattle.std.proofs.Common.{◌≡◌, ◌≢◌, ℕ, Bool, true, false, zero, suc, List, [], ◌∷◌, replicate, Option, Some, None, is_some, refl, sym, ap, ◌∙◌}
-use Rattle.std.specs.Prelude.{map, slice_index_or, unwrap_or}
-use Rattle.std.specs.Option.{option_map}
-use Rattle.std.proofs.lemmas.Bool.{false≢true}
-use Rattle.std.proofs.lemmas.Option.{slice_get-map, unwrap_or-slice_get}
+use Rattle.std.proofs.Common.{◌≡◌, ◌≢◌, ℕ, Bool, true, false, zero, suc, List, [], ◌∷◌, replicate, Option, Some, None, is_some, refl, sym, ap, ◌∙◌, map, slice_index_or, unwrap_or}
+use Rattle.boost_core.proofs.Vocabulary.{option_map, false≢true, slice_get-map, unwrap_or-slice_get, dummy_at}
 use Rattle.std.proofs.Math.ListN as lists
 use Rattle.node_list.specs.Order.{IsRising, IsSpread}
 use Rattle.bucket_table.specs.declared.helper.Helper.{Helper as TableHelper}
@@ -17,8 +14,7 @@ use Rattle.boost_core.specs.Nodes.{AreNeighbours, StandsAt}
 use Rattle.boost_core.specs.Core.{nodes_at, gap_if, helper_gaps_of, World, state_of}
 use Rattle.boost_core.proofs.GapLists.{Stay}
 use Rattle.boost_core.proofs.Neighbours.{fit_of}
-use Rattle.boost_core.proofs.Gaps.{cursor_still, gap_here, no_gap, stands_at}
-use Rattle.split_key.specs.Sort.{dummy_at}
+use Rattle.boost_core.proofs.Gaps.{cursor_still, gap_here, no_gap, stands_at, same_fits}
 
 -- The nodes beside a helper's cursor, from that cursor.
 pub helper_gap_is : (t : TableAt) (h : ℕ) → gap_in (helper_gaps_of t) h ≡ gap_if t (helper_cursor t h)
@@ -48,6 +44,14 @@ fits_by t h =
     at (Some Idle) = refl
     at (Some (Seeking bucket cursor)) = refl
     at (Some (Holding bucket dummy)) = refl
+
+-- A helper's cursor still fits if the nodes and the buckets are unchanged.
+pub same_helper : (t t' : TableAt) (h : ℕ) → nodes_of t' ≡ nodes_of t → t'.buckets ≡ t.buckets → helper_fits t' h ≡ helper_fits t h
+same_helper t t' h same buckets = fits_by t' h ∙ ap (fits_if t') (cursors_stay t t' h buckets) ∙ at (helper_cursor t h) ∙ sym (fits_by t h)
+  where
+    at : (o : Option Cursor) → fits_if t' o ≡ fits_if t o
+    at None = refl
+    at (Some cursor) = same_fits t t' cursor same
 
 -- A cursor that fits has nodes beside it, and one that does not fit has none.
 pub helper_gap : (t : TableAt) (h : ℕ) → helper_fits t h ≡ true → is_some (gap_in (helper_gaps_of t) h) ≡ true
@@ -82,9 +86,8 @@ helper_stands w' h b spread placed fitting =
 
 -- Idle helpers have no cursors.
 idle_cursor : (helper : TableHelper) → help_of helper ≡ Nothing → cursor_in helper ≡ None
-idle_cursor Idle is = refl
 idle_cursor (Seeking bucket cursor) is = absurd (cc (is))
-idle_cursor (Holding bucket dummy) is = refl
+idle_cursor _ is = refl
 
 abbrev first_of : List Help → Help
 first_of [] = Nothing
@@ -96,6 +99,5 @@ rest_of (help ∷ rest) = rest
 
 pub idle_cursors : (helpers : List TableHelper) (n : ℕ) → map help_of helpers ≡ replicate n Nothing → map cursor_in helpers ≡ replicate n None
 idle_cursors [] zero is = refl
-idle_cursors [] (suc n) is = absurd (cc (is))
-idle_cursors (helper ∷ rest) zero is = absurd (cc (is))
 idle_cursors (helper ∷ rest) (suc n) is = λ i. idle_cursor helper (ap first_of is) i ∷ idle_cursors rest n (ap rest_of is) i
+idle_cursors _ _ is = absurd (cc (is))

@@ -1,32 +1,24 @@
 -- The steps of the table and of its helpers.
-use Rattle.std.proofs.Common.{◌≡◌, ◌≢◌, ℕ, ◌≤◌, ◌&&◌, Bool, true, false, cond, List, [], ◌++◌, length, Option, Some, None, Result, Ok, Err, refl, sym, ap, subst, ◌∙◌, arith}
-use Rattle.std.specs.Prelude.{slice_get, slice_set, unwrap_or, map, nat_le, not}
-use Rattle.std.proofs.lemmas.Bool.{false≢true, cases_lt, le-leb}
-use Rattle.std.proofs.lemmas.List.{append-nil}
-use Rattle.std.proofs.lemmas.Option.{slice_get_within, slice_get-get_or, unwrap_or-slice_get}
-use mathlib.Core.Logic.{inl, inr}
+use Rattle.std.proofs.Common.{◌≡◌, ◌≢◌, ℕ, ◌≤◌, ◌&&◌, Bool, true, false, cond, List, [], ◌++◌, length, Option, Some, None, Result, Ok, Err, refl, sym, ap, subst, ◌∙◌, arith, slice_get, slice_set, unwrap_or, map, nat_le, not, le-leb, append-nil, inl, inr}
+use Rattle.boost_core.proofs.Vocabulary.{false≢true, cases_lt, slice_get_within, slice_get-get_or, unwrap_or-slice_get, InitSeek, Refusal, Entry, Step, Answer}
 use Rattle.map_ops.specs.Double.{Double}
-use Rattle.map_ops.specs.InitSeek.{InitSeek}
 use Rattle.map_ops.specs.InitSeek.TheVariants as seeks
 use Rattle.bucket_table.specs.declared.answer.InitRefusal.{InitRefusal}
 use Rattle.bucket_table.specs.declared.answer.InitRefusal.TheVariants as inits
-use Rattle.txn_words.specs.declared.refusal.Refusal.{Refusal}
 use Rattle.txn_words.specs.declared.refusal.Refusal.TheVariants as refusals
 use Rattle.map_ops.specs.Buckets.{Becomes, Helps, Seeks, Stores, Doubles, size_after, is_stored, answer_for, seek_answer, store_answer, parent_of, LacksSegment}
-use Rattle.txn_words.specs.declared.entry.Entry.{Entry}
-use Rattle.txn_words.specs.declared.step.Step.{Step}
 use Rattle.txn_words.specs.declared.step.Step.TheVariants as steps
 use Rattle.txn_words.specs.declared.answer.Answer.TheVariants as answers
 use Rattle.map_ops.specs.TableAt.{TableAt, Help, Nothing, Sought, Dummy, Follows, Keeps, KeepsSpares, content, map_of, regular, size_of, stored_of, linked_of, helps_of, table_changes, last_of, largest_of}
-use Rattle.boost_core.specs.State.{Owner, Helper, is_set, help_in, bucket_at}
+use Rattle.boost_core.specs.State.{State, Owner, Helper, is_set, help_in, bucket_at}
 use Rattle.boost_core.specs.Refusals.{refusal_of, has_dummy}
-use Rattle.boost_core.specs.Machine.{Move}
+use Rattle.boost_core.specs.Answers.{keeps_list, after}
+use Rattle.boost_core.specs.Machine.{Move, IsAllowed}
 use Rattle.boost_core.specs.Core.{World, Tells, IsFresh, state_of, session_changes, nodes_at, gap_by, helper_gaps_of, all_times}
 use Rattle.boost_core.proofs.Spares.{still_covered}
 use Rattle.boost_core.proofs.Refused.{le_false}
 use Rattle.boost_core.proofs.Grow.{table_stayed}
-use Rattle.boost_core.proofs.Working.{keeps_runs}
-use Rattle.boost_core.proofs.Moves.{refused, lacks, state_is}
+use Rattle.boost_core.proofs.Moves.{keeps_runs, refused, lacks, state_is}
 
 -- A world after a step that is no caller's.
 abbrev pub served : World → TableAt → Option Owner → World
@@ -88,10 +80,57 @@ becomes_tells w tells t' placed' size stored linked helps becomes many follows f
     tells_table w tells t' placed' becomes.regular follows becomes.spares
     becomes.largest (ap length becomes.helps_is ∙ many) fresh
 
+-- The state after such a change, but for the nodes.
+abbrev pub became : World → TableAt → Option Owner → ℕ → List Bool → List Bool → List Help → State
+became w t' placed' size stored linked helps = record (state_of w) {
+  history = w.history ++ [];
+  size = size;
+  stored = stored;
+  linked = linked;
+  changes = table_changes t';
+  stamp = last_of t';
+  helpers = helps;
+  placed = placed';
+}
+
 -- The state after such a change.
-pub becomes_state : (w : World) (t' : TableAt) (placed' : Option Owner) (size : ℕ) (stored linked : List Bool) (helps : List Help) → Becomes w.table t' size stored linked helps
-    → state_of (served w t' placed') ≡ record { limits = w.limits; words = w.words; history = w.history ++ []; size = size; stored = stored; linked = linked; nodes = nodes_at t'; changes = table_changes t'; stamp = last_of t'; cursors = map session_changes w.sessions; gaps = map (gap_by t') w.sessions; helper_gaps = helper_gaps_of t'; helpers = helps; placed = placed' }
-becomes_state w t' placed' size stored linked helps becomes = λ i. record { limits = w.limits; words = w.words; history = append_none w.history i; size = becomes.size_is i; stored = becomes.stored_is i; linked = becomes.linked_is i; nodes = nodes_at t'; changes = table_changes t'; stamp = last_of t'; cursors = map session_changes w.sessions; gaps = map (gap_by t') w.sessions; helper_gaps = helper_gaps_of t'; helpers = becomes.helps_is i; placed = placed' }
+pub becomes_state : (w : World) (t' : TableAt) (placed' : Option Owner) (size : ℕ) (stored linked : List Bool) (helps : List Help)
+    → Becomes w.table t' size stored linked helps → state_of (served w t' placed')
+    ≡ record (became w t' placed' size stored linked helps) {
+      nodes = nodes_at t';
+      gaps = map (gap_by t') w.sessions;
+      helper_gaps = helper_gaps_of t';
+    }
+becomes_state w t' placed' size stored linked helps becomes = λ i. record (state_of w) {
+  history = append_none w.history i;
+  size = becomes.size_is i;
+  stored = becomes.stored_is i;
+  linked = becomes.linked_is i;
+  nodes = nodes_at t';
+  changes = table_changes t';
+  stamp = last_of t';
+  gaps = map (gap_by t') w.sessions;
+  helper_gaps = helper_gaps_of t';
+  helpers = becomes.helps_is i;
+  placed = placed';
+}
+
+-- The move, if the last stamp is unchanged.
+pub becomes_move : (w : World) (t' : TableAt) (placed' : Option Owner) (size : ℕ) (stored linked : List Bool) (helps : List Help)
+    (step : Step) (answer : Answer) → Becomes w.table t' size stored linked helps → IsAllowed (state_of w) step answer
+    → after (state_of w) step answer (table_changes t') (last_of t') ≡ became w t' placed' size stored linked helps
+    → table_changes w.table ≤ table_changes t' → (keeps_list answer ≡ true → table_changes t' ≡ table_changes w.table)
+    → last_of t' ≡ last_of w.table → Move (state_of w) step answer (state_of (served w t' placed'))
+becomes_move w t' placed' size stored linked helps step answer becomes allowed after_is rises kept same = record {
+  allowed = allowed;
+  state = becomes_state w t' placed' size stored linked helps becomes
+      ∙ ap (λ (s : State). record s { nodes = nodes_at t'; gaps = map (gap_by t') w.sessions; helper_gaps = helper_gaps_of t' })
+      (sym after_is);
+  changes = rises;
+  list_kept = kept;
+  stamp = omega arith;
+  one_stamp = omega arith;
+}
 
 -- Double.
 pub double_tells : (w : World) → Tells w
@@ -138,15 +177,13 @@ seek_refusal w helper bucket many = at (slice_get (helps_of w.table) helper) ref
         ∙ seek_tests (nat_le (size_of w.table) bucket) (is_stored (stored_of w.table) bucket) (is_stored (stored_of w.table) (parent_of bucket))
 
 seek_ready : (large here above : Bool) → answer_for (cond {A = Result InitSeek InitRefusal} large (Err inits.NoSuchBucket) (cond here (Ok seeks.Ready) (cond above (Ok seeks.Placed) (Err inits.ParentMissing)))) ≡ Ok seeks.Ready → here ≡ true
-seek_ready true here above is = absurd (cc (is))
 seek_ready false true above is = refl
 seek_ready false false true is = absurd (cc (is))
-seek_ready false false false is = absurd (cc (is))
+seek_ready _ _ _ is = absurd (cc (is))
 
 seek_placed : (large here above : Bool) → answer_for (cond {A = Result InitSeek InitRefusal} large (Err inits.NoSuchBucket) (cond here (Ok seeks.Ready) (cond above (Ok seeks.Placed) (Err inits.ParentMissing)))) ≡ Ok seeks.Placed → not here ≡ true
-seek_placed true here above is = absurd (cc (is))
-seek_placed false true above is = absurd (cc (is))
 seek_placed false false above is = refl
+seek_placed _ _ _ is = absurd (cc (is))
 
 -- The bucket is stored already, or not yet.
 pub ready_stored : (t : TableAt) (o : Option Help) (bucket : ℕ) → seek_answer (size_of t) (stored_of t) o bucket ≡ Ok seeks.Ready → is_set (stored_of t) bucket ≡ true
@@ -160,26 +197,21 @@ placed_not t (Some help) bucket is = ap not (is_set_is (stored_of t) bucket) ∙
 pub seek_ready_move : (w : World) (t' : TableAt) (helper bucket : ℕ) → length (helps_of w.table) ≡ w.limits.callers
     → seek_answer (size_of w.table) (stored_of w.table) (slice_get (helps_of w.table) helper) bucket ≡ Ok seeks.Ready → Helps w.table t' helper Nothing → table_changes t' ≡ table_changes w.table
     → Move (state_of w) (steps.InitSeek helper bucket) answers.Ready (state_of (served w t' None))
-seek_ready_move w t' helper bucket many is helps stays = record {
-  allowed = (seek_refusal w helper bucket many ∙ ap refusal_in_result is, ready_stored w.table (slice_get (helps_of w.table) helper) bucket is);
-  state = becomes_state w t' None (size_of w.table) (stored_of w.table) (linked_of w.table) (slice_set (helps_of w.table) helper Nothing) helps.becomes;
-  changes = omega arith;
-  list_kept = λ kept. stays;
-  stamp = let same = helps.last in omega arith;
-  one_stamp = let same = helps.last in omega arith;
-}
+seek_ready_move w t' helper bucket many is helps stays =
+    becomes_move w t' None (size_of w.table) (stored_of w.table) (linked_of w.table) (slice_set (helps_of w.table) helper Nothing)
+    (steps.InitSeek helper bucket) answers.Ready helps.becomes
+    (seek_refusal w helper bucket many ∙ ap refusal_in_result is, ready_stored w.table (slice_get (helps_of w.table) helper) bucket is) refl
+    (omega arith) (λ kept. stays) helps.last
 
 pub seek_placed_move : (w : World) (t' : TableAt) (helper bucket : ℕ) → length (helps_of w.table) ≡ w.limits.callers
     → seek_answer (size_of w.table) (stored_of w.table) (slice_get (helps_of w.table) helper) bucket ≡ Ok seeks.Placed → Seeks w.table t' helper bucket → table_changes w.table ≤ table_changes t'
     → Move (state_of w) (steps.InitSeek helper bucket) answers.Placed (state_of (served w t' (Some (Helper helper))))
-seek_placed_move w t' helper bucket many is places rises = record {
-  allowed = (seek_refusal w helper bucket many ∙ ap refusal_in_result is, placed_not w.table (slice_get (helps_of w.table) helper) bucket is);
-  state = becomes_state w t' (Some (Helper helper)) (size_of w.table) (stored_of w.table) (linked_of w.table) (slice_set (helps_of w.table) helper (Sought bucket (table_changes t'))) places.helps.becomes;
-  changes = rises;
-  list_kept = λ kept. absurd (false≢true kept);
-  stamp = let same = places.helps.last in omega arith;
-  one_stamp = let same = places.helps.last in omega arith;
-}
+seek_placed_move w t' helper bucket many is places rises =
+    becomes_move w t' (Some (Helper helper)) (size_of w.table) (stored_of w.table) (linked_of w.table)
+    (slice_set (helps_of w.table) helper (Sought bucket (table_changes t')))
+    (steps.InitSeek helper bucket) answers.Placed places.helps.becomes
+    (seek_refusal w helper bucket many ∙ ap refusal_in_result is, placed_not w.table (slice_get (helps_of w.table) helper) bucket is) refl
+    rises (λ kept. absurd (false≢true kept)) places.helps.last
 
 -- A helper's step that the table refuses.
 pub helper_refused : (w : World) (t' : TableAt) (step : Step) (refusal : Refusal) → t' ≡ w.table → refusal_of (state_of w) step ≡ Some refusal
@@ -206,16 +238,13 @@ store_refusal w helper many = at (slice_get (helps_of w.table) helper) refl
 -- If a store is refused memory, no bucket of the helper's segment is stored.
 store_lacks : (w : World) (helper : ℕ) (o : Option Help) → slice_get (helps_of w.table) helper ≡ o → store_answer o ≡ Ok tt
     → ((bucket : ℕ) → slice_get (helps_of w.table) helper ≡ Some (Dummy bucket) → LacksSegment (stored_of w.table) bucket) → LacksSegment (stored_of w.table) (bucket_at (help_in (helps_of w.table) helper))
-store_lacks w helper None is answer lacks = absurd (cc answer)
-store_lacks w helper (Some Nothing) is answer lacks = absurd (cc answer)
-store_lacks w helper (Some (Sought bucket noted)) is answer lacks = absurd (cc answer)
 store_lacks w helper (Some (Dummy bucket)) is answer lacks =
     subst (LacksSegment (stored_of w.table)) (sym (ap (λ (o : Option Help). bucket_at (unwrap_or o Nothing)) is)) (lacks bucket is)
+store_lacks w helper _ is answer lacks = absurd (cc answer)
 
 abbrev wants_memory : Result Unit Refusal → Bool
-wants_memory (Ok done) = false
 wants_memory (Err refusals.NoMemory) = true
-wants_memory (Err refusal) = false
+wants_memory _ = false
 
 pub store_refused_move : (w : World) (t' : TableAt) (helper : ℕ) → length (helps_of w.table) ≡ w.limits.callers → (result : Result Unit Refusal) → (result ≢ Err refusals.NoMemory → result ≡ store_answer (slice_get (helps_of w.table) helper))
     → (result ≡ Err refusals.NoMemory → store_answer (slice_get (helps_of w.table) helper) ≡ Ok tt) → ((bucket : ℕ) → slice_get (helps_of w.table) helper ≡ Some (Dummy bucket) → result ≡ Err refusals.NoMemory → LacksSegment (stored_of w.table) bucket)
@@ -230,13 +259,10 @@ store_refused_move w t' helper many result says no_memory lacking refusal is sam
 pub stored_move : (w : World) (t' : TableAt) (helper : ℕ) → length (helps_of w.table) ≡ w.limits.callers
     → store_answer (slice_get (helps_of w.table) helper) ≡ Ok tt → Stores w.table t' helper
     → Move (state_of w) (steps.InitStore helper) answers.Stored (state_of (served w t' None))
-stored_move w t' helper many is stores = record {
-  allowed = (store_refusal w helper many ∙ ap refusal_in_result is, tt);
-  state = becomes_state w t' None (size_of w.table) (slice_set (stored_of w.table) stores.bucket true) (linked_of w.table) (slice_set (helps_of w.table) helper Nothing) stores.becomes
-      ∙ ap (λ n. record { limits = w.limits; words = w.words; history = w.history ++ []; size = size_of w.table; stored = slice_set (stored_of w.table) n true; linked = linked_of w.table; nodes = nodes_at t'; changes = table_changes t'; stamp = last_of t'; cursors = map session_changes w.sessions; gaps = map (gap_by t') w.sessions; helper_gaps = helper_gaps_of t'; helpers = slice_set (helps_of w.table) helper Nothing; placed = None })
-      (ap (λ (o : Option Help). bucket_at (unwrap_or o Nothing)) (sym stores.had));
-  changes = let same = stores.kept in omega arith;
-  list_kept = λ kept. stores.kept;
-  stamp = let same = stores.last in omega arith;
-  one_stamp = let same = stores.last in omega arith;
-}
+stored_move w t' helper many is stores =
+    becomes_move w t' None (size_of w.table) (slice_set (stored_of w.table) stores.bucket true) (linked_of w.table)
+    (slice_set (helps_of w.table) helper Nothing) (steps.InitStore helper) answers.Stored stores.becomes
+    (store_refusal w helper many ∙ ap refusal_in_result is, tt)
+    (ap (λ (o : Option Help). became w t' None (size_of w.table) (slice_set (stored_of w.table) (bucket_at (unwrap_or o Nothing)) true)
+    (linked_of w.table) (slice_set (helps_of w.table) helper Nothing)) stores.had)
+    (let same = stores.kept in omega arith) (λ kept. stores.kept) stores.last

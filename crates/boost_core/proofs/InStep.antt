@@ -1,17 +1,12 @@
 -- A call for help and the core stay in step over each move of the call, whoever else takes steps on
 -- the core between them; and the call keeps to its bucket, which is stored when the call is at its
 -- end.
-use Rattle.std.proofs.Common.{◌≡◌, ◌≢◌, ℕ, ◌*◌, ◌^◌, ◌%◌, ◌<◌, ◌≤◌, ◌==◌, ◌&&◌, nat_lt, Bool, true, false, if◌then◌else◌, List, [], ◌∷◌, length, Some, None, refl, sym, ap, subst, ◌∙◌, arith}
-use Rattle.std.specs.Prelude.{nat_le, not, unwrap_or, slice_get, slice_set}
-use Rattle.std.proofs.lemmas.Bool.{false≢true, eqb-true, eqb-false, lt-ltb}
-use Rattle.std.proofs.lemmas.List.{get_or-set_same}
+use Rattle.std.proofs.Common.{◌≡◌, ◌≢◌, ℕ, ◌*◌, ◌^◌, ◌%◌, ◌<◌, ◌≤◌, ◌==◌, ◌&&◌, nat_lt, Bool, true, false, if◌then◌else◌, List, [], ◌∷◌, length, Some, None, refl, sym, ap, subst, ◌∙◌, arith, nat_le, not, unwrap_or, slice_get, slice_set, eqb-true, lt-ltb, get_or-set_same}
+use Rattle.std.proofs.lemmas.Bool.{false≢true, eqb-false, leb-false}
 use Rattle.std.proofs.lemmas.Nat.{mod_below}
-use Rattle.std.proofs.lemmas.Option.{unwrap_or-slice_get}
-use Rattle.txn_words.specs.declared.step.Step.{Step}
+use Rattle.boost_core.proofs.Vocabulary.{unwrap_or-slice_get, Step, Answer, Refusal}
 use Rattle.txn_words.specs.declared.step.Step.TheVariants as steps
-use Rattle.txn_words.specs.declared.answer.Answer.{Answer}
 use Rattle.txn_words.specs.declared.answer.Answer.TheVariants as answers
-use Rattle.txn_words.specs.declared.refusal.Refusal.{Refusal}
 use Rattle.txn_words.specs.declared.refusal.Refusal.TheVariants as refusals
 use Rattle.txn_drive.specs.declared.call.Call.TheVariants as calls
 use Rattle.txn_drive.specs.declared.phase.Phase.{Phase}
@@ -26,7 +21,7 @@ use Rattle.boost_core.specs.Refusals.{refusal_of, MayLack, has_cursor, has_dummy
 use Rattle.boost_core.specs.Machine.{Move}
 use Rattle.boost_core.specs.Whole.{IsWhole}
 use Rattle.boost_core.specs.Helps.{IsOnWay, HelpSuits}
-use Rattle.boost_core.proofs.Refused.{le_false, le_false_lt}
+use Rattle.boost_core.proofs.Refused.{le_false}
 use Rattle.boost_core.proofs.Calls.{never_refused, and_none}
 
 -- The size after a move: only a doubling changes it.
@@ -168,7 +163,7 @@ target_small : (m : State) (way : Way) → IsWhole m → IsOnWay m way → way.t
 target_small m way whole on = let less = on.target in let most = whole.most in let fits = whole.fits in omega arith
 
 helper_there : (m : State) (c : ℕ) → IsWhole m → nat_le m.limits.callers c ≡ false → c < length m.helpers
-helper_there m c whole within = let less = le_false_lt m.limits.callers c within in let count = whole.helpers in omega arith
+helper_there m c whole within = let less = leb-false m.limits.callers c within in let count = whole.helpers in omega arith
 
 -- After the position of a bucket's dummy was sought.
 pub help_suits_seek : (m n : State) (c : ℕ) (way : Way) (again : ℕ) (a : Answer) → IsWhole m → nat_le m.limits.callers c ≡ false → IsOnWay m way → Move m (steps.InitSeek c way.bucket) a n → HelpSuits n c (told_init_seek way again a)
@@ -236,10 +231,16 @@ help_suits_store m n c way a whole within suits move = at a move
 -- The core and the call are in step again after a move of the call and its answer.
 pub help_suits_told : (m n : State) (c key : ℕ) (phase : Phase) (step : Step) (a : Answer) → IsWhole m → n.size < 2 ^ 32 → nat_le m.limits.callers c ≡ false → HelpSuits m c phase → step_in c (calls.Help key) (sized_in m.size phase) ≡ Some step
     → Move m step a n → HelpSuits n c (told_in (calls.Help key) (sized_in m.size phase) a)
-help_suits_told m n c key (Doubling seen) step a whole small within suits is move = let same : steps.Double m.size ≡ step = cc is in help_suits_double m n c key a whole small (subst (λ s. Move m s a n) (sym same) move)
-help_suits_told m n c key (Initialising way again) step a whole small within suits is move = let same : steps.InitSeek c way.bucket ≡ step = cc is in help_suits_seek m n c way again a whole within suits (subst (λ s. Move m s a n) (sym same) move)
-help_suits_told m n c key (Linking way again) step a whole small within suits is move = let same : steps.InitLink c ≡ step = cc is in help_suits_link m n c way again a whole within suits (subst (λ s. Move m s a n) (sym same) move)
-help_suits_told m n c key (Storing way) step a whole small within suits is move = let same : steps.InitStore c ≡ step = cc is in help_suits_store m n c way a whole within suits (subst (λ s. Move m s a n) (sym same) move)
-help_suits_told m n c key Helped step a whole small within suits is move = absurd (cc is)
-help_suits_told m n c key (Refused r) step a whole small within suits is move = absurd (cc is)
-help_suits_told m n c key phase step a whole small within suits is move = absurd suits
+help_suits_told m n c key phase step a whole small within suits is move =
+    by phase suits is (subst (λ s. Move m s a n) (sym (ap (λ o. unwrap_or o step) is)) move)
+  where
+    by : (phase : Phase) → HelpSuits m c phase → step_in c (calls.Help key) (sized_in m.size phase) ≡ Some step
+        → Move m (unwrap_or (step_in c (calls.Help key) (sized_in m.size phase)) step) a n
+        → HelpSuits n c (told_in (calls.Help key) (sized_in m.size phase) a)
+    by (Doubling seen) suits is move = help_suits_double m n c key a whole small move
+    by (Initialising way again) suits is move = help_suits_seek m n c way again a whole within suits move
+    by (Linking way again) suits is move = help_suits_link m n c way again a whole within suits move
+    by (Storing way) suits is move = help_suits_store m n c way a whole within suits move
+    by Helped suits is move = absurd (cc is)
+    by (Refused r) suits is move = absurd (cc is)
+    by phase suits is move = absurd suits

@@ -1,3 +1,4 @@
+pub mod Vocabulary
 pub mod Spares
 pub mod Due
 pub mod Owing

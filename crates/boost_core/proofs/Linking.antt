@@ -1,13 +1,9 @@
 -- The step by which a helper links a dummy.
-use Rattle.std.proofs.Common.{◌≡◌, ◌≢◌, ℕ, ◌-◌, ◌^◌, ◌<◌, ◌≤◌, ◌==◌, ◌&&◌, Bool, true, false, cond, List, [], ◌++◌, length, Option, Some, None, Result, Ok, Err, is_some, refl, sym, ap, subst, ◌∙◌, arith}
-use Rattle.std.specs.Prelude.{slice_get, slice_set, unwrap_or, map, nat_le, nat_lt, not}
-use Rattle.std.proofs.lemmas.Bool.{false≢true, cases_Bool, cases_eq, ne_eqb, and_from, and_parts, eqb-true, ltb-true}
-use mathlib.Core.Logic.{inl, inr}
-use Rattle.map_ops.specs.InitLink.{InitLink}
+use Rattle.std.proofs.Common.{◌≡◌, ◌≢◌, ℕ, ◌-◌, ◌^◌, ◌<◌, ◌≤◌, ◌==◌, Bool, true, false, cond, List, length, Option, Some, None, Result, Ok, Err, is_some, refl, sym, ap, subst, ◌∙◌, arith, slice_get, slice_set, unwrap_or, map, nat_le, not, ne_eqb, inl, inr}
+use Rattle.boost_core.proofs.Vocabulary.{false≢true, cases_eq, and_from, InitLink, Refusal}
 use Rattle.map_ops.specs.InitLink.TheVariants as links
 use Rattle.bucket_table.specs.declared.answer.InitRefusal.{InitRefusal}
 use Rattle.bucket_table.specs.declared.answer.InitRefusal.TheVariants as inits
-use Rattle.txn_words.specs.declared.refusal.Refusal.{Refusal}
 use Rattle.txn_words.specs.declared.refusal.Refusal.TheVariants as refusals
 use Rattle.map_ops.specs.Buckets.{Helps, Holds, Links, is_stored, answer_for, link_answer, helper_fits, link_answer_of}
 use Rattle.txn_words.specs.declared.step.Step.TheVariants as steps
@@ -17,17 +13,17 @@ use Rattle.boost_core.specs.State.{State, Owner, Caller, Helper, is_set, help_in
 use Rattle.boost_core.specs.Refusals.{refusal_of, has_cursor, has_stamp, lacks_dummy}
 use Rattle.boost_core.specs.Answers.{is_just_placed, may_be_stale}
 use Rattle.boost_core.specs.Machine.{Move}
-use Rattle.boost_core.specs.Core.{World, IsFresh, state_of, session_changes, nodes_at, gap_by, helper_gaps_of}
-use Rattle.boost_core.proofs.Moves.{refused, lacks}
-use Rattle.boost_core.proofs.Helping.{served, becomes_state, helper_there, helper_none, is_set_is}
+use Rattle.boost_core.specs.Core.{World, IsFresh, state_of, nodes_at, gap_by, helper_gaps_of}
+use Rattle.boost_core.proofs.Moves.{refused, lacks, stale_since}
+use Rattle.boost_core.proofs.Helping.{served, became, becomes_state, becomes_move, helper_there, helper_none, is_set_is}
 
 -- InitLink. The refusal that a test gives, from the table's answer: the lack of memory or of stamps
 -- follows all tests.
 abbrev pub refusal_by_test : Result InitLink Refusal → Option Refusal
-refusal_by_test (Ok answer) = None
 refusal_by_test (Err refusals.NoMemory) = None
 refusal_by_test (Err refusals.StampsUsedUp) = None
 refusal_by_test (Err refusal) = Some refusal
+refusal_by_test (Ok answer) = None
 
 -- The answer to a link by a helper with a cursor.
 abbrev linking : Bool → Bool → Bool → Result InitLink Refusal
@@ -41,21 +37,16 @@ linking_test true false false = refl
 
 linking_again : (fitting there used : Bool) → linking fitting there used ≡ Ok links.Again → fitting ≡ false
 linking_again false there used is = refl
-linking_again true true used is = absurd (cc (is))
 linking_again true false true is = absurd (cc (is))
-linking_again true false false is = absurd (cc (is))
+linking_again _ _ _ is = absurd (cc (is))
 
 linking_linked : (fitting there used : Bool) → linking fitting there used ≡ Ok links.Linked → (there ≡ false) × (used ≡ false)
-linking_linked false there used is = absurd (cc (is))
-linking_linked true true used is = absurd (cc (is))
-linking_linked true false true is = absurd (cc (is))
 linking_linked true false false is = (refl, refl)
+linking_linked _ _ _ is = absurd (cc (is))
 
 linking_used : (fitting there used : Bool) → linking fitting there used ≡ Err refusals.StampsUsedUp → (there ≡ false) × (used ≡ true)
-linking_used false there used is = absurd (cc (is))
-linking_used true true used is = absurd (cc (is))
 linking_used true false true is = (refl, refl)
-linking_used true false false is = absurd (cc (is))
+linking_used _ _ _ is = absurd (cc (is))
 
 -- A helper that no test refuses has a cursor for a bucket.
 pub record HasSought (o : Option Help) (fitting : Bool) (linked : List Bool) (last : ℕ) (result : Result InitLink Refusal) : Type 0 where
@@ -66,9 +57,9 @@ pub record HasSought (o : Option Help) (fitting : Bool) (linked : List Bool) (la
 
 pub has_sought : (fitting : Bool) (linked : List Bool) (last : ℕ) (o : Option Help) (result : Result InitLink Refusal) → link_answer fitting linked last o ≡ result → refusal_by_test result ≡ None → HasSought o fitting linked last result
 has_sought fitting linked last None result is free = absurd (let e : Some refusals.NoSuchHelper ≡ None = ap refusal_by_test is ∙ free in cc)
-has_sought fitting linked last (Some Nothing) result is free = absurd (let e : Some refusals.HelperOutOfOrder ≡ None = ap refusal_by_test is ∙ free in cc)
-has_sought fitting linked last (Some (Dummy bucket)) result is free = absurd (let e : Some refusals.HelperOutOfOrder ≡ None = ap refusal_by_test is ∙ free in cc)
 has_sought fitting linked last (Some (Sought bucket noted)) result is free = record { bucket = bucket; noted = noted; had = refl; answer = is }
+has_sought fitting linked last _ result is free =
+    absurd (let e : Some refusals.HelperOutOfOrder ≡ None = ap refusal_by_test is ∙ free in cc)
 
 -- The answer to a link is `again` if the helper's cursor no longer fits, and only then.
 pub stale_where : (t : TableAt) (helper : ℕ) → link_answer_of t helper ≡ Ok links.Again → helper_fits t helper ≡ false
@@ -134,40 +125,20 @@ module _ (w : World) (helper : ℕ) (many : length (helps_of w.table) ≡ w.limi
           let parts = linking_used (helper_fits w.table helper) (is_stored (linked_of w.table) sought.bucket) (last_of w.table == 2 ^ 64 - 2) sought.answer in
           lacks before (steps.InitLink helper) refusals.StampsUsedUp (link_refusal ∙ ap refusal_by_test now)
           (and_from (lacks_dummy before helper) (not (has_stamp before)) (lacks_when sought.bucket sought.noted false sought.had (is_set_is (linked_of w.table) sought.bucket ∙ parts.0)) (ap (λ b. not (not b)) parts.1))
-      at refusals.BadKey is = by_test refusals.BadKey is (λ e. cc (e)) refl
-      at refusals.NoSuchCaller is = by_test refusals.NoSuchCaller is (λ e. cc (e)) refl
-      at refusals.NotOpen is = by_test refusals.NotOpen is (λ e. cc (e)) refl
-      at refusals.AlreadyOpen is = by_test refusals.AlreadyOpen is (λ e. cc (e)) refl
-      at refusals.OperationUnfinished is = by_test refusals.OperationUnfinished is (λ e. cc (e)) refl
-      at refusals.Leaving is = by_test refusals.Leaving is (λ e. cc (e)) refl
-      at refusals.Unplaced is = by_test refusals.Unplaced is (λ e. cc (e)) refl
-      at refusals.NothingToSeek is = by_test refusals.NothingToSeek is (λ e. cc (e)) refl
-      at refusals.NoSuchLevel is = by_test refusals.NoSuchLevel is (λ e. cc (e)) refl
-      at refusals.NoSuchBucket is = by_test refusals.NoSuchBucket is (λ e. cc (e)) refl
-      at refusals.ParentMissing is = by_test refusals.ParentMissing is (λ e. cc (e)) refl
-      at refusals.NoSuchHelper is = by_test refusals.NoSuchHelper is (λ e. cc (e)) refl
-      at refusals.HelperOutOfOrder is = by_test refusals.HelperOutOfOrder is (λ e. cc (e)) refl
-      at refusals.OutOfStep is = by_test refusals.OutOfStep is (λ e. cc (e)) refl
-      at refusals.CallersMissing is = by_test refusals.CallersMissing is (λ e. cc (e)) refl
-      at refusals.NoThread is = by_test refusals.NoThread is (λ e. cc (e)) refl
-      at refusals.StaleWord is = by_test refusals.StaleWord is (λ e. cc (e)) refl
-      at refusals.NotJson is = by_test refusals.NotJson is (λ e. cc (e)) refl
-      at refusals.WrongShape is = by_test refusals.WrongShape is (λ e. cc (e)) refl
-      at refusals.Limit is = by_test refusals.Limit is (λ e. cc (e)) refl
+      at refusal is = by_test refusal is (λ e. cc (e)) refl
 
   -- The cursor did not fit, and is dropped.
   pub link_again_move : answer_now ≡ Ok links.Again → IsFresh w.table w.sessions w.placed → ((bucket : ℕ) → slice_get (helps_of w.table) helper ≡ Some (Sought bucket (table_changes w.table)) → table_changes w.table < 2 ^ 64 - 1 → ⊥) → (t' : TableAt) → Helps w.table t' helper Nothing → table_changes t' ≡ table_changes w.table
       → Move before (steps.InitLink helper) answers.Again (state_of (served w t' None))
   link_again_move is fresh unmoved t' helps stays =
       let sought = has_sought (helper_fits w.table helper) (linked_of w.table) (last_of w.table) (slice_get (helps_of w.table) helper) (Ok links.Again) is refl in
-      record {
-        allowed = (link_refusal ∙ ap refusal_by_test is, stale sought.bucket sought.noted sought.had (linking_again (helper_fits w.table helper) (is_stored (linked_of w.table) sought.bucket) (last_of w.table == 2 ^ 64 - 2) sought.answer));
-        state = becomes_state w t' None (size_of w.table) (stored_of w.table) (linked_of w.table) (slice_set (helps_of w.table) helper Nothing) helps.becomes;
-        changes = omega arith;
-        list_kept = λ kept. stays;
-        stamp = let same = helps.last in omega arith;
-        one_stamp = let same = helps.last in omega arith;
-      }
+      becomes_move w t' None (size_of w.table) (stored_of w.table) (linked_of w.table) (slice_set (helps_of w.table) helper Nothing)
+      (steps.InitLink helper) answers.Again helps.becomes (
+        link_refusal ∙ ap refusal_by_test is,
+        stale sought.bucket sought.noted sought.had
+            (linking_again (helper_fits w.table helper) (is_stored (linked_of w.table) sought.bucket) (last_of w.table == 2 ^ 64 - 2) sought.answer),
+      )
+      refl (omega arith) (λ kept. stays) helps.last
     where
       not_fresh : helper_fits w.table helper ≡ false → (o : Option Owner) → IsFresh w.table w.sessions o → is_just_placed (Helper helper) o ≡ false
       not_fresh misfit None fresh = refl
@@ -177,33 +148,23 @@ module _ (w : World) (helper : ℕ) (many : length (helps_of w.table) ≡ w.limi
         | inr other ↦ ne_eqb helper d other
       ]
 
-      not_unmoved : (bucket noted : ℕ) → slice_get (helps_of w.table) helper ≡ Some (Sought bucket noted) → (noted == table_changes w.table && nat_lt noted (2 ^ 64 - 1)) ≡ false
-      not_unmoved bucket noted had = elim (cases_Bool (noted == table_changes w.table && nat_lt noted (2 ^ 64 - 1))) [
-        | inr is ↦ is
-        | inl is ↦
-            let parts = and_parts (noted == table_changes w.table) (nat_lt noted (2 ^ 64 - 1)) is in
-            let same : noted ≡ table_changes w.table = eqb-true noted (table_changes w.table) parts.0 in
-            let below : noted < 2 ^ 64 - 1 = ltb-true noted (2 ^ 64 - 1) parts.1 in
-            absurd (unmoved bucket (had ∙ ap (λ n. Some (Sought bucket n)) same) (omega arith))
-      ]
-
       stale : (bucket noted : ℕ) → slice_get (helps_of w.table) helper ≡ Some (Sought bucket noted) → helper_fits w.table helper ≡ false → may_be_stale before (Helper helper) ≡ true
       stale bucket noted had misfit =
-          ap (λ (o : Option Help). elim (helper_changes (unwrap_or o Nothing)) as (λ _. Bool) [ None ↦ false | Some noted ↦ not (is_just_placed (Helper helper) w.placed) && not (noted == table_changes w.table && nat_lt noted (2 ^ 64 - 1)) ]) had
-          ∙ (λ i. not (not_fresh misfit w.placed fresh i) && not (not_unmoved bucket noted had i))
+          stale_since before (Helper helper) noted (ap (λ (o : Option Help). helper_changes (unwrap_or o Nothing)) had)
+          (not_fresh misfit w.placed fresh)
+          (λ same below. unmoved bucket (had ∙ ap (λ n. Some (Sought bucket n)) same) (subst (λ n. n < 2 ^ 64 - 1) same below))
 
   -- The dummy was linked already.
   pub link_present_move : answer_now ≡ Ok links.Present → (t' : TableAt) → Holds w.table t' helper → Move before (steps.InitLink helper) answers.Present (state_of (served w t' None))
-  link_present_move is t' holds = record {
-    allowed = (link_refusal ∙ ap refusal_by_test is, ap not (lacks_when holds.bucket holds.changes true holds.had (ap (λ (o : Option Bool). unwrap_or o false) holds.there)));
-    state = becomes_state w t' None (size_of w.table) (stored_of w.table) (linked_of w.table) (slice_set (helps_of w.table) helper (Dummy holds.bucket)) holds.helps.becomes
-        ∙ ap (λ n. record { limits = w.limits; words = w.words; history = w.history ++ []; size = size_of w.table; stored = stored_of w.table; linked = linked_of w.table; nodes = nodes_at t'; changes = table_changes t'; stamp = last_of t'; cursors = map session_changes w.sessions; gaps = map (gap_by t') w.sessions; helper_gaps = helper_gaps_of t'; helpers = slice_set (helps_of w.table) helper (Dummy n); placed = None })
-        (sym (bucket_had (Sought holds.bucket holds.changes) holds.had));
-    changes = let same = holds.kept in omega arith;
-    list_kept = λ kept. holds.kept;
-    stamp = let same = holds.helps.last in omega arith;
-    one_stamp = let same = holds.helps.last in omega arith;
-  }
+  link_present_move is t' holds =
+      becomes_move w t' None (size_of w.table) (stored_of w.table) (linked_of w.table)
+      (slice_set (helps_of w.table) helper (Dummy holds.bucket)) (steps.InitLink helper) answers.Present holds.helps.becomes (
+        link_refusal ∙ ap refusal_by_test is,
+        ap not (lacks_when holds.bucket holds.changes true holds.had (ap (λ (o : Option Bool). unwrap_or o false) holds.there)),
+      )
+      (ap (λ n. became w t' None (size_of w.table) (stored_of w.table) (linked_of w.table) (slice_set (helps_of w.table) helper (Dummy n)))
+      (bucket_had (Sought holds.bucket holds.changes) holds.had))
+      (let same = holds.kept in omega arith) (λ kept. holds.kept) holds.helps.last
 
   -- The dummy is linked now.
   pub link_linked_move : answer_now ≡ Ok links.Linked → (t' : TableAt) → Links w.table t' helper → table_changes w.table ≤ table_changes t' → Move before (steps.InitLink helper) answers.Linked (state_of (served w t' None))
@@ -213,7 +174,8 @@ module _ (w : World) (helper : ℕ) (many : length (helps_of w.table) ≡ w.limi
       record {
         allowed = (link_refusal ∙ ap refusal_by_test is, and_from (lacks_dummy before helper) (has_stamp before) (lacks_when linked.bucket linked.changes false linked.had (ap (λ (o : Option Bool). unwrap_or o false) linked.absent)) (ap not parts.1));
         state = becomes_state w t' None (size_of w.table) (stored_of w.table) (slice_set (linked_of w.table) linked.bucket true) (slice_set (helps_of w.table) helper (Dummy linked.bucket)) linked.becomes
-            ∙ ap (λ n. record { limits = w.limits; words = w.words; history = w.history ++ []; size = size_of w.table; stored = stored_of w.table; linked = slice_set (linked_of w.table) n true; nodes = nodes_at t'; changes = table_changes t'; stamp = last_of t'; cursors = map session_changes w.sessions; gaps = map (gap_by t') w.sessions; helper_gaps = helper_gaps_of t'; helpers = slice_set (helps_of w.table) helper (Dummy n); placed = None })
+            ∙ ap (λ n. record (became w t' None (size_of w.table) (stored_of w.table) (slice_set (linked_of w.table) n true)
+            (slice_set (helps_of w.table) helper (Dummy n))) { nodes = nodes_at t'; gaps = map (gap_by t') w.sessions; helper_gaps = helper_gaps_of t' })
             (sym (bucket_had (Sought linked.bucket linked.changes) linked.had));
         changes = rises;
         list_kept = λ kept. absurd (false≢true kept);

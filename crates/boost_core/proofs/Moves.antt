@@ -1,20 +1,15 @@
 -- Moves of the machine, from the changes of a step to the table and to one caller's side.
-use Rattle.std.proofs.Common.{◌≡◌, ℕ, ◌+◌, ◌≤◌, List, set, Option, Some, None, refl, sym, ap, subst, ◌∙◌, arith}
-use Rattle.std.specs.Prelude.{map, slice_get, slice_set}
+use Rattle.std.proofs.Common.{◌≡◌, ℕ, ◌+◌, ◌≤◌, List, set, Option, Some, None, refl, sym, ap, subst, ◌∙◌, arith, ◌-◌, ◌^◌, ◌<◌, ◌==◌, ◌&&◌, Bool, true, false, map, nat_lt, not, slice_get, slice_set, eq-eqb, eqb-true, ltb-true, inl, inr}
+use Rattle.boost_core.proofs.Vocabulary.{option_map, and_parts, cases_Bool, get_or_from_slice_get, Entry, Refusal, Step, Answer}
 use Rattle.std.proofs.lemmas.List.{map-set}
-use Rattle.std.proofs.lemmas.Option.{get_or_from_slice_get}
 use Rattle.std.proofs.Math.Seq.{map-set_same}
-use mathlib.Core.Logic.{inl, inr}
-use Rattle.txn_words.specs.declared.entry.Entry.{Entry}
-use Rattle.txn_words.specs.declared.refusal.Refusal.{Refusal}
-use Rattle.txn_words.specs.declared.step.Step.{Step}
-use Rattle.txn_words.specs.declared.answer.Answer.{Answer}
 use Rattle.txn_words.specs.declared.answer.Answer.TheVariants.{Refused}
-use Rattle.map_ops.specs.TableAt.{TableAt, size_of, stored_of, linked_of, helps_of, table_changes, last_of}
+use Rattle.map_ops.specs.TableAt.{cursor_changes, TableAt, Keeps, KeepsBuckets, size_of, stored_of, linked_of, helps_of, table_changes, last_of}
 use Rattle.boost_core.specs.Sessions.{Rests}
 use Rattle.boost_core.specs.declared.counts.Counts.{Counts}
 use Rattle.boost_core.specs.declared.session.Session.{Session}
-use Rattle.boost_core.specs.State.{State, Owner}
+use Rattle.boost_core.specs.State.{State, Owner, Caller, Helper}
+use Rattle.boost_core.specs.Answers.{owner_changes, is_just_placed, may_be_stale}
 use Rattle.boost_core.specs.Refusals.{refusal_of, MayLack}
 use Rattle.boost_core.specs.Machine.{Move}
 use Rattle.boost_core.specs.Core.{World, state_of, session_changes, nodes_at, gap_by, helper_gaps_of}
@@ -40,17 +35,26 @@ pub record Runs (t t' : TableAt) : Type 0 where
 pub runs_same : (t : TableAt) → Runs t t
 runs_same t = record { size = refl; stored = refl; linked = refl; helps = refl; rises = omega arith; last = omega arith; one_last = omega arith }
 
+-- `Runs` holds if the buckets and the last stamp are unchanged.
+pub runs_of : (t t' : TableAt) → KeepsBuckets t t' → linked_of t' ≡ linked_of t → table_changes t ≤ table_changes t'
+    → last_of t' ≡ last_of t → Runs t t'
+runs_of t t' buckets linked rises same = record {
+  size = buckets.size;
+  stored = buckets.stored;
+  linked = linked;
+  helps = buckets.helps;
+  rises = rises;
+  last = omega arith;
+  one_last = omega arith;
+}
+
 -- `Runs` holds if only spares have changed.
 pub rests_runs : (t t' : TableAt) → Rests t t' → Runs t t'
-rests_runs t t' rests = record {
-  size = rests.nodes.buckets.size;
-  stored = rests.nodes.buckets.stored;
-  linked = rests.nodes.linked;
-  helps = rests.nodes.buckets.helps;
-  rises = let same = rests.nodes.changes in omega arith;
-  last = let same = rests.last in omega arith;
-  one_last = let same = rests.last in omega arith;
-}
+rests_runs t t' rests = runs_of t t' rests.nodes.buckets rests.nodes.linked (let same = rests.nodes.changes in omega arith) rests.last
+
+-- `Runs` holds if only the list has changed.
+pub keeps_runs : (t t' : TableAt) → Keeps t t' → table_changes t ≤ table_changes t' → Runs t t'
+keeps_runs t t' keeps rises = runs_of t t' keeps.buckets keeps.linked rises keeps.last
 
 -- The state after such a step, for a world with one caller's side changed.
 pub state_is : (w : World) (h' h'' : List Entry) (counts' : Counts) (t' : TableAt) (cursors : List (Option ℕ)) (sessions' : List Session) (locks' : List (Option ℕ)) (placed' : Option Owner) → Runs w.table t' → h' ≡ h'' → map session_changes sessions' ≡ cursors
@@ -58,12 +62,18 @@ pub state_is : (w : World) (h' h'' : List Entry) (counts' : Counts) (t' : TableA
     ≡ record { limits = w.limits; words = w.words; history = h''; size = size_of w.table; stored = stored_of w.table; linked = linked_of w.table; nodes = nodes_at t'; changes = table_changes t'; stamp = last_of t'; cursors = cursors; gaps = map (gap_by t') sessions'; helper_gaps = helper_gaps_of t'; helpers = helps_of w.table; placed = placed' }
 state_is w h' h'' counts' t' cursors sessions' locks' placed' runs entries same = λ i. record { limits = w.limits; words = w.words; history = entries i; size = runs.size i; stored = runs.stored i; linked = runs.linked i; nodes = nodes_at t'; changes = table_changes t'; stamp = last_of t'; cursors = same i; gaps = map (gap_by t') sessions'; helper_gaps = helper_gaps_of t'; helpers = runs.helps i; placed = placed' }
 
--- The change numbers of the callers' cursors, after one is set.
+-- The change numbers of the callers' cursors, after one is set or dropped.
 pub changes_set : (sessions : List Session) (c : ℕ) (y : Session) (noted : Option ℕ) → session_changes y ≡ noted → map session_changes (slice_set sessions c y) ≡ slice_set (map session_changes sessions) c noted
 changes_set sessions c y noted is = map-set session_changes sessions c y ∙ ap (set (map session_changes sessions) c) is
 
 pub changes_same : (sessions : List Session) (c : ℕ) (x y : Session) → slice_get sessions c ≡ Some x → session_changes y ≡ session_changes x → map session_changes (slice_set sessions c y) ≡ map session_changes sessions
 changes_same sessions c x y at same = map-set_same session_changes sessions c y x (same ∙ ap session_changes (sym (get_or_from_slice_get sessions c x x at)))
+
+-- To drop the cursor of a caller that has none changes nothing.
+pub none_dropped : (sessions : List Session) (c : ℕ) (x : Session) → slice_get sessions c ≡ Some x → x.cursor ≡ None
+    → slice_set (map session_changes sessions) c None ≡ map session_changes sessions
+none_dropped sessions c x at none =
+    sym (changes_set sessions c x None (ap (option_map cursor_changes) none)) ∙ changes_same sessions c x x at refl
 
 -- The nodes beside the callers' cursors, if the cursor of the caller that changes is the same.
 pub gaps_same : (t : TableAt) (sessions : List Session) (c : ℕ) (x y : Session) → slice_get sessions c ≡ Some x → gap_by t y ≡ gap_by t x → map (gap_by t) (slice_set sessions c y) ≡ map (gap_by t) sessions
@@ -76,3 +86,37 @@ move_of state old new step answer is move = subst (λ s. Move s step answer new)
 -- Nothing refuses a step of an equal state.
 pub none_of : (state old : State) (step : Step) (r : Option Refusal) → state ≡ old → r ≡ refusal_of old step → r ≡ None → refusal_of state step ≡ None
 none_of state old step r is says none = ap (λ (s : State). refusal_of s step) is ∙ sym says ∙ none
+
+-- Whether a cursor that noted this change number may be stale.
+abbrev stale_if : State → Owner → Option ℕ → Bool
+stale_if state owner o = elim o as (λ _. Bool) [
+  | None ↦ false
+  | Some noted ↦ not (is_just_placed owner state.placed) && not (noted == state.changes && nat_lt noted (2 ^ 64 - 1))
+]
+
+-- The cursor of its owner that was placed last is not stale.
+pub just_placed : (state : State) (owner : Owner) → state.placed ≡ Some owner → may_be_stale state owner ≡ false
+just_placed state owner placed = at (owner_changes state owner)
+  where
+    own : (owner : Owner) → is_just_placed owner (Some owner) ≡ true
+    own (Caller c) = eq-eqb c c refl
+    own (Helper h) = eq-eqb h h refl
+
+    at : (o : Option ℕ) → stale_if state owner o ≡ false
+    at None = refl
+    at (Some noted) =
+        ap (λ b. not b && not (noted == state.changes && nat_lt noted (2 ^ 64 - 1))) (ap (is_just_placed owner) placed ∙ own owner)
+
+-- A cursor that was not placed last may be stale, if the list cannot be as it was then.
+pub stale_since : (state : State) (owner : Owner) (noted : ℕ) → owner_changes state owner ≡ Some noted
+    → is_just_placed owner state.placed ≡ false → (noted ≡ state.changes → noted < 2 ^ 64 - 1 → ⊥) → may_be_stale state owner ≡ true
+stale_since state owner noted had not_placed moved =
+    ap (stale_if state owner) had ∙ (λ i. not (not_placed i) && not (elsewhere i))
+  where
+    elsewhere : (noted == state.changes && nat_lt noted (2 ^ 64 - 1)) ≡ false
+    elsewhere = elim (cases_Bool (noted == state.changes && nat_lt noted (2 ^ 64 - 1))) [
+      | inr is ↦ is
+      | inl is ↦
+          let parts = and_parts (noted == state.changes) (nat_lt noted (2 ^ 64 - 1)) is in
+          absurd (moved (eqb-true noted state.changes parts.0) (ltb-true noted (2 ^ 64 - 1) parts.1))
+    ]

@@ -1,14 +1,10 @@
 -- The holder that a Busy entry names is one of the callers, so the entries of a core are small.
-use Rattle.std.proofs.Common.{◌≡◌, ℕ, ◌<◌, ◌≤◌, ◌==◌, ◌&&◌, Bool, true, false, not, List, [], ◌∷◌, ◌++◌, arith}
-use Rattle.std.specs.List.{All}
-use Rattle.std.proofs.lemmas.Bool.{false≢true, and_parts, or_cases, eqb-true}
-use Rattle.std.proofs.lemmas.List.{append-nil}
+use Rattle.std.proofs.Common.{◌≡◌, ℕ, ◌<◌, ◌≤◌, ◌==◌, ◌&&◌, Bool, true, false, not, List, [], ◌∷◌, ◌++◌, arith, eqb-true, append-nil, inl, inr}
+use Rattle.boost_core.proofs.Vocabulary.{All, Entry, caller_of, is_began}
+use Rattle.std.proofs.lemmas.Bool.{false≢true, and_parts, or_cases}
 use Rattle.std.proofs.lemmas.List.Elements.{All-head, All-tail}
-use mathlib.Core.Logic.{inl, inr}
-use Rattle.txn_words.specs.declared.entry.Entry.{Entry}
 use Rattle.txn_words.specs.declared.entry.Entry.TheVariants.{Busy}
 use Rattle.txn_words.specs.declared.holder.Holder.TheVariants.{Begun}
-use Rattle.txn_words.specs.Kinds.{caller_of, is_began}
 use Rattle.txn_trace.specs.Locks.{has_begun, is_locked}
 use Rattle.txn_trace.specs.Legal.{IsLegal}
 use Rattle.txn_words.specs.Packed.{holder_in, is_small}

@@ -1,10 +1,7 @@
 -- A cursor still fits if its two nodes are still neighbours.
-use Rattle.std.proofs.Common.{◌≡◌, ℕ, ◌==◌, ◌&&◌, Bool, true, false, inl, inr, List, [], ◌∷◌, ◌++◌, Option, Some, None, refl, sym, ap, subst, ◌∙◌}
-use Rattle.std.specs.Prelude.{not}
-use Rattle.std.specs.Option.{option_map}
-use Rattle.std.specs.List.{AllByRecursion}
-use Rattle.std.proofs.lemmas.Bool.{false≢true, cases_Bool, and_parts, and_from, eq-eqb, eqb-true}
-use Rattle.split_key.specs.Sort.{IsBefore}
+use Rattle.std.proofs.Common.{◌≡◌, ℕ, ◌==◌, ◌&&◌, true, false, inl, inr, List, [], ◌∷◌, ◌++◌, Option, Some, None, refl, sym, ap, subst, ◌∙◌, not, eq-eqb, eqb-true}
+use Rattle.std.proofs.lemmas.Bool.{not-true}
+use Rattle.boost_core.proofs.Vocabulary.{option_map, AllByRecursion, false≢true, cases_Bool, and_parts, and_from, IsBefore}
 use Rattle.node_list.specs.Nodes.{NodeAt, Listing, node_of, next_of, first}
 use Rattle.node_list.specs.Order.{IsRising, IsSpread, IsNodeBefore}
 use Rattle.list_steps.specs.declared.cursor.Cursor.{Cursor}
@@ -16,39 +13,31 @@ use Rattle.boost_core.specs.Core.{node_at}
 use Rattle.boost_core.proofs.NodeLists.{seen, node_here, node_later, none_of_none, order_behind}
 use Rattle.boost_core.proofs.GapLists.{IsStill, Stay, each_at, place_at, next_here, next_later, next_found, one_of_key, apart_keys}
 
--- A noted node is there.
-not_marked : (b : Bool) → not b ≡ true → b ≡ false
-not_marked true is = absurd (false≢true is)
-not_marked false is = refl
-
 noted_node : (o : Option NodeAt) (stamp : ℕ) → is_noted o stamp ≡ true → (n : NodeAt) × (o ≡ Some n) × (n.stamp ≡ stamp) × (n.marked ≡ false)
 noted_node None stamp is = absurd (false≢true is)
 noted_node (Some n) stamp is =
     let parts = and_parts (n.stamp == stamp) (not n.marked) is in
-    (n, refl, eqb-true n.stamp stamp parts.0, not_marked n.marked parts.1)
+    (n, refl, eqb-true n.stamp stamp parts.0, not-true n.marked parts.1)
 
 abbrev pub NextIs : Option NodeAt → Option Noted → Type 0
 NextIs None None = Unit {0}
-NextIs None (Some noted) = ⊥
-NextIs (Some n) None = ⊥
 NextIs (Some n) (Some noted) = (n.place ≡ noted.place) × (n.stamp ≡ noted.stamp) × (n.marked ≡ false)
+NextIs _ _ = ⊥
 
 next_is : (o : Option NodeAt) (noted : Option Noted) → is_next_noted o noted ≡ true → NextIs o noted
 next_is None None is = tt
-next_is None (Some noted) is = false≢true is
-next_is (Some n) None is = false≢true is
 next_is (Some n) (Some noted) is =
     let parts = and_parts (n.place == noted.place) (n.stamp == noted.stamp && not n.marked) is in
     let rest = and_parts (n.stamp == noted.stamp) (not n.marked) parts.1 in
-    (eqb-true n.place noted.place parts.0, eqb-true n.stamp noted.stamp rest.0, not_marked n.marked rest.1)
+    (eqb-true n.place noted.place parts.0, eqb-true n.stamp noted.stamp rest.0, not-true n.marked rest.1)
+next_is _ _ is = false≢true is
 
 next_noted : (o : Option NodeAt) (noted : Option Noted) → NextIs o noted → is_next_noted o noted ≡ true
 next_noted None None is = refl
-next_noted None (Some noted) is = absurd is
-next_noted (Some n) None is = absurd is
 next_noted (Some n) (Some noted) is =
     and_from (n.place == noted.place) (n.stamp == noted.stamp && not n.marked) (eq-eqb n.place noted.place is.0)
     (and_from (n.stamp == noted.stamp) (not n.marked) (eq-eqb n.stamp noted.stamp is.1) (ap not is.2))
+next_noted _ _ is = absurd is
 
 pub record Fit (l : Listing) (c : Cursor) : Type 0 where
   pub pred : NodeAt
@@ -116,15 +105,13 @@ neighbours l c fit = beside l.nodes (pred_of c) fit.pred fit.pred_is fit.live (n
 -- Neighbours are a node and the next one.
 abbrev NextAt : Option NodeAt → Option SortKey → Type 0
 NextAt None None = Unit {0}
-NextAt None (Some at) = ⊥
-NextAt (Some n) None = ⊥
 NextAt (Some n) (Some at) = (n.at ≡ at) × (n.marked ≡ false)
+NextAt _ _ = ⊥
 
 next_first : (rest : List NodeAt) (behind : Option SortKey) → StartsAt (seen rest) behind → NextAt (first rest) behind
 next_first [] None is = tt
-next_first [] (Some at) is = is
-next_first (n ∷ rest) None is = is
 next_first (n ∷ rest) (Some at) is = (ap (λ k. k.at) is, ap (λ k. k.marked) is)
+next_first _ _ is = is
 
 in_middle : (P : Node → Type 0) (front : List Node) (n : Node) (back : List Node) → AllByRecursion P (front ++ n ∷ back) → P n
 in_middle P [] n back each = each.0
@@ -166,8 +153,6 @@ side_by_side (m ∷ rest) place a behind (f ∷ front) back rising is same next 
 module _ (l l' : Listing) (c : Cursor) (spread : IsSpread l.nodes) (rising : IsRising l'.nodes) (stay : Stay l.nodes l'.nodes) (fit : Fit l c) where
   next_still : (o o' : Option NodeAt) (noted : Option Noted) → behind l c ≡ o → behind l' c ≡ o' → NextIs o noted → NextAt o' (key_at o) → NextIs o' noted × (key_at o' ≡ key_at o)
   next_still None None noted was now is at = (is, refl)
-  next_still None (Some n) noted was now is at = absurd at
-  next_still (Some m) None noted was now is at = absurd at
   next_still (Some m) (Some n) None was now is at = absurd is
   next_still (Some m) (Some n) (Some noted) was now is at =
       let still : IsStill l'.nodes m.place m = stay m.place m (next_found l.nodes (pred_of c) m spread was) is.2 in
@@ -179,6 +164,7 @@ module _ (l l' : Listing) (c : Cursor) (spread : IsSpread l.nodes) (rising : IsR
         ),
         ap Some at.0,
       )
+  next_still _ _ noted was now is at = absurd at
 
   pub still_fits : AreNeighbours (seen l'.nodes) (record { before = fit.pred.at; behind = key_at (behind l c) }) → (now : Fit l' c) × (now.pred.at ≡ fit.pred.at) × (key_at (behind l' c) ≡ key_at (behind l c))
   still_fits near =

@@ -1,8 +1,6 @@
 -- The changes to a list of nodes, as the core's contracts see it.
-use Rattle.std.proofs.Common.{◌≡◌, ℕ, ◌==◌, true, false, cond, inl, inr, List, [], ◌∷◌, ◌++◌, Option, Some, refl, sym, ap, ◌∙◌}
-use Rattle.std.specs.Prelude.{map, not, filter}
-use Rattle.std.specs.List.{AllByRecursion}
-use Rattle.std.proofs.lemmas.Bool.{false≢true, cases_Bool, eq-eqb}
+use Rattle.std.proofs.Common.{◌≡◌, ℕ, ◌==◌, true, false, cond, inl, inr, List, [], ◌∷◌, ◌++◌, Option, Some, refl, sym, ap, ◌∙◌, map, not, filter, eq-eqb}
+use Rattle.boost_core.proofs.Vocabulary.{AllByRecursion, false≢true, cases_Bool}
 use Rattle.split_key.specs.Sort.{is_before, IsBefore}
 use Rattle.node_list.specs.Nodes.{NodeAt, IsLinked, node_of, linked_after, changed_at, written_at}
 use Rattle.node_list.specs.Order.{IsRising, IsNodeBefore}

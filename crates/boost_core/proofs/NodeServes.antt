@@ -1,19 +1,12 @@
 -- The effect of each step that is no caller's on the nodes, the change number and the last stamp.
-use Rattle.std.proofs.Common.{◌≡◌, ◌≢◌, ℕ, Option, Some, Result, Ok, Err, refl, sym, ap, subst, ◌∙◌}
-use Rattle.std.specs.Prelude.{unwrap_or}
+use Rattle.std.proofs.Common.{◌≡◌, ◌≢◌, ℕ, Option, Some, Result, Ok, Err, refl, sym, ap, subst, ◌∙◌, unwrap_or}
 use Rattle.std.specs.List.{slice_get}
-use Rattle.split_key.specs.Sort.{dummy_at}
+use Rattle.boost_core.proofs.Vocabulary.{dummy_at, Step, Answer, InitSeek, InitLink, Refusal, SweepOutcome}
 use Rattle.bucket_table.specs.Dummies.{dummy_node}
-use Rattle.txn_words.specs.declared.step.Step.{Step}
 use Rattle.txn_words.specs.declared.step.Step.TheVariants as steps
-use Rattle.txn_words.specs.declared.answer.Answer.{Answer}
-use Rattle.map_ops.specs.InitSeek.{InitSeek}
 use Rattle.map_ops.specs.InitSeek.TheVariants as seeks
-use Rattle.map_ops.specs.InitLink.{InitLink}
 use Rattle.map_ops.specs.InitLink.TheVariants as links
-use Rattle.txn_words.specs.declared.refusal.Refusal.{Refusal}
 use Rattle.txn_words.specs.declared.refusal.Refusal.TheVariants as refusals
-use Rattle.map_ops.specs.SweepOutcome.{SweepOutcome}
 use Rattle.map_ops.specs.SweepOutcome.TheVariants as outcomes
 use Rattle.map_ops.specs.Changes.{Sweeps}
 use Rattle.map_ops.specs.Buckets.{SeekChanges, SeekWrites, LinkChanges, LinkWrites, helper_fits, link_answer_of, parent_of}
@@ -21,7 +14,7 @@ use Rattle.map_ops.specs.TableAt.{Help, Nothing, Sought, NamesDummies, nodes_of,
 use Rattle.boost_core.specs.State.{help_in, bucket_at}
 use Rattle.boost_core.specs.Nodes.{Links, Lists}
 use Rattle.boost_core.specs.Serves as said
-use Rattle.boost_core.specs.Serves.{Serves, Sweeping, Seeking, Linking}
+use Rattle.boost_core.specs.Serves.{Serves, Sweeping}
 use Rattle.boost_core.specs.Core.{World, state_of}
 use Rattle.boost_core.proofs.Linking.{has_sought}
 use Rattle.boost_core.proofs.NodeLists as lists

@@ -1,48 +1,30 @@
 -- The effect of each step on the nodes, the change number and the last stamp.
-use Rattle.std.proofs.Common.{◌≡◌, ◌⊎◌, ℕ, ◌+◌, ◌-◌, ◌%◌, ◌<◌, Bool, true, false, cond, List, [], ◌∷◌, ◌++◌, length, Option, Some, None, is_some, inl, inr, refl, sym, ap, subst, ◌∙◌, arith}
-use Rattle.std.specs.Prelude.{reverse, slice_get, unwrap_or, nat_lt, nat_eq, IsSome}
-use Rattle.std.specs.Option.{option_map, option_eq}
-use Rattle.std.proofs.lemmas.Bool.{false≢true, cases_Bool, ltb-true}
+use Rattle.std.proofs.Common.{◌≡◌, ◌⊎◌, ℕ, ◌+◌, ◌-◌, ◌%◌, ◌<◌, Bool, true, false, cond, List, [], ◌∷◌, ◌++◌, length, Option, Some, None, is_some, inl, inr, refl, sym, ap, subst, ◌∙◌, arith, reverse, slice_get, unwrap_or, nat_lt, nat_eq, IsSome, ltb-true}
+use Rattle.boost_core.proofs.Vocabulary.{option_map, option_eq, false≢true, cases_Bool, slice_get-map, unwrap_or-slice_get, regular_at, Op, Put, Take, Get, PutIf, Refusal, Step, Answer, Phase, Waiting, LeavingTo, LeavingToEnd, Map, get, key_of, now, log_of, stripe_of, Seat, kept_at, newest_above, MapJob, Unput, Restore, Relink}
 use Rattle.std.proofs.lemmas.List.{length-map, reverse-append}
-use Rattle.std.proofs.lemmas.Option.{slice_get-map, unwrap_or-slice_get}
 use Rattle.split_key.specs.Split.{ancestor_of}
-use Rattle.split_key.specs.Sort.{regular_at}
 use Rattle.node_list.specs.Nodes.{NodeAt, changes_after}
 use Rattle.list_steps.specs.Seek.{sought}
 use Rattle.bucket_table.specs.Directory as directories
 use Rattle.bucket_table.specs.Dummies.{IsDummyAt}
-use Rattle.txn_words.specs.declared.op.Op.{Op}
-use Rattle.txn_words.specs.declared.op.Op.TheVariants.{Put, Take, Get, PutIf}
-use Rattle.txn_words.specs.declared.refusal.Refusal.{Refusal}
 use Rattle.txn_words.specs.declared.refusal.Refusal.TheVariants as refusals
-use Rattle.txn_words.specs.declared.step.Step.{Step}
 use Rattle.txn_words.specs.declared.step.Step.TheVariants as steps
-use Rattle.txn_words.specs.declared.answer.Answer.{Answer}
 use Rattle.txn_words.specs.declared.answer.Answer.TheVariants as answers
-use Rattle.txn_words.specs.declared.seat.Phase.{Phase}
-use Rattle.txn_words.specs.declared.seat.Phase.TheVariants.{Closed, Opened, Waiting, LeavingTo, LeavingToEnd}
-use Rattle.txn_words.specs.Map.{Map, get, key_of}
-use Rattle.txn_trace.specs.Now.{now}
-use Rattle.txn_trace.specs.Log.{log_of}
-use Rattle.txn_trace.specs.Locks.{stripe_of}
-use Rattle.txn_words.specs.Shape.{Seat}
-use Rattle.undo_log.specs.UndoLog.{kept_at, newest_above}
-use Rattle.map_ops.specs.declared.job.MapJob.{MapJob}
-use Rattle.map_ops.specs.declared.job.MapJob.TheVariants.{Unput, Restore, Relink}
 use Rattle.map_ops.specs.Jobs.{PendingAt, key_of_job, value_before, takes_node, IsDue}
 use Rattle.map_ops.specs.TableAt.{TableAt, SpareAt, KeepsNodes, KeepsList, NamesDummies, content, nodes_of, size_of, stored_of, table_changes, last_of}
-use Rattle.map_ops.specs.Changes.{GivesFor, SeeksNear, IsRefused}
+use Rattle.map_ops.specs.Changes.{SeeksNear, IsRefused}
 use Rattle.map_ops.specs.Nodes as writes
 use Rattle.boost_core.specs.declared.session.Session.{Session}
 use Rattle.boost_core.specs.State.{State, Caller, is_set, seat_in}
 use Rattle.boost_core.specs.Refusals.{owner_of}
 use Rattle.boost_core.specs.Nodes.{Touches, stamp_after, Keeps, Writes, Links, Marks, SeeksFrom, SeeksKey, IsNearest, Changes, PutsIf, OpDoes, OpDoesIn, BackDoes, Lists, key_in, next_key, newest_key}
 use Rattle.boost_core.specs.Sessions.{Does, ActsIn, DoesIn, TakesBackIn, SeeksIn, IsAsked, AsksBy, unless_busy, Waits, AreDue, key_of_newest, target_in, target_of, changes_of}
-use Rattle.boost_core.specs.Words.{Claim, Lock, Right, Held, Stale, IsClaim, ListsAsk, ListsBy, stamp_by}
+use Rattle.boost_core.specs.Words.{Claim, Lock, Right, IsClaim, ListsAsk, ListsBy, stamp_by}
 use Rattle.boost_core.specs.Core.{World, Tells, state_of, node_at}
+use Rattle.boost_core.proofs.Given.{given_for}
 use Rattle.boost_core.proofs.NodeLists.{seen, inserted, replaced, written_seen, seeks_from}
 use Rattle.boost_core.proofs.Outcomes.{is_stale_word}
-use Rattle.boost_core.proofs.Refused.{seat_here}
+use Rattle.boost_core.proofs.Refused.{caller_in, seat_here}
 use Rattle.boost_core.proofs.Sides.{last_job, at_last, changes_last, waiting_op}
 
 -- The changes to the list from an equal state.
@@ -52,9 +34,12 @@ lists_of state old new step answer is lists = subst (λ s. Lists s step answer n
 pub lists_by_of : (claim : Claim) (state old new : State) (step : Step) (answer : Answer) → state ≡ old → ListsBy claim state step answer new → ListsBy claim old step answer new
 lists_by_of claim state old new step answer is lists = subst (λ s. ListsBy claim s step answer new) is lists
 
--- Nothing has changed if the list, or its nodes, are unchanged.
+-- Nothing has changed if the list, the table, or the nodes are unchanged.
 pub kept : (w w' : World) → KeepsList w.table w'.table → Keeps (state_of w) (state_of w')
 kept w w' same = record { nodes = ap (λ l. seen l.nodes) same; changes = ap (λ l. l.changes) same }
+
+same : (w w' : World) → w'.table ≡ w.table → Keeps (state_of w) (state_of w')
+same w w' is = kept w w' (ap (λ t. t.list) is)
 
 pub rested : (w w' : World) → KeepsNodes w.table w'.table → Keeps (state_of w) (state_of w')
 rested w w' keeps = record { nodes = ap seen keeps.all; changes = keeps.changes }
@@ -164,13 +149,6 @@ taken_back w w' (Unput key) due is = unput w w' key (get (now w.history) key) du
 taken_back w w' (Restore key was) due is = restored w w' key was (get (now w.history) key) due is
 taken_back w w' (Relink key was spare) due is = subst (λ (o : Option ℕ). Changes (state_of w) (state_of w') key o (Some was)) (sym due) (links w w' (writes.node_for key was spare) refl is)
 
--- The stamp of a spare that is given.
-given_last : (t t' : TableAt) (node : Bool) (spare : Option SpareAt) → GivesFor t t' node spare → last_of t' ≡ cond node (last_of t + 1) (last_of t)
-given_last t t' true None is = absurd is
-given_last t t' true (Some spare) is = is.last
-given_last t t' false None is = ap last_of is
-given_last t t' false (Some spare) is = absurd is
-
 module _ (w : World) (tells : Tells w) (c : ℕ) (x : Session) (at : slice_get w.sessions c ≡ Some x) where
   here : seat_in w.history c ≡ x.seat.seat
   here = seat_here w tells c x at
@@ -190,11 +168,10 @@ module _ (w : World) (tells : Tells w) (c : ℕ) (x : Session) (at : slice_get w
   ]
 
   key_is : (q : Phase) (key : ℕ) → target_in q x.log ≡ Some key → key_in q (changes_of x.log.jobs) ≡ key
-  key_is Closed key is = absurd (cc (is))
-  key_is Opened key is = absurd (cc (is))
   key_is (Waiting op) key is = cc (is)
   key_is (LeavingTo level) key is = newest_first level key is
   key_is LeavingToEnd key is = newest_first 0 key is
+  key_is _ key is = absurd (cc (is))
 
   pub next_is : (key : ℕ) → target_of x ≡ Some key → next_key (state_of w) c ≡ key
   next_is key is = (λ i. key_in (here i).phase (log_is i)) ∙ key_is x.seat.seat.phase key is
@@ -215,17 +192,17 @@ module _ (w : World) (tells : Tells w) (c : ℕ) (x : Session) (at : slice_get w
       (taken_back w w' is.job due.0 is.writes)
 
   module _ (w' : World) (y : Session) (locks' : List (Option ℕ)) where
-    -- The table is unchanged, or its nodes and its last stamp are.
-    same : w'.table ≡ w.table → Keeps (state_of w) (state_of w')
-    same is = kept w w' (ap (λ t. t.list) is)
-
     asked : (op : Op) (stripe : ℕ) (answer : Answer) → IsAsked c stripe op x w.table w.locks answer y w'.table locks' → Lists (state_of w) (steps.Ask c op) answer (state_of w')
-    asked op stripe answers.Asked is = record { nodes = rested w w' is.prepares.nodes; stamp = given_last w.table w'.table (takes_node op) is.pending.spare is.prepares.given }
+    asked op stripe answers.Asked is =
+        record {
+          nodes = rested w w' is.prepares.nodes;
+          stamp = (given_for w.table w'.table (takes_node op) is.pending.spare is.prepares.given).last;
+        }
     asked op stripe (answers.Busy holder) is = record {
       nodes = record { nodes = ap seen is.back.nodes.all ∙ ap seen is.prepares.nodes.all; changes = is.back.nodes.changes ∙ is.prepares.nodes.changes };
-      stamp = is.back.last ∙ given_last w.table is.between (takes_node op) is.pending.spare is.prepares.given;
+      stamp = is.back.last ∙ (given_for w.table is.between (takes_node op) is.pending.spare is.prepares.given).last;
     }
-    asked op stripe (answers.Refused refusal) is = record { nodes = same is.2; stamp = ap last_of is.2 }
+    asked op stripe (answers.Refused refusal) is = record { nodes = same w w' is.2; stamp = ap last_of is.2 }
     asked op stripe _ is = absurd is
 
     not_stale : (op : Op) → (refusals.StaleWord ≡ refusals.NoMemory) ⊎ IsRefused w.table op refusals.StaleWord → ⊥
@@ -237,81 +214,67 @@ module _ (w : World) (tells : Tells w) (c : ℕ) (x : Session) (at : slice_get w
     asked_with op stripe answers.Asked is = let lists = asked op stripe answers.Asked is in record { nodes = lists.nodes; stamp = lists.stamp }
     asked_with op stripe (answers.Busy holder) is = let lists = asked op stripe (answers.Busy holder) is in record { nodes = lists.nodes; stamp = lists.stamp }
     asked_with op stripe (answers.Refused refusals.StaleWord) is = absurd (not_stale op is.0)
-    asked_with op stripe (answers.Refused _) is = record { nodes = same is.2; stamp = ap last_of is.2 }
+    asked_with op stripe (answers.Refused _) is = record { nodes = same w w' is.2; stamp = ap last_of is.2 }
     asked_with op stripe _ is = absurd is
 
     asked_by : (claim : Claim) (op : Op) (stripe : ℕ) (answer : Answer) → AsksBy claim c stripe op x w.table w.locks answer y w'.table locks' → ListsBy claim (state_of w) (steps.Ask c op) answer (state_of w')
     asked_by Lock op stripe answer is = asked op stripe answer is
     asked_by Right op stripe answer is = subst (λ a. ListsAsk Right (state_of w) (steps.Ask c op) a (state_of w')) (sym is.1) (asked_with op stripe is.0 is.2)
-    asked_by (Held named) op stripe answer is = subst (λ a. ListsAsk (Held named) (state_of w) (steps.Ask c op) a (state_of w')) (sym is.0) (record { nodes = same is.2; stamp = ap last_of is.2 })
-    asked_by Stale op stripe answer is = subst (λ a. ListsAsk Stale (state_of w) (steps.Ask c op) a (state_of w')) (sym is.0) (record { nodes = same is.2; stamp = ap last_of is.2 })
+    asked_by claim op stripe answer is =
+        subst (λ a. ListsAsk claim (state_of w) (steps.Ask c op) a (state_of w')) (sym is.0)
+        (record { nodes = same w w' is.2; stamp = ap last_of is.2 })
 
     acted : (answer : Answer) → ActsIn c x w.table w.locks answer y w'.table locks' → Lists (state_of w) (steps.Act c) answer (state_of w')
-    acted answers.Again is = record { nodes = same is.1.table; stamp = ap last_of is.1.table }
+    acted answers.Again is = record { nodes = same w w' is.1.table; stamp = ap last_of is.1.table }
     acted (answers.Done reply) is = record { nodes = done w' reply y is.0; stamp = is.0.does.last }
     acted answers.Undone is = record { nodes = undone w' y is.1; stamp = is.1.back.last }
-    acted (answers.Returned n) is = record { nodes = same is.2; stamp = ap last_of is.2 }
-    acted answers.Aborted is = record { nodes = same is.2; stamp = ap last_of is.2 }
+    acted (answers.Returned n) is = record { nodes = same w w' is.2; stamp = ap last_of is.2 }
+    acted answers.Aborted is = record { nodes = same w w' is.2; stamp = ap last_of is.2 }
     acted _ is = absurd is
 
-    -- The effect on the list of each step of a caller that claims no word.
-    locked : NamesDummies w.table → (stripes : ℕ) (step : Step) → owner_of step ≡ Some (Caller c) → (answer : Answer) → Does Lock stripes w.counts step x w.table w.locks answer y w'.table locks' → Lists (state_of w) step answer (state_of w')
-    locked home stripes (steps.Begin d) owner (answers.Began n) is = record { nodes = same is.2; stamp = ap last_of is.2 }
-    locked home stripes (steps.Begin d) owner _ is = absurd is
-    locked home stripes (steps.Ask d op) owner answer is =
-        let own : d ≡ c = cc (owner) in
-        subst (λ k. Lists (state_of w) (steps.Ask k op) answer (state_of w')) (sym own)
-        (asked op (stripe_of stripes (key_of op)) answer (subst (λ k. IsAsked k (stripe_of stripes (key_of op)) op x w.table w.locks answer y w'.table locks') own is))
-    locked home stripes (steps.Seek d) owner answers.Placed is =
-        let own : d ≡ c = cc (owner) in
-        subst (λ k. Lists (state_of w) (steps.Seek k) answers.Placed (state_of w')) (sym own) (record { nodes = sought_key w' y home is.0; stamp = is.0.places.keeps.last })
-    locked home stripes (steps.Seek d) owner _ is = absurd is
-    locked home stripes (steps.Act d) owner answer is =
-        let own : d ≡ c = cc (owner) in
-        subst (λ k. Lists (state_of w) (steps.Act k) answer (state_of w')) (sym own) (acted answer (subst (λ k. ActsIn k x w.table w.locks answer y w'.table locks') own is))
-    locked home stripes (steps.Save d) owner answer is = record { nodes = same is.1; stamp = ap last_of is.1 }
-    locked home stripes (steps.Back d n) owner answers.Leaving is = record { nodes = same is.1; stamp = ap last_of is.1 }
-    locked home stripes (steps.Back d n) owner _ is = absurd is
-    locked home stripes (steps.Commit d) owner (answers.Committed p) is = record { nodes = rested w w' is.1.rests.nodes; stamp = is.1.rests.last }
-    locked home stripes (steps.Commit d) owner _ is = absurd is
-    locked home stripes (steps.Abort d) owner answers.Leaving is = record { nodes = rested w w' is.0.rests.nodes; stamp = is.0.rests.last }
-    locked home stripes (steps.Abort d) owner _ is = absurd is
-    locked home stripes _ owner answer is = absurd is
+-- The effect on the list of each step of a caller that claims no word, and by its claim.
+module _ (w : World) (tells : Tells w) (x : Session) (w' : World) (y : Session) (locks' : List (Option ℕ)) where
+  locked : NamesDummies w.table → (stripes : ℕ) (step : Step) → slice_get w.sessions (caller_in (owner_of step)) ≡ Some x
+      → (answer : Answer) → Does Lock stripes w.counts step x w.table w.locks answer y w'.table locks'
+      → Lists (state_of w) step answer (state_of w')
+  locked home stripes (steps.Begin c) at (answers.Began n) is = record { nodes = same w w' is.2; stamp = ap last_of is.2 }
+  locked home stripes (steps.Ask c op) at answer is = asked w tells c x at w' y locks' op (stripe_of stripes (key_of op)) answer is
+  locked home stripes (steps.Seek c) at answers.Placed is =
+      record { nodes = sought_key w tells c x at w' y home is.0; stamp = is.0.places.keeps.last }
+  locked home stripes (steps.Act c) at answer is = acted w tells c x at w' y locks' answer is
+  locked home stripes (steps.Save c) at answer is = record { nodes = same w w' is.1; stamp = ap last_of is.1 }
+  locked home stripes (steps.Back c n) at answers.Leaving is = record { nodes = same w w' is.1; stamp = ap last_of is.1 }
+  locked home stripes (steps.Commit c) at (answers.Committed p) is =
+      record { nodes = rested w w' is.1.rests.nodes; stamp = is.1.rests.last }
+  locked home stripes (steps.Abort c) at answers.Leaving is = record { nodes = rested w w' is.0.rests.nodes; stamp = is.0.rests.last }
+  locked home stripes _ at _ is = absurd is
 
-    asks : (claim : Claim) (stripes d : ℕ) (op : Op) → owner_of (steps.Ask d op) ≡ Some (Caller c) → (answer : Answer) → AsksBy claim d (stripe_of stripes (key_of op)) op x w.table w.locks answer y w'.table locks' → ListsBy claim (state_of w) (steps.Ask d op) answer (state_of w')
-    asks claim stripes d op owner answer is =
-        let own : d ≡ c = cc (owner) in
-        subst (λ k. ListsBy claim (state_of w) (steps.Ask k op) answer (state_of w')) (sym own)
-        (asked_by claim op (stripe_of stripes (key_of op)) answer (subst (λ k. AsksBy claim k (stripe_of stripes (key_of op)) op x w.table w.locks answer y w'.table locks') own is))
+  claimed : NamesDummies w.table → (claim : Claim) (stripes : ℕ) (step : Step) → slice_get w.sessions (caller_in (owner_of step)) ≡ Some x
+      → IsClaim claim (state_of w) step → (answer : Answer) → Does claim stripes w.counts step x w.table w.locks answer y w'.table locks'
+      → ListsBy claim (state_of w) step answer (state_of w')
+  claimed home Lock stripes step at claims answer is = locked home stripes step at answer is
+  claimed home claim stripes (steps.Ask c op) at claims answer is =
+      asked_by w tells c x at w' y locks' claim op (stripe_of stripes (key_of op)) answer is
+  claimed home _ stripes _ at claims answer is = absurd claims
 
-    -- The effect on the list of each step of a caller, by its claim.
-    pub does : NamesDummies w.table → (claim : Claim) (stripes : ℕ) (step : Step) → owner_of step ≡ Some (Caller c) → IsClaim claim (state_of w) step → (answer : Answer) → Does claim stripes w.counts step x w.table w.locks answer y w'.table locks' → ListsBy claim (state_of w) step answer (state_of w')
-    does home Lock stripes step owner claims answer is = locked home stripes step owner answer is
-    does home Right stripes (steps.Ask d op) owner claims answer is = asks Right stripes d op owner answer is
-    does home Right stripes _ owner claims answer is = absurd claims
-    does home (Held named) stripes (steps.Ask d op) owner claims answer is = asks (Held named) stripes d op owner answer is
-    does home (Held named) stripes _ owner claims answer is = absurd claims
-    does home Stale stripes (steps.Ask d op) owner claims answer is = asks Stale stripes d op owner answer is
-    does home Stale stripes _ owner claims answer is = absurd claims
+  pub does : NamesDummies w.table → (claim : Claim) (stripes c : ℕ) → slice_get w.sessions c ≡ Some x → (step : Step)
+      → owner_of step ≡ Some (Caller c) → IsClaim claim (state_of w) step → (answer : Answer)
+      → Does claim stripes w.counts step x w.table w.locks answer y w'.table locks' → ListsBy claim (state_of w) step answer (state_of w')
+  does home claim stripes c at step owner claims answer is =
+      claimed home claim stripes step (subst (λ k. slice_get w.sessions k ≡ Some x) (sym (ap caller_in owner)) at) claims answer is
 
 -- The effect on the list of a refusal by a test: none.
 touched : (old new : State) (step : Step) (refusal : Refusal) → Keeps old new → Touches old step (answers.Refused refusal) new
 touched old new (steps.Seek c) refusal keeps = keeps
-touched old new (steps.Act c) refusal keeps = keeps
-touched old new steps.Sweep refusal keeps = keeps
-touched old new (steps.InitSeek h b) refusal keeps = keeps
-touched old new (steps.InitLink h) refusal keeps = keeps
 touched old new _ refusal keeps = keeps
 
 stamp_stays : (stamp : ℕ) (step : Step) (refusal : Refusal) → stamp_after stamp step (answers.Refused refusal) ≡ stamp
 stamp_stays stamp (steps.Ask c op) refusal = refl
-stamp_stays stamp (steps.InitLink h) refusal = refl
 stamp_stays stamp _ refusal = refl
 
 right_stays : (stamp : ℕ) (step : Step) (refusal : Refusal) → is_stale_word refusal ≡ false → stamp_by Right stamp step (answers.Refused refusal) ≡ stamp
 right_stays stamp (steps.Ask c op) refusals.StaleWord early = absurd (false≢true (sym early))
 right_stays stamp (steps.Ask c op) _ early = refl
-right_stays stamp (steps.InitLink h) refusal early = refl
 right_stays stamp _ refusal early = refl
 
 pub refused_lists : (claim : Claim) (old new : State) (step : Step) (refusal : Refusal) → (claim ≡ Lock) ⊎ (is_stale_word refusal ≡ false) → Keeps old new → new.stamp ≡ old.stamp → ListsBy claim old step (answers.Refused refusal) new
@@ -322,5 +285,4 @@ refused_lists claim old new step refusal (inr early) keeps same = by claim
     by : (claim : Claim) → ListsBy claim old step (answers.Refused refusal) new
     by Lock = record { nodes = touched old new step refusal keeps; stamp = same ∙ sym (stamp_stays old.stamp step refusal) }
     by Right = record { nodes = touched old new step refusal keeps; stamp = same ∙ sym (right_stays old.stamp step refusal early) }
-    by (Held named) = record { nodes = touched old new step refusal keeps; stamp = same }
-    by Stale = record { nodes = touched old new step refusal keeps; stamp = same }
+    by _ = record { nodes = touched old new step refusal keeps; stamp = same }

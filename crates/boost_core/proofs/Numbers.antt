@@ -2,8 +2,7 @@
 use Rattle.std.proofs.Common.{◌≡◌, ◌+◌, ◌≤◌, ℕ, Bool, true, false, Result, Ok, Err, List, length, arith}
 use Rattle.std.specs.Result.{is_err, OnOk, OnErr}
 use Rattle.std.proofs.lemmas.List.Sums.{length-filter, count_by-le-length}
-use Rattle.txn_words.specs.declared.entry.Entry.{Entry}
-use Rattle.txn_words.specs.Kinds.{is_began, is_commit}
+use Rattle.boost_core.proofs.Vocabulary.{Entry, is_began, is_commit}
 use Rattle.txn_words.specs.Shape.{how_many}
 use Rattle.boost_core.specs.Core.{World, Tells}
 

@@ -1,43 +1,25 @@
 -- The outcome of a step of a caller: the invariants of the core after it, and the move.
-use Rattle.std.proofs.Common.{◌≡◌, ◌⊎◌, inl, inr, ℕ, ◌+◌, ◌-◌, ◌<◌, ◌≤◌, ◌^◌, Bool, true, false, cond, refl, List, [], ◌∷◌, ◌++◌, length, Option, Some, None, sym, ap, subst, ◌∙◌, arith}
-use Rattle.std.specs.Prelude.{map, slice_get, slice_set, sum_by, option_to_list}
-use Rattle.std.specs.List.{AllByRecursion}
-use Rattle.std.proofs.lemmas.Bool.{false≢true}
-use Rattle.std.proofs.lemmas.List.{append-nil}
-use Rattle.std.proofs.lemmas.Option.{slice_get_within}
-use Rattle.txn_words.specs.declared.entry.Entry.{Entry}
-use Rattle.txn_words.specs.declared.entry.Entry.TheVariants as entry
-use Rattle.txn_words.specs.declared.step.Step.{Step}
+use Rattle.std.proofs.Common.{◌≡◌, ◌⊎◌, inl, inr, ℕ, ◌+◌, ◌-◌, ◌<◌, ◌≤◌, ◌^◌, Bool, true, false, cond, refl, List, [], ◌∷◌, ◌++◌, length, Option, Some, None, sym, ap, subst, ◌∙◌, arith, map, slice_get, slice_set, sum_by, option_to_list, append-nil}
+use Rattle.boost_core.proofs.Vocabulary.{option_map, AllByRecursion, false≢true, slice_get_within, Entry, Step, Answer, Phase, Closed, caller_of, Seat, RoomySeat, row, own, Op, Put, Refusal, IsLevelIn, seat_leveled, TableAt, cursor_changes, table_changes, last_of}
 use Rattle.txn_words.specs.declared.step.Step.TheVariants as steps
-use Rattle.txn_words.specs.declared.answer.Answer.{Answer}
 use Rattle.txn_words.specs.declared.answer.Answer.TheVariants as answers
 use Rattle.txn_words.specs.Entries.{entries_of}
-use Rattle.txn_words.specs.declared.seat.Phase.{Phase}
-use Rattle.txn_words.specs.declared.seat.Phase.TheVariants.{Closed, Opened, Waiting, LeavingTo, LeavingToEnd}
-use Rattle.txn_words.specs.Kinds.{caller_of}
-use Rattle.txn_words.specs.Shape.{Seat, RoomySeat, row, own}
-use Rattle.txn_words.specs.declared.op.Op.{Op}
-use Rattle.txn_words.specs.declared.op.Op.TheVariants.{Put, Take, Get, PutIf}
-use Rattle.txn_words.specs.declared.refusal.Refusal.{Refusal}
 use Rattle.txn_words.specs.declared.refusal.Refusal.TheVariants.{NoMemory, StampsUsedUp, StaleWord}
 use Rattle.boost_core.specs.Refusals.{refusal_of, tests_of, owner_of, first_of}
 use Rattle.txn_words.specs.Owed.{owed_in, owed_by, reserved}
-use Rattle.txn_words.proofs.Levels.{IsLevelIn, seat_leveled}
-use Rattle.txn_trace.proofs.Room.{reserved_for, owed_by-row}
-use Rattle.map_ops.specs.TableAt.{TableAt, table_changes, last_of}
+use Rattle.txn_trace.proofs.Room.{reserved_for, reserved_enough, owed_by-row}
 use Rattle.boost_core.specs.declared.counts.Counts.{Counts}
 use Rattle.boost_core.specs.declared.session.Session.{Session}
-use Rattle.boost_core.specs.State.{State}
 use Rattle.boost_core.specs.Counts.{counts_after}
 use Rattle.boost_core.specs.Placed.{placed_then}
 use Rattle.boost_core.specs.Answers.{keeps_list, after}
-use Rattle.boost_core.specs.Machine.{Move, IsAllowed}
-use Rattle.boost_core.specs.Words.{Claim, Lock, Right, Held, Stale, Goes, IsClaim, may_come, reserved_by}
+use Rattle.boost_core.specs.Machine.{Move, IsAllowed, State}
+use Rattle.boost_core.specs.Words.{Claim, Lock, Right, Held, Goes, IsClaim, may_come, reserved_by}
 use Rattle.boost_core.specs.Adding.{Enters, CanAdd}
 use Rattle.boost_core.specs.Sessions.{Side, owed_of}
-use Rattle.boost_core.specs.Core.{World, Tells, IsFresh, state_of, nodes_at, gap_by, helper_gaps_of}
+use Rattle.boost_core.specs.Core.{World, Tells, IsFresh, state_of, nodes_at, gap_by, helper_gaps_of, session_changes}
 use Rattle.boost_core.proofs.Named.{grown_small}
-use Rattle.boost_core.proofs.Moves.{Runs, lacks, refused}
+use Rattle.boost_core.proofs.Moves.{Runs, lacks, refused, state_is, changes_set}
 use Rattle.boost_core.proofs.Grow.{Grows, Stays, world_after, seated_as, row_there, grown, stayed, sum_changed, one_of_sum}
 
 -- One more entry, or none.
@@ -66,6 +48,33 @@ move_is w w' step answer allowed is runs kept = record {
   list_kept = kept;
   stamp = runs.last;
   one_stamp = runs.one_last;
+}
+
+-- The outcome of a step that adds an entry and places no cursor.
+pub entered : (w : World) (c : ℕ) (x y : Session) (t' : TableAt) (locks' : List (Option ℕ)) (step : Step) (answer : Answer) (e : Entry)
+    (cursors : List (Option ℕ)) → entries_of step answer ≡ e ∷ [] → placed_then w.placed step answer ≡ None
+    → after (state_of w) step answer (table_changes t') (last_of t') ≡ record (state_of w) {
+      history = w.history ++ entries_of step answer;
+      changes = table_changes t';
+      stamp = last_of t';
+      cursors = cursors;
+      placed = placed_then w.placed step answer;
+    }
+    → slice_set (map session_changes w.sessions) c None ≡ cursors → IsAllowed (state_of w) step answer → Runs w.table t'
+    → (keeps_list answer ≡ true → table_changes t' ≡ table_changes w.table)
+    → Grows w c x y t' locks' (counts_after w.counts answer) e → Called w c x step answer y t' locks'
+entered w c x y t' locks' step answer e cursors one unplaced after_is dropped allowed runs kept grows = record {
+  comes = subst (Comes w c x y t' locks' (counts_after w.counts answer)) (sym one) grows;
+  move = λ seat'. move_is w (world_after w c (seated_as y seat') (w.history ++ entries_of step answer)
+      (counts_after w.counts answer) t' locks' (placed_then w.placed step answer)) step answer allowed
+      (state_is w (w.history ++ entries_of step answer) (w.history ++ entries_of step answer) (counts_after w.counts answer) t' cursors
+      (slice_set w.sessions c (seated_as y seat')) locks' (placed_then w.placed step answer) runs refl
+      (changes_set w.sessions c (seated_as y seat') None (ap (λ (s : Side). option_map cursor_changes s.cursor) grows.becomes) ∙ dropped)
+      ∙ ap (λ (s : State). record s
+      { nodes = nodes_at t'; gaps = map (gap_by t') (slice_set w.sessions c (seated_as y seat')); helper_gaps = helper_gaps_of t' })
+      (sym after_is))
+      runs kept;
+  fresh = λ seat'. subst (IsFresh t' (slice_set w.sessions c (seated_as y seat'))) (sym unplaced) tt;
 }
 
 -- A claim for a step of an equal state.
@@ -106,42 +115,30 @@ ask_early state c op refusal is = first_early (tests_of state (owner_of (steps.A
 may_refuse : (claim : Claim) (refusal : Refusal) → is_late refusal ≡ false → may_come claim (answers.Refused refusal) ≡ true
 may_refuse Lock refusal early = refl
 may_refuse Right refusal early = refl
-may_refuse (Held named) NoMemory early = absurd (false≢true (sym early))
-may_refuse (Held named) StampsUsedUp early = absurd (false≢true (sym early))
-may_refuse (Held named) _ early = refl
-may_refuse Stale NoMemory early = absurd (false≢true (sym early))
-may_refuse Stale StampsUsedUp early = absurd (false≢true (sym early))
-may_refuse Stale _ early = refl
+may_refuse _ NoMemory early = absurd (false≢true (sym early))
+may_refuse _ StampsUsedUp early = absurd (false≢true (sym early))
+may_refuse _ _ early = refl
 
 goes_early : (claim : Claim) (state : State) (step : Step) (refusal : Refusal) → is_late refusal ≡ false → Move state step (answers.Refused refusal) state → Goes claim state step (answers.Refused refusal) state
 goes_early Lock state step refusal early move = move
-goes_early Right state step refusal early move = inr (may_refuse Right refusal early, move)
-goes_early (Held named) state step refusal early move = inr (may_refuse (Held named) refusal early, move)
-goes_early Stale state step refusal early move = inr (may_refuse Stale refusal early, move)
+goes_early claim state step refusal early move = inr (may_refuse claim refusal early, move)
 
 -- Memory is refused only if the claim reserves something.
 pub goes_lacking : (claim : Claim) (state : State) (step : Step) → 0 < reserved_by claim step → Move state step (answers.Refused NoMemory) state → Goes claim state step (answers.Refused NoMemory) state
 goes_lacking Lock state step some move = move
 goes_lacking Right state step some move = inr (refl, move)
-goes_lacking (Held named) state step some move = absurd (omega arith)
-goes_lacking Stale state step some move = absurd (omega arith)
+goes_lacking _ state step some move = absurd (omega arith)
 
 -- A claim reserves no more than its step.
 pub reserved_least : (claim : Claim) (step : Step) → reserved_by claim step ≤ reserved step
 reserved_least Lock step = omega arith
-reserved_least Right step = omega arith
-reserved_least (Held named) step = omega arith
-reserved_least Stale step = omega arith
+reserved_least _ step = omega arith
 
 -- If a test of a step refuses it, nothing else is required of a claim.
 early_or_lock : (claim : Claim) (state : State) (step : Step) (refusal : Refusal) → IsClaim claim state step → refusal_of state step ≡ Some refusal → (claim ≡ Lock) ⊎ (is_late refusal ≡ false)
 early_or_lock Lock state step refusal claims is = inl refl
-early_or_lock Right state (steps.Ask c op) refusal claims is = inr (ask_early state c op refusal is)
-early_or_lock Right state _ refusal claims is = absurd claims
-early_or_lock (Held named) state (steps.Ask c op) refusal claims is = inr (ask_early state c op refusal is)
-early_or_lock (Held named) state _ refusal claims is = absurd claims
-early_or_lock Stale state (steps.Ask c op) refusal claims is = inr (ask_early state c op refusal is)
-early_or_lock Stale state _ refusal claims is = absurd claims
+early_or_lock _ state (steps.Ask c op) refusal claims is = inr (ask_early state c op refusal is)
+early_or_lock _ state _ refusal claims is = absurd claims
 
 pub fresh_or_lock : (claim : Claim) (state : State) (step : Step) (refusal : Refusal) → IsClaim claim state step → refusal_of state step ≡ Some refusal → (claim ≡ Lock) ⊎ (is_stale_word refusal ≡ false)
 fresh_or_lock claim state step refusal claims is = elim (early_or_lock claim state step refusal claims is) [
@@ -161,13 +158,8 @@ same_world P t t' locks locks' table same p = subst (λ u. P u locks') (sym tabl
 
 -- A step reserves at most three entries.
 pub reserved_few : (step : Step) → reserved step ≤ 3
-reserved_few (steps.Begin c) = omega arith
 reserved_few (steps.Ask c (Put k v)) = omega arith
-reserved_few (steps.Ask c (Take k)) = omega arith
-reserved_few (steps.Ask c (Get k)) = omega arith
-reserved_few (steps.Ask c (PutIf k expected v)) = omega arith
-reserved_few (steps.Save c) = omega arith
-reserved_few (steps.Back c n) = omega arith
+reserved_few (steps.Ask c _) = omega arith
 reserved_few _ = omega arith
 
 -- If a step that reserves nothing has its room, memory is not refused.
@@ -178,87 +170,40 @@ no_memory state (steps.Save c) none some = lacks state (steps.Save c) NoMemory n
 no_memory state (steps.Back c n) none some = lacks state (steps.Back c n) NoMemory none tt
 no_memory state _ none some = absurd (omega arith)
 
--- At most the number of entries that a step reserves is reserved for its entry.
-reserved_within : (step : Step) (answer : Answer) (e : Entry) → e ∷ [] ≡ entries_of step answer → reserved_for e ≤ reserved step
-reserved_within (steps.Begin c) answer e is = began answer is
-  where
-    began : (answer : Answer) → e ∷ [] ≡ entries_of (steps.Begin c) answer → reserved_for e ≤ 3
-    began (answers.Began t) is = let same : e ≡ entry.Began c t = cc (is) in subst (λ f. reserved_for f ≤ 3) (sym same) (omega arith)
-    began _ is = absurd (cc (is))
-reserved_within (steps.Ask c op) answer e is = asked answer is
-  where
-    asked : (answer : Answer) → e ∷ [] ≡ entries_of (steps.Ask c op) answer → reserved_for e ≤ reserved (steps.Ask c op)
-    asked answers.Asked is = let same : e ≡ entry.Asked c op = cc (is) in subst (λ f. reserved_for f ≤ reserved (steps.Ask c op)) (sym same) (omega arith)
-    asked (answers.Busy x) is = let same : e ≡ entry.Busy c op x = cc (is) in subst (λ f. reserved_for f ≤ reserved (steps.Ask c op)) (sym same) (omega arith)
-    asked _ is = absurd (cc (is))
-reserved_within (steps.Act c) answer e is = acted answer is
-  where
-    acted : (answer : Answer) → e ∷ [] ≡ entries_of (steps.Act c) answer → reserved_for e ≤ 0
-    acted (answers.Done reply) is = let same : e ≡ entry.Did c reply = cc (is) in subst (λ f. reserved_for f ≤ 0) (sym same) (omega arith)
-    acted answers.Undone is = let same : e ≡ entry.Undone c = cc (is) in subst (λ f. reserved_for f ≤ 0) (sym same) (omega arith)
-    acted (answers.Returned n) is = let same : e ≡ entry.Returned c n = cc (is) in subst (λ f. reserved_for f ≤ 0) (sym same) (omega arith)
-    acted answers.Aborted is = let same : e ≡ entry.Aborted c = cc (is) in subst (λ f. reserved_for f ≤ 0) (sym same) (omega arith)
-    acted _ is = absurd (cc (is))
-reserved_within (steps.Save c) answer e is = saved answer is
-  where
-    saved : (answer : Answer) → e ∷ [] ≡ entries_of (steps.Save c) answer → reserved_for e ≤ 1
-    saved (answers.Saved n) is = let same : e ≡ entry.Saved c = cc (is) in subst (λ f. reserved_for f ≤ 1) (sym same) (omega arith)
-    saved _ is = absurd (cc (is))
-reserved_within (steps.Back c n) answer e is = left answer is
-  where
-    left : (answer : Answer) → e ∷ [] ≡ entries_of (steps.Back c n) answer → reserved_for e ≤ 2
-    left answers.Leaving is = let same : e ≡ entry.Leave c (Some n) = cc (is) in subst (λ f. reserved_for f ≤ 2) (sym same) (omega arith)
-    left _ is = absurd (cc (is))
-reserved_within (steps.Commit c) answer e is = committed answer is
-  where
-    committed : (answer : Answer) → e ∷ [] ≡ entries_of (steps.Commit c) answer → reserved_for e ≤ 0
-    committed (answers.Committed p) is = let same : e ≡ entry.Committed c p = cc (is) in subst (λ f. reserved_for f ≤ 0) (sym same) (omega arith)
-    committed _ is = absurd (cc (is))
-reserved_within (steps.Abort c) answer e is = left answer is
-  where
-    left : (answer : Answer) → e ∷ [] ≡ entries_of (steps.Abort c) answer → reserved_for e ≤ 0
-    left answers.Leaving is = let same : e ≡ entry.Leave c None = cc (is) in subst (λ f. reserved_for f ≤ 0) (sym same) (omega arith)
-    left _ is = absurd (cc (is))
-reserved_within _ answer e is = absurd (cc (is))
+-- For each entry at most this number is reserved.
+abbrev AreWithin : ℕ → List Entry → Type 0
+AreWithin n es = AllByRecursion (λ (e : Entry). reserved_for e ≤ n) es
 
--- At most the number of entries that its claim reserves: a Busy entry, which a word may add, is
--- owed already.
-no_entry : (step : Step) (refusal : Refusal) → entries_of step (answers.Refused refusal) ≡ []
-no_entry (steps.Begin c) refusal = refl
-no_entry step refusal = refl
+-- A refusal adds no entry, and a Busy entry is owed already.
+refused_within : (n : ℕ) (step : Step) (refusal : Refusal) → AreWithin n (entries_of step (answers.Refused refusal))
+refused_within n (steps.Begin c) refusal = tt
+refused_within n _ refusal = tt
 
-busy_within : (step : Step) (x : ℕ) (e : Entry) → e ∷ [] ≡ entries_of step (answers.Busy x) → reserved_for e ≤ 0
-busy_within (steps.Ask c op) x e is = let same : e ≡ entry.Busy c op x = cc (is) in subst (λ f. reserved_for f ≤ 0) (sym same) (omega arith)
-busy_within (steps.Begin c) x e is = absurd (cc (is))
-busy_within _ x e is = absurd (cc (is))
+busy_within : (n : ℕ) (step : Step) (x : ℕ) → AreWithin n (entries_of step (answers.Busy x))
+busy_within n (steps.Ask c op) x = (omega arith, tt)
+busy_within n _ x = tt
 
-none_within : (step : Step) (refusal : Refusal) (e : Entry) → e ∷ [] ≡ entries_of step (answers.Refused refusal) → reserved_for e ≤ 0
-none_within step refusal e is = absurd (let none : e ∷ [] ≡ [] = is ∙ no_entry step refusal in cc (none))
+-- So at most what the claim reserves is reserved for the entry of a step.
+may_within : (claim : Claim) (step : Step) (answer : Answer) → may_come claim answer ≡ true
+    → AreWithin (reserved_by claim step) (entries_of step answer)
+may_within Lock step answer may = reserved_enough step answer
+may_within Right step answer may = reserved_enough step answer
+may_within (Held named) step (answers.Busy x) may = busy_within 0 step x
+may_within _ step (answers.Refused refusal) may = refused_within 0 step refusal
+may_within _ step _ may = absurd (false≢true may)
 
-held_within : (named : ℕ) (step : Step) (answer : Answer) (e : Entry) → may_come (Held named) answer ≡ true → e ∷ [] ≡ entries_of step answer → reserved_for e ≤ 0
-held_within named step (answers.Busy x) e may is = busy_within step x e is
-held_within named step (answers.Refused refusal) e may is = none_within step refusal e is
-held_within named step _ e may is = absurd (false≢true may)
-
-stale_within : (step : Step) (answer : Answer) (e : Entry) → may_come Stale answer ≡ true → e ∷ [] ≡ entries_of step answer → reserved_for e ≤ 0
-stale_within step (answers.Refused refusal) e may is = none_within step refusal e is
-stale_within step _ e may is = absurd (false≢true may)
-
-claim_within : (claim : Claim) (state new : State) (step : Step) (answer : Answer) (e : Entry) → Goes claim state step answer new → e ∷ [] ≡ entries_of step answer → reserved_for e ≤ reserved_by claim step
-claim_within Lock state new step answer e goes is = reserved_within step answer e is
-claim_within Right state new step answer e goes is = reserved_within step answer e is
-claim_within (Held named) state new step answer e (inl stale) is = none_within step StaleWord e (is ∙ ap (entries_of step) stale.refused)
-claim_within (Held named) state new step answer e (inr goes) is = held_within named step answer e goes.0 is
-claim_within Stale state new step answer e (inl stale) is = none_within step StaleWord e (is ∙ ap (entries_of step) stale.refused)
-claim_within Stale state new step answer e (inr goes) is = stale_within step answer e goes.0 is
+goes_within : (claim : Claim) (state new : State) (step : Step) (answer : Answer) → Goes claim state step answer new
+    → AreWithin (reserved_by claim step) (entries_of step answer)
+goes_within Lock state new step answer goes = reserved_enough step answer
+goes_within claim state new step answer (inl stale) =
+    subst (λ a. AreWithin (reserved_by claim step) (entries_of step a)) (sym stale.refused)
+    (refused_within (reserved_by claim step) step StaleWord)
+goes_within claim state new step answer (inr goes) = may_within claim step answer goes.0
 
 -- At most as many changes stand as entries are owed.
 standing_owed : (q : Phase) (standing : ℕ) (kept : List ℕ) → IsLevelIn q standing kept → standing ≤ owed_in standing q
 standing_owed Closed standing kept is = let none : standing ≡ 0 = is.0 in omega arith
-standing_owed Opened standing kept is = omega arith
-standing_owed (Waiting op) standing kept is = omega arith
-standing_owed (LeavingTo n) standing kept is = omega arith
-standing_owed LeavingToEnd standing kept is = omega arith
+standing_owed _ standing kept is = omega arith
 
 small_standing : (a b owed n : ℕ) → a ≡ b → b ≤ owed → owed < n → a < n
 small_standing a b owed n same most small = omega arith
@@ -289,7 +234,8 @@ module _ (w : World) (tells : Tells w) (c : ℕ) (x y : Session) (at : slice_get
       let most : owed_of x ≤ sum_by owed_of w.sessions = one_of_sum owed_of w.sessions c x at in
       let same : owed_in y.seat.seat.standing y.seat.seat.phase ≡ owed_of x = ap (λ (s : Seat). owed_in s.standing s.phase) (same_seat (Some e) is) in
       let takes : owed_by (Some comes.seat) + 1 ≤ owed_by (Some x.seat.seat) + reserved_for e = owed_by-row x.seat.seat comes.seat e goes in
-      let few = claim_within claim _ _ step answer e (called.move y.seat) is in
+      let few : reserved_for e ≤ reserved_by claim step =
+      (subst (AreWithin (reserved_by claim step)) (sym is) (goes_within claim _ _ step answer (called.move y.seat))).0 in
       record {
         next = comes.seat;
         row_is = ap (λ (s : Seat). row s s.phase e) (same_seat (Some e) is) ∙ goes;
@@ -337,7 +283,8 @@ module _ (w : World) (tells : Tells w) (c : ℕ) (x y : Session) (at : slice_get
       let sums : sum_by owed_of (slice_set w.sessions c (seated_as y seat')) + owed_of x ≡ sum_by owed_of w.sessions + owed_of (seated_as y seat') = sum_changed owed_of w.sessions c x (seated_as y seat') at in
       let takes : owed_by (Some seat'.seat) + 1 ≤ owed_by (Some y.seat.seat) + reserved_for e = owed_by-row y.seat.seat seat'.seat e entered in
       let same : owed_in y.seat.seat.standing y.seat.seat.phase ≡ owed_of x = ap (λ (s : Seat). owed_in s.standing s.phase) (same_seat (Some e) is) in
-      let few = claim_within claim _ _ step answer e (called.move y.seat) is in
+      let few : reserved_for e ≤ reserved_by claim step =
+      (subst (AreWithin (reserved_by claim step)) (sym is) (goes_within claim _ _ step answer (called.move y.seat))).0 in
       omega arith
 
   -- The move.

@@ -1,12 +1,10 @@
 -- Powers of two.
-use Rattle.std.proofs.Common.{◌≡◌, ℕ, zero, suc, ◌*◌, ◌/◌, ◌%◌, ◌^◌, ◌≤◌, true, sym, ap, ◌∙◌, arith}
+use Rattle.std.proofs.Common.{◌≡◌, ℕ, zero, suc, ◌*◌, ◌/◌, ◌%◌, ◌^◌, ◌≤◌, true, sym, ap, ◌∙◌, arith, eqb-true, inl, inr, pow-suc}
 use Rattle.std.specs.Int.{is_power_of_two}
 use Rattle.std.specs.Int.RustNames.{count_ones}
 use Rattle.std.specs.Int.Count.{ones_step}
-use Rattle.std.proofs.lemmas.Bool.{eqb-true, cases_eq}
+use Rattle.std.proofs.lemmas.Bool.{cases_eq}
 use Rattle.std.proofs.lemmas.Nat.{zero_from_ones, ones_le_self}
-use native.Mathlib.Nat.{pow-suc}
-use mathlib.Core.Logic.{inl, inr}
 
 -- 2 to some number.
 abbrev pub IsPower : ℕ → Type 0

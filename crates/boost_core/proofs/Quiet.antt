@@ -1,30 +1,14 @@
 -- Steps that leave the table unchanged.
-use Rattle.std.proofs.Common.{◌≡◌, ℕ, ◌+◌, ◌-◌, ◌<◌, Bool, true, false, cond, List, ◌∷◌, length, Option, Some, None, refl, sym, ap, subst, ◌∙◌}
-use Rattle.std.specs.Prelude.{slice_get, slice_set, map, nat_eq, nat_lt}
-use Rattle.std.specs.Option.{option_eq, option_map}
-use Rattle.std.proofs.lemmas.Bool.{false≢true}
+use Rattle.std.proofs.Common.{◌≡◌, ℕ, ◌+◌, ◌-◌, ◌<◌, Bool, true, false, cond, List, ◌∷◌, length, Option, Some, None, refl, sym, ap, subst, ◌∙◌, slice_get, nat_eq, nat_lt}
+use Rattle.boost_core.proofs.Vocabulary.{option_eq, false≢true, Entry, Map, caller_of, is_began, is_commit, now, holder_of, Phase, Closed, Opened, Waiting, LeavingTo, LeavingToEnd, Seat, own, IsLevelIn, seat_leveled, Next, MapJob, PendingAt}
 use Rattle.boost_core.specs.State.{holder_by}
-use Rattle.txn_words.specs.declared.entry.Entry.{Entry}
-use Rattle.txn_words.specs.Map.{Map}
-use Rattle.txn_words.specs.Kinds.{caller_of, is_began, is_commit}
-use Rattle.txn_trace.specs.Now.{now}
-use Rattle.txn_trace.specs.Locks.{holder_of}
-use Rattle.txn_words.specs.declared.seat.Phase.{Phase}
-use Rattle.txn_words.specs.declared.seat.Phase.TheVariants.{Closed, Opened, Waiting, LeavingTo, LeavingToEnd}
-use Rattle.txn_words.specs.Shape.{Seat, RoomySeat, own}
 use Rattle.txn_words.specs.Seats.{is_waiting, is_saved}
-use Rattle.txn_words.proofs.Levels.{IsLevelIn, seat_leveled}
-use Rattle.txn_trace.proofs.Next.{Next}
 use Rattle.undo_log.specs.UndoLog.{Log, kept_at, newest_above}
 use Rattle.key_locks.specs.Locks.{Releases, without_caller, holder_of as held_by}
-use Rattle.map_ops.specs.declared.job.MapJob.{MapJob}
-use Rattle.map_ops.specs.Jobs.{PendingAt}
-use Rattle.map_ops.specs.TableAt.{cursor_changes}
 use Rattle.boost_core.specs.declared.counts.Counts.{Counts}
 use Rattle.boost_core.specs.declared.session.Session.{Session}
-use Rattle.boost_core.specs.Core.{World, Tells, session_changes}
-use Rattle.boost_core.proofs.Moves.{changes_same, changes_set}
-use Rattle.boost_core.proofs.Grow.{Grows, seated_as}
+use Rattle.boost_core.specs.Core.{World, Tells}
+use Rattle.boost_core.proofs.Grow.{Grows}
 use Rattle.boost_core.specs.Sessions.{side_of, target_in, key_of_newest, IsSoughtAt, Waits, changes_of}
 use Rattle.boost_core.proofs.Refused.{no_cursor}
 
@@ -55,11 +39,8 @@ module _ (w : World) (tells : Tells w) (c : ℕ) (x : Session) (at : slice_get w
       none_then LeavingToEnd rests (Some pending) waits = absurd waits
 
   rest_waits : (q : Phase) → is_waiting q ≡ false → (room : ℕ) → Waits q None room
-  rest_waits Closed rests room = tt
-  rest_waits Opened rests room = tt
   rest_waits (Waiting op) rests room = absurd (false≢true (sym rests))
-  rest_waits (LeavingTo n) rests room = tt
-  rest_waits LeavingToEnd rests room = tt
+  rest_waits _ rests room = tt
 
   pub released_holders : (locks' : List (Option ℕ)) → Releases c w.locks locks' → (s : ℕ) → s < w.limits.stripes → held_by locks' s ≡ cond (option_eq nat_eq (holder_of w.limits.stripes s w.history) (Some c)) None (holder_of w.limits.stripes s w.history)
   released_holders locks' releases s below = releases.each s ∙ ap (without_caller c) (tells.holders s below) ∙ released c (holder_of w.limits.stripes s w.history)
@@ -97,10 +78,3 @@ module _ (w : World) (tells : Tells w) (c : ℕ) (x : Session) (at : slice_get w
 
   pub level_in : (q : Phase) → x.seat.seat.phase ≡ q → IsLevelIn q x.seat.seat.standing x.seat.seat.kept
   level_in q is = subst (λ (p : Phase). IsLevelIn p x.seat.seat.standing x.seat.seat.kept) is (seat_leveled (own c w.history) x.seat.seat (tells.seated c x at).seat).within
-
-  -- The change numbers of the cursors, if the caller's cursor is unchanged, or dropped.
-  pub same_changes : (y : Session) → y.cursor ≡ x.cursor → (seat' : RoomySeat) → map session_changes (slice_set w.sessions c (seated_as y seat')) ≡ map session_changes w.sessions
-  same_changes y cursor seat' = changes_same w.sessions c x (seated_as y seat') at (ap (option_map cursor_changes) cursor)
-
-  pub no_changes : (y : Session) → y.cursor ≡ None → (seat' : RoomySeat) → map session_changes (slice_set w.sessions c (seated_as y seat')) ≡ slice_set (map session_changes w.sessions) c None
-  no_changes y cursor seat' = changes_set w.sessions c (seated_as y seat') None (ap (option_map cursor_changes) cursor)

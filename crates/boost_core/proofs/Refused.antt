@@ -1,22 +1,12 @@
 -- The refusals of a caller's step, from its side and from the machine's state.
-use Rattle.std.proofs.Common.{◌≡◌, ℕ, ◌<◌, ◌≤◌, Bool, true, false, cond, List, [], ◌∷◌, ◌++◌, length, get_or, Option, Some, None, is_some, refl, sym, ap, ◌∙◌, arith}
-use Rattle.std.specs.Prelude.{nat_le, not, map, slice_get, unwrap_or}
-use Rattle.std.specs.Option.{option_map}
-use Rattle.std.proofs.lemmas.Bool.{false≢true, cases_Bool, cases_lt, leb-true, le-leb}
-use Rattle.std.proofs.lemmas.Option.{slice_get-map, slice_get-get_or}
-use mathlib.Core.Logic.{inl, inr}
-use Rattle.txn_words.specs.declared.op.Op.{Op}
-use Rattle.txn_words.specs.declared.refusal.Refusal.{Refusal}
+use Rattle.std.proofs.Common.{◌≡◌, ℕ, ◌<◌, Bool, true, false, cond, List, [], ◌∷◌, ◌++◌, length, get_or, Option, Some, None, is_some, refl, sym, ap, ◌∙◌, arith, nat_le, not, map, slice_get, unwrap_or}
+use Rattle.std.proofs.lemmas.Bool.{leb-false, lt-leb, not-false}
+use Rattle.boost_core.proofs.Vocabulary.{option_map, false≢true, slice_get-map, slice_get-get_or, Refusal, Step, Phase, Closed, Opened, Waiting, Seat, closed_seat, TableAt, Cursor, cursor_changes}
 use Rattle.txn_words.specs.declared.refusal.Refusal.TheVariants.{NoSuchCaller, Unplaced}
-use Rattle.txn_words.specs.declared.step.Step.{Step}
-use Rattle.txn_words.specs.declared.step.Step.TheVariants.{Begin, Ask, Seek, Act, Save, Back, Commit, Abort}
-use Rattle.txn_words.specs.declared.seat.Phase.{Phase}
-use Rattle.txn_words.specs.declared.seat.Phase.TheVariants.{Closed, Opened, Waiting, LeavingTo, LeavingToEnd}
-use Rattle.txn_words.specs.Shape.{Seat, closed_seat}
-use Rattle.map_ops.specs.TableAt.{TableAt, Cursor, cursor_changes}
+use Rattle.txn_words.specs.declared.step.Step.TheVariants.{Begin, Act, Back, Commit, Abort}
 use Rattle.boost_core.specs.declared.session.Session.{Session}
-use Rattle.boost_core.specs.State.{State, Caller, seat_in, caller_changes}
-use Rattle.boost_core.specs.Refusals.{owner_of, is_closed, is_waiting, is_leaving, has_target, tests_in, tests_of, first_of, refusal_in, refusal_of, lacks_in, lacks_cursor}
+use Rattle.boost_core.specs.State.{State, Owner, Caller, seat_in, caller_changes}
+use Rattle.boost_core.specs.Refusals.{owner_of, is_closed, is_waiting, is_leaving, tests_in, tests_of, first_of, refusal_in, refusal_of, lacks_in, lacks_cursor}
 use Rattle.boost_core.specs.Sessions.{IsSoughtAt}
 use Rattle.boost_core.specs.Core.{World, Tells, state_of, session_changes}
 
@@ -41,11 +31,14 @@ or_else_none : (one other : Option Refusal) → or_else one other ≡ None → (
 or_else_none None other none = (refl, none)
 or_else_none (Some refusal) other none = absurd (cc (none))
 
-caller_same : (c d : ℕ) → Some (Caller c) ≡ Some (Caller d) → c ≡ d
-caller_same c d same = cc (same)
+-- The number of the caller that owns a step.
+abbrev pub caller_in : Option Owner → ℕ
+caller_in (Some (Caller c)) = c
+caller_in _ = 0
 
 lacks_is : (state : State) (c : ℕ) (step : Step) → owner_of step ≡ Some (Caller c) → lacks_cursor state step ≡ lacks_in (seat_in state.history c) (is_some (caller_changes state.cursors c)) step
-lacks_is state c (Act d) owner = ap (λ (k : ℕ). lacks_in (seat_in state.history k) (is_some (caller_changes state.cursors k)) (Act d)) (caller_same d c owner)
+lacks_is state c (Act d) owner =
+    ap (λ (k : ℕ). lacks_in (seat_in state.history k) (is_some (caller_changes state.cursors k)) (Act d)) (ap caller_in owner)
 lacks_is state c _ owner = refl
 
 -- The refusal of a caller's step.
@@ -69,43 +62,29 @@ free state c step owner none =
     let rest = or_else_none (refusal_in state.limits.half (seat_in state.history c) step) _ first.1 in
     record { within = first.0; seat = rest.0; cursor = (first_none _ Unplaced None rest.1).0 }
 
--- A phase, from the tests of it.
-not_false : (b : Bool) → not b ≡ false → b ≡ true
-not_false true is = refl
-not_false false is = absurd (false≢true (sym is))
-
 pub closed_is : (q : Phase) → is_closed q ≡ true → q ≡ Closed
 closed_is Closed is = refl
-closed_is Opened is = absurd (false≢true is)
-closed_is (Waiting op) is = absurd (false≢true is)
-closed_is (LeavingTo n) is = absurd (false≢true is)
-closed_is LeavingToEnd is = absurd (false≢true is)
+closed_is _ is = absurd (false≢true is)
 
 opened_is : (q : Phase) → is_closed q ≡ false → is_leaving q ≡ false → is_waiting q ≡ false → q ≡ Opened
 opened_is Closed closed leaving waiting = absurd (false≢true (sym closed))
 opened_is Opened closed leaving waiting = refl
 opened_is (Waiting op) closed leaving waiting = absurd (false≢true (sym waiting))
-opened_is (LeavingTo n) closed leaving waiting = absurd (false≢true (sym leaving))
-opened_is LeavingToEnd closed leaving waiting = absurd (false≢true (sym leaving))
+opened_is _ closed leaving waiting = absurd (false≢true (sym leaving))
 
 pub begin_closed : (half : Bool) (s : Seat) (c : ℕ) → refusal_in half s (Begin c) ≡ None → s.phase ≡ Closed
 begin_closed half s c none =
     let first = first_none (is_leaving s.phase) _ _ none in
     let second = first_none (not (is_closed s.phase)) _ _ first.1 in
-    closed_is s.phase (not_false (is_closed s.phase) second.0)
+    closed_is s.phase (not-false (is_closed s.phase) second.0)
 
-three_tests : (s : Seat) (a b c : Refusal) (rest : Option Refusal) → cond (is_closed s.phase) (Some a) (cond (is_leaving s.phase) (Some b) (cond (is_waiting s.phase) (Some c) rest)) ≡ None → (s.phase ≡ Opened) × (rest ≡ None)
+-- A step that these three tests pass finds a transaction with nothing under way.
+pub three_tests : (s : Seat) (a b c : Refusal) (rest : Option Refusal) → cond (is_closed s.phase) (Some a) (cond (is_leaving s.phase) (Some b) (cond (is_waiting s.phase) (Some c) rest)) ≡ None → (s.phase ≡ Opened) × (rest ≡ None)
 three_tests s a b c rest none =
     let first = first_none (is_closed s.phase) a _ none in
     let second = first_none (is_leaving s.phase) b _ first.1 in
     let third = first_none (is_waiting s.phase) c rest second.1 in
     (opened_is s.phase first.0 second.0 third.0, third.1)
-
-pub ask_open : (half : Bool) (s : Seat) (c : ℕ) (op : Op) → refusal_in half s (Ask c op) ≡ None → s.phase ≡ Opened
-ask_open half s c op none = (three_tests s _ _ _ _ none).0
-
-pub save_open : (half : Bool) (s : Seat) (c : ℕ) → refusal_in half s (Save c) ≡ None → s.phase ≡ Opened
-save_open half s c none = (three_tests s _ _ _ _ none).0
 
 pub commit_open : (half : Bool) (s : Seat) (c : ℕ) → refusal_in half s (Commit c) ≡ None → s.phase ≡ Opened
 commit_open half s c none = (three_tests s _ _ _ _ none).0
@@ -120,16 +99,13 @@ pub no_cursor : (t : TableAt) (cursor : Option Cursor) → IsSoughtAt t cursor N
 no_cursor t None sought = refl
 no_cursor t (Some cursor) sought = absurd sought
 
-slice_get-mapped : {A B : Type 0} (f : A → B) (xs : List A) (i : ℕ) (x : A) → slice_get xs i ≡ Some x → slice_get (map f xs) i ≡ Some (f x)
-slice_get-mapped f xs i x at = slice_get-map f xs i ∙ ap (option_map f) at
-
 module _ (w : World) (tells : Tells w) (c : ℕ) (x : Session) (at : slice_get w.sessions c ≡ Some x) where
   -- A caller's seat and its cursor's change number are the machine's.
   pub seat_here : seat_in w.history c ≡ x.seat.seat
   seat_here = ap (λ o. unwrap_or o closed_seat) (tells.seated c x at).seat
 
   pub changes_here : caller_changes (map session_changes w.sessions) c ≡ session_changes x
-  changes_here = ap (λ o. unwrap_or o None) (slice_get-mapped session_changes w.sessions c x at)
+  changes_here = ap (λ o. unwrap_or o None) (slice_get-map session_changes w.sessions c ∙ ap (option_map session_changes) at)
 
   pub changes_is_some : is_some (caller_changes (map session_changes w.sessions) c) ≡ is_some x.cursor
   changes_is_some = ap is_some changes_here ∙ both x.cursor
@@ -167,16 +143,7 @@ pub index_at : {A : Type 0} (xs : List A) (i : ℕ) (x : A) → i < length xs �
 index_at xs i x within is = slice_get-get_or xs i x within ∙ ap Some (sym is)
 
 pub le_false : (a b : ℕ) → b < a → nat_le a b ≡ false
-le_false a b less = elim (cases_Bool (nat_le a b)) [
-  | inl most ↦ let fits : a ≤ b = leb-true a b most in absurd (omega arith)
-  | inr is ↦ is
-]
-
-pub le_false_lt : (a b : ℕ) → nat_le a b ≡ false → b < a
-le_false_lt a b is = elim (cases_lt b a) [
-  | inl less ↦ less
-  | inr most ↦ absurd (false≢true (sym is ∙ le-leb a b most))
-]
+le_false a b less = lt-leb a b less
 
 pub lacking : (one : Option Refusal) (b value : Bool) → one ≡ None → b ≡ value → or_else one (cond b (Some Unplaced) None) ≡ cond value (Some Unplaced) None
 lacking one b value none is = ap (λ o. or_else o (cond b (Some Unplaced) None)) none ∙ ap (λ v. cond v (Some Unplaced) None) is
@@ -184,7 +151,7 @@ lacking one b value none is = ap (λ o. or_else o (cond b (Some Unplaced) None))
 -- The caller of a step that nothing refuses has a side.
 pub at_free : (w : World) → Tells w → (c : ℕ) (step : Step) → owner_of step ≡ Some (Caller c) → refusal_of (state_of w) step ≡ None → (x : Session) → x ≡ get_or w.sessions c x → slice_get w.sessions c ≡ Some x
 at_free w tells c step owner none x is =
-    let below : c < w.limits.callers = le_false_lt w.limits.callers c (free (state_of w) c step owner none).within in
+    let below : c < w.limits.callers = leb-false w.limits.callers c (free (state_of w) c step owner none).within in
     let count : length w.sessions ≡ w.limits.callers = tells.count in
     index_at w.sessions c x (omega arith) is
 
@@ -192,15 +159,3 @@ pub abort_runs : (half : Bool) (s : Seat) (c : ℕ) → refusal_in half s (Abort
 abort_runs half s c none =
     let first = first_none (is_closed s.phase) _ _ none in
     (first.0, (first_none (is_leaving s.phase) _ None first.1).0)
-
-pub seek_target : (half : Bool) (s : Seat) (c : ℕ) → refusal_in half s (Seek c) ≡ None → has_target s ≡ true
-seek_target half s c none =
-    let first = first_none (is_closed s.phase) _ _ none in
-    not_false (has_target s) (first_none (not (has_target s)) _ None first.1).0
-
-pub not_is_false : (b : Bool) → not b ≡ false → b ≡ true
-not_is_false b is = not_false b is
-
--- The caller of a step that nothing refuses, from an equal state.
-pub free_of : (state old : State) (step : Step) → state ≡ old → refusal_of old step ≡ None → refusal_of state step ≡ None
-free_of state old step is none = ap (λ (s : State). refusal_of s step) is ∙ none

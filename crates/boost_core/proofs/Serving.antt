@@ -1,35 +1,24 @@
 -- The outcome of each step that is no caller's.
-use Rattle.std.proofs.Common.{◌≡◌, ℕ, ◌*◌, ◌<◌, ◌≤◌, ◌==◌, ◌&&◌, Bool, true, false, cond, Some, None, Result, Ok, Err, refl, sym, ap, subst, ◌∙◌, arith}
-use Rattle.std.specs.Prelude.{nat_le, nat_lt, not}
-use Rattle.std.proofs.lemmas.Bool.{cases_Bool, cases_lt, lt-ltb, ltb-true, le-leb}
-use Rattle.std.proofs.lemmas.List.{length-set}
-use mathlib.Core.Logic.{inl, inr}
-use Rattle.txn_words.specs.declared.step.Step.{Step}
+use Rattle.std.proofs.Common.{◌≡◌, ℕ, ◌*◌, ◌≤◌, ◌==◌, ◌&&◌, Bool, true, false, cond, Some, None, Result, Ok, Err, refl, sym, ap, subst, ◌∙◌, nat_le, nat_lt, not, lt-ltb, le-leb, length-set, inl, inr}
+use Rattle.std.proofs.lemmas.Bool.{lt-leb, le-ltb}
+use Rattle.boost_core.proofs.Vocabulary.{cases_lt, Step, Answer, now, InitSeek, InitLink, Refusal, SweepOutcome, TableAt, Follows, content, size_of, stored_of, helps_of, table_changes, largest_of}
 use Rattle.txn_words.specs.declared.step.Step.TheVariants as steps
-use Rattle.txn_words.specs.declared.answer.Answer.{Answer}
 use Rattle.txn_words.specs.Map.{Map, count_of}
-use Rattle.txn_trace.specs.Now.{now}
 use Rattle.map_ops.specs.Double.{Double}
 use Rattle.map_ops.specs.Double.TheVariants as doubles
-use Rattle.map_ops.specs.InitSeek.{InitSeek}
 use Rattle.map_ops.specs.InitSeek.TheVariants as seeks
-use Rattle.map_ops.specs.InitLink.{InitLink}
 use Rattle.map_ops.specs.InitLink.TheVariants as links
-use Rattle.txn_words.specs.declared.refusal.Refusal.{Refusal}
-use Rattle.map_ops.specs.SweepOutcome.{SweepOutcome}
 use Rattle.map_ops.specs.SweepOutcome.TheVariants as sweeps
 use Rattle.map_ops.specs.Buckets.{Doubles, SeekChanges, LinkChanges, StoreChanges, seek_answer, double_answer}
-use Rattle.map_ops.specs.TableAt.{TableAt, Follows, content, size_of, stored_of, helps_of, table_changes, largest_of}
 use Rattle.boost_core.specs.State.{Helper}
 use Rattle.boost_core.specs.Answers.{IsAnswer}
 use Rattle.boost_core.specs.Placed.{placed_then}
 use Rattle.boost_core.specs.Machine.{Move}
 use Rattle.std.specs.List.{slice_get}
 use Rattle.boost_core.specs.Serves as said
-use Rattle.boost_core.specs.Serves.{Serves, Sweeping, Seeking, Linking, Storing, Doubling}
+use Rattle.boost_core.specs.Serves.{Serves, Sweeping, Linking, Storing}
 use Rattle.boost_core.specs.Core.{World, Tells, state_of}
-use Rattle.boost_core.proofs.Refused.{le_false}
-use Rattle.boost_core.proofs.Helping.{served, sweep_tells, swept_move, clean_move, becomes_tells, becomes_state, double_tells, seek_refusal, refusal_in_result, seek_ready_move, seek_placed_move, helper_refused, store_refused_move, stored_move}
+use Rattle.boost_core.proofs.Helping.{served, sweep_tells, swept_move, clean_move, becomes_tells, becomes_move, double_tells, seek_refusal, refusal_in_result, seek_ready_move, seek_placed_move, helper_refused, store_refused_move, stored_move}
 use Rattle.boost_core.proofs.Linking.{link_refused_move, link_again_move, link_present_move, link_linked_move}
 
 -- The invariants of the core after the step, and the move.
@@ -39,15 +28,9 @@ pub record Served (w : World) (step : Step) (answer : Answer) (t' : TableAt) : T
 
 lt_not_le : (a b : ℕ) → nat_lt a b ≡ not (nat_le b a)
 lt_not_le a b = elim (cases_lt a b) [
-  | inl less ↦ lt-ltb a b less ∙ sym (ap not (le_false b a less))
-  | inr most ↦ no_less most ∙ sym (ap not (le-leb b a most))
+  | inl less ↦ lt-ltb a b less ∙ sym (ap not (lt-leb b a less))
+  | inr most ↦ le-ltb a b most ∙ sym (ap not (le-leb b a most))
 ]
-  where
-    no_less : b ≤ a → nat_lt a b ≡ false
-    no_less most = elim (cases_Bool (nat_lt a b)) [
-      | inl is ↦ absurd (let less : a < b = ltb-true a b is in omega arith)
-      | inr is ↦ is
-    ]
 
 module _ (w : World) (tells : Tells w) (t' : TableAt) (follows : Follows w.table t') (rises : table_changes w.table ≤ table_changes t') where
   -- Nothing has changed.
@@ -134,19 +117,13 @@ module _ (w : World) (tells : Tells w) (t' : TableAt) (follows : Follows w.table
   doubled_by : (seen : ℕ) (outcome : Double) (answer : Answer) → answer ≡ said.doubled outcome → outcome ≡ double_answer (size_of w.table) (largest_of w.table) (count_of (content w.table)) seen → Doubles w.table t' outcome → Served w (steps.Double seen) answer t'
   doubled_by seen (doubles.Moved n) answer answer_is says changes = subst (λ a. Served w (steps.Double seen) a t') (sym answer_is) (record {
     tells = double_tells w tells t' (doubles.Moved n) changes follows;
-    move = record { allowed = (refl, doubled_answer seen (doubles.Moved n) says); state = becomes_state w t' None _ _ _ _ changes.becomes; changes = rises; list_kept = λ kept. changes.kept; stamp = let same = changes.last in omega arith; one_stamp = let same = changes.last in omega arith };
+    move = becomes_move w t' None _ _ _ _ (steps.Double seen) (said.doubled (doubles.Moved n)) changes.becomes
+        (refl, doubled_answer seen (doubles.Moved n) says) refl rises (λ kept. changes.kept) changes.last;
   })
-  doubled_by seen doubles.AtLimit answer answer_is says changes = subst (λ a. Served w (steps.Double seen) a t') (sym answer_is) (record {
-    tells = double_tells w tells t' doubles.AtLimit changes follows;
-    move = record { allowed = (refl, doubled_answer seen doubles.AtLimit says); state = becomes_state w t' None _ _ _ _ changes.becomes; changes = rises; list_kept = λ kept. changes.kept; stamp = let same = changes.last in omega arith; one_stamp = let same = changes.last in omega arith };
-  })
-  doubled_by seen doubles.Light answer answer_is says changes = subst (λ a. Served w (steps.Double seen) a t') (sym answer_is) (record {
-    tells = double_tells w tells t' doubles.Light changes follows;
-    move = record { allowed = (refl, doubled_answer seen doubles.Light says); state = becomes_state w t' None _ _ _ _ changes.becomes; changes = rises; list_kept = λ kept. changes.kept; stamp = let same = changes.last in omega arith; one_stamp = let same = changes.last in omega arith };
-  })
-  doubled_by seen (doubles.Doubled n) answer answer_is says changes = subst (λ a. Served w (steps.Double seen) a t') (sym answer_is) (record {
-    tells = double_tells w tells t' (doubles.Doubled n) changes follows;
-    move = record { allowed = (refl, doubled_answer seen (doubles.Doubled n) says); state = becomes_state w t' None _ _ _ _ changes.becomes; changes = rises; list_kept = λ kept. changes.kept; stamp = let same = changes.last in omega arith; one_stamp = let same = changes.last in omega arith };
+  doubled_by seen outcome answer answer_is says changes = subst (λ a. Served w (steps.Double seen) a t') (sym answer_is) (record {
+    tells = double_tells w tells t' outcome changes follows;
+    move = becomes_move w t' None _ _ _ _ (steps.Double seen) (said.doubled outcome) changes.becomes
+        (refl, doubled_answer seen outcome says) refl rises (λ kept. changes.kept) changes.last;
   })
 
   -- The outcome of each step.

@@ -1,29 +1,12 @@
 -- The parts of a table that are unchanged while spares are given back.
-use Rattle.std.proofs.Common.{◌≡◌, ℕ, ◌+◌, ◌<◌, ◌≤◌, true, List, [], ◌∷◌, ◌++◌, length, Option, Some, None, is_some, length-append, refl, sym, ap, ◌∙◌, arith}
+use Rattle.std.proofs.Common.{◌≡◌, ℕ, ◌+◌, ◌<◌, ◌≤◌, true, List, [], ◌∷◌, ◌++◌, length, Option, None, is_some, length-append, refl, sym, ap, ◌∙◌, arith, inl, inr}
 use Rattle.std.proofs.lemmas.List.Sums.{sum_by_push}
-use Rattle.std.proofs.lemmas.Bool.{cases_lt, false≢true}
-use mathlib.Core.Logic.{inl, inr}
-use Rattle.map_ops.specs.declared.job.MapJob.{MapJob}
+use Rattle.boost_core.proofs.Vocabulary.{cases_lt, false≢true, MapJob, TableAt, SpareAt, Follows}
 use Rattle.map_ops.specs.Jobs.{spare_of_job}
-use Rattle.map_ops.specs.TableAt.{TableAt, SpareAt, Follows}
 use Rattle.map_ops.specs.Changes.{OwnsIf, GivesBack}
 use Rattle.boost_core.specs.Spares.{times_of, times_in, times_out, IsCovered}
-use Rattle.map_ops.specs.Jobs.{PendingAt}
-use Rattle.boost_core.specs.Sessions.{Rests, spare_if}
+use Rattle.boost_core.specs.Sessions.{Rests}
 use Rattle.boost_core.proofs.Spares.{owns_if, spent}
-
-pub rests_same : (t : TableAt) → Rests t t
-rests_same t = record {
-  nodes = record {
-    all = refl;
-    regular = refl;
-    buckets = record { all = refl; size = refl; largest = refl; stored = refl; helps = refl };
-    linked = refl;
-    changes = refl;
-  };
-  last = refl;
-  placed = record { placed = λ cursor key is. is; sound = λ sound. sound };
-}
 
 pub rests_more : (t0 t t' : TableAt) (spare : Option SpareAt) → Rests t0 t → GivesBack t t' spare → Follows t t' → Rests t0 t'
 rests_more t0 t t' spare rests back follows = record {
@@ -44,8 +27,13 @@ rests_more t0 t t' spare rests back follows = record {
   placed = record { placed = λ cursor key is. follows.placed cursor key (rests.placed.placed cursor key is); sound = λ sound. follows.list.sound (rests.placed.sound sound) };
 }
 
-times_pushed : (jobs jobs' : List MapJob) (job : MapJob) (place stamp : ℕ) → jobs ≡ jobs' ++ job ∷ [] → times_in jobs place stamp ≡ times_in jobs' place stamp + times_of (spare_of_job job) place stamp
-times_pushed jobs jobs' job place stamp is = ap (λ js. times_in js place stamp) is ∙ sum_by_push (λ (j : MapJob). times_of (spare_of_job j) place stamp) jobs' job
+-- How often one more job keeps a spare.
+pub times_more : (jobs : List MapJob) (job : MapJob) (place stamp : ℕ) → times_in (jobs ++ job ∷ []) place stamp ≡ times_in jobs place stamp + times_of (spare_of_job job) place stamp
+times_more jobs job place stamp = sum_by_push (λ (j : MapJob). times_of (spare_of_job j) place stamp) jobs job
+
+-- The same, of a list that has one more job.
+pub times_pushed : (jobs jobs' : List MapJob) (job : MapJob) (place stamp : ℕ) → jobs ≡ jobs' ++ job ∷ [] → times_in jobs place stamp ≡ times_in jobs' place stamp + times_of (spare_of_job job) place stamp
+times_pushed jobs jobs' job place stamp is = ap (λ js. times_in js place stamp) is ∙ times_more jobs' job place stamp
 
 -- The spare of the newest job belongs to the table.
 pub newest_owned : (t : TableAt) (jobs jobs' : List MapJob) (job : MapJob) → jobs ≡ jobs' ++ job ∷ [] → (others : ℕ → ℕ → ℕ) → IsCovered (λ place stamp. others place stamp + times_in jobs place stamp) t → OwnsIf t (spare_of_job job)
@@ -60,33 +48,11 @@ popped_covered t t' jobs jobs' job is back others covered =
     (λ place stamp.
     let times = times_pushed jobs jobs' job place stamp is in
     let exact : others place stamp + times_in jobs place stamp ≡ times_out t place stamp = covered place stamp in
-    regroup (others place stamp) (times_in jobs place stamp) (times_in jobs' place stamp) (times_of (spare_of_job job) place stamp) (times_out t place stamp) times exact)
-  where
-    regroup : (a b c d n : ℕ) → b ≡ c + d → a + b ≡ n → a + c + d ≡ n
-    regroup a b c d n is exact = omega arith
+    omega arith)
 
 pub no_jobs : (jobs : List MapJob) → length jobs ≤ 0 → jobs ≡ []
 no_jobs [] none = refl
 no_jobs (job ∷ jobs) none = absurd (omega arith)
-
--- The spares that stay covered after the waiting operation is given up.
-pub withdrawn_covered : (t t' : TableAt) (had now : Option PendingAt) (pending : PendingAt) (jobs : List MapJob) → had ≡ Some pending → now ≡ None → GivesBack t t' pending.spare
-    → (others : ℕ → ℕ → ℕ) → IsCovered (λ place stamp. others place stamp + (times_of (spare_if had) place stamp + times_in jobs place stamp)) t
-    → IsCovered (λ place stamp. others place stamp + (times_of (spare_if now) place stamp + times_in jobs place stamp)) t'
-withdrawn_covered t t' had now pending jobs was is back others covered place stamp =
-    let after : others place stamp + times_in jobs place stamp ≡ times_out t' place stamp =
-    spent t t' pending.spare (λ p s. others p s + times_in jobs p s) back.spares (λ p s.
-    let same : times_of (spare_if had) p s ≡ times_of pending.spare p s = ap (λ (o : Option PendingAt). times_of (spare_if o) p s) was in
-    let exact : others p s + (times_of (spare_if had) p s + times_in jobs p s) ≡ times_out t p s = covered p s in
-    regroup (others p s) (times_of (spare_if had) p s) (times_of pending.spare p s) (times_in jobs p s) (times_out t p s) same exact) place stamp in
-    let none : times_of (spare_if now) place stamp ≡ 0 = ap (λ (o : Option PendingAt). times_of (spare_if o) place stamp) is in
-    regroup' (others place stamp) (times_of (spare_if now) place stamp) (times_in jobs place stamp) (times_out t' place stamp) none after
-  where
-    regroup : (a b c d n : ℕ) → b ≡ c → a + (b + d) ≡ n → a + d + c ≡ n
-    regroup a b c d n same exact = omega arith
-
-    regroup' : (a b d n : ℕ) → b ≡ 0 → a + d ≡ n → a + (b + d) ≡ n
-    regroup' a b d n none exact = omega arith
 
 pub none_left : {A : Type 0} (o : Option A) (n : ℕ) → o ≡ None → (0 < n → is_some o ≡ true) → n ≤ 0
 none_left o n none some = elim (cases_lt 0 n) [

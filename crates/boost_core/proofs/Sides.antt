@@ -1,22 +1,13 @@
 -- The steps that a caller may take if its side fits the table.
-use Rattle.std.proofs.Common.{◌≡◌, ℕ, ◌+◌, ◌-◌, ◌<◌, ◌≤◌, ◌&&◌, ◌||◌, Bool, true, false, cond, List, [], ◌∷◌, ◌++◌, length, Option, Some, None, is_some, refl, sym, ap, subst, ◌∙◌, arith}
-use Rattle.std.specs.Prelude.{slice_get, map, reverse, nat_lt, not}
-use Rattle.std.proofs.lemmas.Bool.{false≢true, cases_lt, ltb-true, lt-ltb}
+use Rattle.std.proofs.Common.{◌≡◌, ℕ, ◌+◌, ◌-◌, ◌<◌, ◌&&◌, ◌||◌, Bool, true, false, cond, List, [], ◌∷◌, ◌++◌, length, Option, Some, None, is_some, refl, sym, ap, subst, ◌∙◌, arith, slice_get, map, reverse, nat_lt, not, ltb-true}
+use Rattle.std.proofs.lemmas.Bool.{not-false, ltb-false, or_right}
+use Rattle.boost_core.proofs.Vocabulary.{false≢true, slice_get-get_or, Phase, Waiting, LeavingTo, LeavingToEnd, MapJob, PendingAt, TableAt, Cursor, content, OwnsIf}
 use Rattle.std.proofs.lemmas.List.{reverse-append, length_push, get_or_push}
-use Rattle.std.proofs.lemmas.Option.{slice_get-get_or}
-use mathlib.Core.Logic.{inl, inr}
-use Rattle.txn_words.specs.declared.seat.Phase.{Phase}
-use Rattle.txn_words.specs.declared.seat.Phase.TheVariants.{Closed, Opened, Waiting, LeavingTo, LeavingToEnd}
 use Rattle.txn_words.specs.Seats.{is_waiting, is_leaving, has_job, has_target}
 use Rattle.txn_trace.proofs.Seated.{the_some}
 use Rattle.undo_log.specs.UndoLog.{Log, kept_at, newest_above}
-use Rattle.map_ops.specs.declared.job.MapJob.{MapJob}
-use Rattle.map_ops.specs.Jobs.{PendingAt}
-use Rattle.map_ops.specs.TableAt.{TableAt, Cursor, content}
-use Rattle.map_ops.specs.Changes.{OwnsIf}
 use Rattle.boost_core.specs.declared.session.Session.{Session}
 use Rattle.boost_core.specs.Sessions.{level_of, Waits, key_of_newest, target_in, target_of, spare_if, change_of, changes_of, AreDue, IsPlacedFor, IsSoughtAt, GoesWith, CanAct, CanUndo, CanArrive}
-use Rattle.boost_core.proofs.Refused.{not_is_false}
 use Rattle.boost_core.proofs.Settling.{newest_owned}
 
 pub record Last (jobs : List MapJob) : Type 0 where
@@ -43,25 +34,16 @@ changes_last jobs front job is = ap changes_of is ∙ ap (map change_of) (revers
 
 -- The waiting operation is the one that the phase names.
 pub waiting_op : (q : Phase) (pending : PendingAt) (room : ℕ) → Waits q (Some pending) room → q ≡ Waiting pending.op
-waiting_op Closed pending room is = absurd is
-waiting_op Opened pending room is = absurd is
 waiting_op (Waiting op) pending room is = ap Waiting (sym is.0)
-waiting_op (LeavingTo n) pending room is = absurd is
-waiting_op LeavingToEnd pending room is = absurd is
+waiting_op _ pending room is = absurd is
 
 waiting_room : (q : Phase) (pending : PendingAt) (room : ℕ) → Waits q (Some pending) room → 0 < room
-waiting_room Closed pending room is = absurd is
-waiting_room Opened pending room is = absurd is
 waiting_room (Waiting op) pending room is = is.1
-waiting_room (LeavingTo n) pending room is = absurd is
-waiting_room LeavingToEnd pending room is = absurd is
+waiting_room _ pending room is = absurd is
 
 pub none_waits : (q : Phase) (room : ℕ) → Waits q None room → is_waiting q ≡ false
-none_waits Closed room is = refl
-none_waits Opened room is = refl
 none_waits (Waiting op) room is = absurd is
-none_waits (LeavingTo n) room is = refl
-none_waits LeavingToEnd room is = refl
+none_waits _ room is = refl
 
 -- A caller that takes changes back, to a level or to the end.
 abbrev pub IsGoing : Phase → Type 0
@@ -70,42 +52,26 @@ IsGoing LeavingToEnd = Unit {0}
 IsGoing phase = ⊥
 
 pub going : (q : Phase) (standing : ℕ) (kept : List ℕ) → has_job (record { phase = q; standing = standing; kept = 0 ∷ kept }) ≡ true → IsGoing q × (nat_lt (kept_at kept (level_of q)) standing ≡ true)
-going Closed standing kept is = absurd (false≢true is)
-going Opened standing kept is = absurd (false≢true is)
-going (Waiting op) standing kept is = absurd (false≢true is)
 going (LeavingTo n) standing kept is = (tt, is)
 going LeavingToEnd standing kept is = (tt, is)
+going _ standing kept is = absurd (false≢true is)
 
 going_target : (q : Phase) (log : Log MapJob) → IsGoing q → target_in q log ≡ key_of_newest (newest_above log (level_of q))
-going_target Closed log is = absurd is
-going_target Opened log is = absurd is
-going_target (Waiting op) log is = absurd is
 going_target (LeavingTo n) log is = refl
 going_target LeavingToEnd log is = refl
+going_target _ log is = absurd is
 
 none_above_if : (q : Phase) (standing : ℕ) (kept : List ℕ) → is_leaving q ≡ true → has_job (record { phase = q; standing = standing; kept = 0 ∷ kept }) ≡ false → nat_lt (kept_at kept (level_of q)) standing ≡ false
-none_above_if Closed standing kept leaves is = absurd (false≢true leaves)
-none_above_if Opened standing kept leaves is = absurd (false≢true leaves)
-none_above_if (Waiting op) standing kept leaves is = absurd (false≢true leaves)
 none_above_if (LeavingTo n) standing kept leaves is = is
 none_above_if LeavingToEnd standing kept leaves is = is
-
-pub at_most : (a b : ℕ) → nat_lt a b ≡ false → b ≤ a
-at_most a b is = elim (cases_lt a b) [
-  | inl less ↦ absurd (false≢true (sym is ∙ lt-ltb a b less))
-  | inr most ↦ most
-]
-
-pub either : (a b : Bool) → b ≡ true → (a || b) ≡ true
-either true b is = refl
-either false b is = is
+none_above_if _ standing kept leaves is = absurd (false≢true leaves)
 
 pub or_left : (a b : Bool) → (a || b) ≡ true → b ≡ false → a ≡ true
 or_left true b is none = refl
 or_left false b is none = absurd (false≢true (sym none ∙ is))
 
 and_true : (a b : Bool) → (a && not b) ≡ false → a ≡ true → b ≡ true
-and_true a b is both = not_is_false b (ap (λ v. v && not b) (sym both) ∙ is)
+and_true a b is both = not-false b (ap (λ v. v && not b) (sym both) ∙ is)
 
 module _ (x : Session) (t : TableAt) (goes : GoesWith x t) where
   -- The seat agrees with the log.
@@ -140,7 +106,7 @@ module _ (x : Session) (t : TableAt) (goes : GoesWith x t) where
         let more = ltb-true (kept_at x.log.kept (level_of x.seat.seat.phase)) (length x.log.jobs) gone.1 in
         let last = last_job x.log.jobs (omega arith) in
         let newest : newest_above x.log (level_of x.seat.seat.phase) ≡ Some last.job = ap (λ (b : Bool). cond b (slice_get x.log.jobs (length x.log.jobs - 1)) None) gone.1 ∙ at_last x.log.jobs last.front last.job last.is in
-        let cursor = cursor_there (either (is_waiting x.seat.seat.phase) (has_job x.seat.seat) has) in
+        let cursor = cursor_there (or_right (is_waiting x.seat.seat.phase) (has_job x.seat.seat) has) in
         record {
           level = goes.agrees.level;
           job = last.job;
@@ -160,7 +126,7 @@ module _ (x : Session) (t : TableAt) (goes : GoesWith x t) where
       record {
         leaves = leaves;
         level = goes.agrees.level;
-        none_above = at_most (kept_at x.log.kept (level_of x.seat.seat.phase)) (length x.log.jobs) (none_above_if x.seat.seat.phase (length x.log.jobs) x.log.kept leaves (ap has_job (sym seat_is) ∙ no_job));
+        none_above = ltb-false (kept_at x.log.kept (level_of x.seat.seat.phase)) (length x.log.jobs) (none_above_if x.seat.seat.phase (length x.log.jobs) x.log.kept leaves (ap has_job (sym seat_is) ∙ no_job));
       }
     where
       no_pending : (o : Option PendingAt) → is_some o ≡ false → o ≡ None

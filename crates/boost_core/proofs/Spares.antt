@@ -1,9 +1,7 @@
 -- Spares that are given out, and given up.
-use Rattle.std.proofs.Common.{◌≡◌, ◌≢◌, ℕ, ◌+◌, ◌≤◌, ◌==◌, ◌&&◌, Bool, true, false, cond, Option, Some, None, refl, sym, ap, ◌∙◌, arith}
-use Rattle.std.specs.Prelude.{nat_eq}
-use Rattle.std.specs.Option.{option_eq}
-use Rattle.std.proofs.lemmas.Bool.{cases_eq, eq-eqb, ne_eqb, and_from}
-use mathlib.Core.Logic.{inl, inr}
+use Rattle.std.proofs.Common.{◌≡◌, ◌≢◌, ℕ, ◌+◌, ◌≤◌, ◌==◌, ◌&&◌, Bool, true, false, cond, Option, Some, None, refl, sym, ap, ◌∙◌, arith, nat_eq, eq-eqb, ne_eqb, inl, inr}
+use Rattle.std.proofs.lemmas.Bool.{and_right}
+use Rattle.boost_core.proofs.Vocabulary.{option_eq, cases_eq, and_from}
 use Rattle.txn_trace.proofs.Now.{same_option, same_is}
 use Rattle.map_ops.specs.TableAt.{TableAt, SpareAt, KeepsSpares, spare_out}
 use Rattle.map_ops.specs.Changes.{Spends, GivesSpare, OwnsIf}
@@ -38,15 +36,11 @@ times_one t place stamp is = ap (λ b. cond b 1 0) (same_is (spare_out t place) 
 pub times_here : (spare : SpareAt) → times_of (Some spare) spare.place spare.stamp ≡ 1
 times_here spare = ap (λ b. cond b 1 0) (and_from (spare.place == spare.place) (spare.stamp == spare.stamp) (eq-eqb spare.place spare.place refl) (eq-eqb spare.stamp spare.stamp refl))
 
-and_right_false : (a b : Bool) → b ≡ false → (a && b) ≡ false
-and_right_false true b is = is
-and_right_false false b is = refl
-
 times_away : (spare : SpareAt) (place stamp : ℕ) → spare.place ≢ place → times_of (Some spare) place stamp ≡ 0
 times_away spare place stamp away = ap (λ b. cond (b && spare.stamp == stamp) 1 0) (ne_eqb spare.place place away)
 
 times_unlike : (spare : SpareAt) (place stamp : ℕ) → spare.stamp ≢ stamp → times_of (Some spare) place stamp ≡ 0
-times_unlike spare place stamp unlike = ap (λ b. cond b 1 0) (and_right_false (spare.place == place) (spare.stamp == stamp) (ne_eqb spare.stamp stamp unlike))
+times_unlike spare place stamp unlike = ap (λ b. cond b 1 0) (and_right (spare.place == place) (spare.stamp == stamp) (ne_eqb spare.stamp stamp unlike))
 
 times_is : (spare : SpareAt) (place stamp : ℕ) → place ≡ spare.place → stamp ≡ spare.stamp → times_of (Some spare) place stamp ≡ 1
 times_is spare place stamp at is = ap (λ (p : ℕ). times_of (Some spare) p stamp) at ∙ ap (λ (s : ℕ). times_of (Some spare) spare.place s) is ∙ times_here spare

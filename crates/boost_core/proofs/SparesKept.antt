@@ -1,23 +1,11 @@
 -- The spares that a caller keeps after its operation is done.
-use Rattle.std.proofs.Common.{◌≡◌, ℕ, ◌+◌, cond, List, [], ◌∷◌, ◌++◌, Option, Some, None, ap, ◌∙◌, arith}
-use Rattle.std.specs.Prelude.{nat_eq, option_to_list}
-use Rattle.std.specs.Option.{option_eq}
-use Rattle.std.proofs.lemmas.Bool.{cases_Bool}
-use Rattle.std.proofs.lemmas.List.{append-nil}
-use Rattle.std.proofs.lemmas.List.Sums.{sum_by_push}
-use mathlib.Core.Logic.{inl, inr}
-use Rattle.txn_words.specs.declared.op.Op.{Op}
-use Rattle.txn_words.specs.declared.op.Op.TheVariants.{Put, Take, Get, PutIf}
-use Rattle.txn_words.specs.Map.{get}
-use Rattle.map_ops.specs.declared.job.MapJob.TheVariants.{Unput, Restore, Relink}
-use Rattle.map_ops.specs.Jobs.{spare_of_job, unput, relink, job_of}
-use Rattle.map_ops.specs.TableAt.{SpareAt, KeepsSpares}
+use Rattle.std.proofs.Common.{◌≡◌, ℕ, ◌+◌, cond, List, [], ◌∷◌, ◌++◌, Option, Some, None, ap, ◌∙◌, arith, nat_eq, option_to_list, append-nil, inl, inr}
+use Rattle.boost_core.proofs.Vocabulary.{option_eq, cases_Bool, Op, Put, Take, Get, PutIf, get, Map, Unput, Restore, Relink, SpareAt, KeepsSpares, TableAt, MapJob}
+use Rattle.map_ops.specs.Jobs.{unput, relink, job_of}
 use Rattle.map_ops.specs.Changes.{Spends, SpendsFor}
-use Rattle.txn_words.specs.Map.{Map}
-use Rattle.map_ops.specs.declared.job.MapJob.{MapJob}
-use Rattle.map_ops.specs.TableAt.{TableAt}
 use Rattle.boost_core.specs.Spares.{times_of, times_in, times_out, IsCovered}
 use Rattle.boost_core.proofs.Numbers.{no_more}
+use Rattle.boost_core.proofs.Settling.{times_more}
 use Rattle.boost_core.proofs.Spares.{spent, still_covered}
 
 relinked_put : (k : ℕ) (o : Option ℕ) (j v : ℕ) (kept : SpareAt) (spare : Option SpareAt) → Some (Relink j v kept) ≡ unput k o → spare ≡ Some kept
@@ -25,9 +13,8 @@ relinked_put k None j v kept spare is = absurd (cc (is))
 relinked_put k (Some old) j v kept spare is = absurd (cc (is))
 
 relinked_take : (k : ℕ) (o : Option ℕ) (j v : ℕ) (kept : SpareAt) (spare : Option SpareAt) → Some (Relink j v kept) ≡ relink k o spare → spare ≡ Some kept
-relinked_take k None j v kept spare is = absurd (cc (is))
-relinked_take k (Some old) j v kept None is = absurd (cc (is))
 relinked_take k (Some old) j v kept (Some given) is = let same : given ≡ kept = cc (is) in ap Some same
+relinked_take k _ j v kept _ is = absurd (cc (is))
 
 -- A job that links a node again has the spare of its operation.
 relinked : (m : Map) (op : Op) (j v : ℕ) (kept : SpareAt) (spare : Option SpareAt) → Some (Relink j v kept) ≡ job_of m op spare → spare ≡ Some kept
@@ -47,18 +34,9 @@ spent_covered t t' spare jobs jobs' same spends others covered place stamp =
     let after : others place stamp + times_in jobs place stamp ≡ times_out t' place stamp =
     spent t t' spare (λ p s. others p s + times_in jobs p s) spends (λ p s.
     let exact : others p s + (times_of spare p s + times_in jobs p s) ≡ times_out t p s = covered p s in
-    regroup (others p s) (times_of spare p s) (times_in jobs p s) (times_out t p s) exact) place stamp in
+    omega arith) place stamp in
     let is = same place stamp in
-    regroup' (others place stamp) (times_in jobs' place stamp) (times_in jobs place stamp) (times_out t' place stamp) is after
-  where
-    regroup : (a b d n : ℕ) → a + (b + d) ≡ n → a + d + b ≡ n
-    regroup a b d n exact = omega arith
-
-    regroup' : (a b d n : ℕ) → b ≡ d + 0 → a + d ≡ n → a + (0 + b) ≡ n
-    regroup' a b d n same exact = omega arith
-
-pub times_more : (jobs : List MapJob) (job : MapJob) (place stamp : ℕ) → times_in (jobs ++ job ∷ []) place stamp ≡ times_in jobs place stamp + times_of (spare_of_job job) place stamp
-times_more jobs job place stamp = sum_by_push (λ (j : MapJob). times_of (spare_of_job j) place stamp) jobs job
+    omega arith
 
 pub times_same : (jobs : List MapJob) (place stamp : ℕ) → times_in (jobs ++ []) place stamp ≡ times_in jobs place stamp + 0
 times_same jobs place stamp = ap (λ (js : List MapJob). times_in js place stamp) (append-nil jobs) ∙ no_more (times_in jobs place stamp)
@@ -70,10 +48,7 @@ relinked_covered t t' spare kept k old jobs is spends others covered place stamp
     let exact : others place stamp + (times_of spare place stamp + times_in jobs place stamp) ≡ times_out t' place stamp = still_covered t t' (λ p s. others p s + (times_of spare p s + times_in jobs p s)) spends covered place stamp in
     let more = times_more jobs (Relink k old kept) place stamp in
     let same : times_of spare place stamp ≡ times_of (Some kept) place stamp = ap (λ (o : Option SpareAt). times_of o place stamp) is in
-    regroup (others place stamp) (times_of spare place stamp) (times_of (Some kept) place stamp) (times_in jobs place stamp) (times_in (jobs ++ Relink k old kept ∷ []) place stamp) (times_out t' place stamp) same more exact
-  where
-    regroup : (a b d j k n : ℕ) → b ≡ d → k ≡ j + d → a + (b + j) ≡ n → a + (0 + k) ≡ n
-    regroup a b d j k n same more exact = omega arith
+    omega arith
 
 pub done_covered : (t t' : TableAt) (spare : Option SpareAt) (job : Option MapJob) (jobs : List MapJob) (m : Map) (op : Op) → job ≡ job_of m op spare → SpendsFor t t' spare job
     → (others : ℕ → ℕ → ℕ) → IsCovered (λ place stamp. others place stamp + (times_of spare place stamp + times_in jobs place stamp)) t

@@ -1,19 +1,13 @@
 -- A core whose history is empty.
-use Rattle.std.proofs.Common.{◌≡◌, ℕ, ◌+◌, ◌<◌, ◌≤◌, ◌==◌, ◌∷◌, Bool, true, List, [], length, map, replicate, Option, Some, None, zero, suc, refl, sym, ap, subst, ◌∙◌, arith}
-use Rattle.std.specs.Prelude.{slice_get, sum_by}
-use Rattle.std.specs.List.{All}
-use Rattle.std.specs.Option.{option_map}
+use Rattle.std.proofs.Common.{◌≡◌, ℕ, ◌+◌, ◌<◌, ◌≤◌, ◌==◌, ◌∷◌, Bool, true, List, [], length, map, replicate, Option, Some, None, zero, suc, refl, sym, ap, subst, ◌∙◌, arith, slice_get, sum_by, eq-eqb, eqb-true, inl, inr}
+use Rattle.boost_core.proofs.Vocabulary.{All, option_map, and_parts, cases_Bool, cases_lt, slice_get_within, get_or_from_slice_get, caller_of}
 use Rattle.std.specs.Int.{is_power_of_two}
-use Rattle.std.proofs.lemmas.Bool.{and_parts, cases_Bool, cases_lt, eq-eqb, eqb-true}
 use Rattle.std.proofs.lemmas.List.{length-replicate, get_or-replicate, get_or_past}
 use Rattle.std.proofs.lemmas.List.Elements.{All-nil}
 use Rattle.std.proofs.lemmas.List.Sums.{sum_by-cons}
-use Rattle.std.proofs.lemmas.Option.{slice_get_within, get_or_from_slice_get}
-use mathlib.Core.Logic.{inl, inr}
 use Rattle.key_locks.specs.Locks.{holder_of as held_by}
 use Rattle.txn_words.specs.Sizes.{Sizes, are_limits}
 use Rattle.txn_words.specs.Owed.{owed_in}
-use Rattle.txn_words.specs.Kinds.{caller_of}
 use Rattle.txn_trace.proofs.Judging.{legal_none}
 use Rattle.node_list.specs.Nodes.{NodeAt, first, first_dummy, node_of}
 use Rattle.node_list.specs.Order.{IsRising, IsSpread}

@@ -1,23 +1,13 @@
 -- No step of a caller unlinks an unmarked node, nor touches the buckets and the helpers.
-use Rattle.std.proofs.Common.{◌≡◌, ℕ, Bool, true, false, List, Option, Some, None, refl, sym, ap, subst, ◌∙◌}
-use Rattle.std.specs.Prelude.{nat_eq}
-use Rattle.std.specs.Option.{option_eq}
-use Rattle.split_key.specs.Sort.{regular_at}
+use Rattle.std.proofs.Common.{◌≡◌, ℕ, Bool, true, false, List, Option, Some, None, refl, sym, ap, subst, ◌∙◌, nat_eq}
+use Rattle.boost_core.proofs.Vocabulary.{option_eq, regular_at, IsSpread, Op, Put, Take, Get, PutIf, Step, Answer, MapJob, Unput, Restore, Relink}
 use Rattle.node_list.specs.Nodes.{NodeAt, Listing}
-use Rattle.node_list.specs.Order.{IsSpread}
-use Rattle.txn_words.specs.declared.op.Op.{Op}
-use Rattle.txn_words.specs.declared.op.Op.TheVariants.{Put, Take, Get, PutIf}
-use Rattle.txn_words.specs.declared.step.Step.{Step}
 use Rattle.txn_words.specs.declared.step.Step.TheVariants as steps
-use Rattle.txn_words.specs.declared.answer.Answer.{Answer}
 use Rattle.txn_words.specs.declared.answer.Answer.TheVariants as answers
-use Rattle.map_ops.specs.declared.job.MapJob.{MapJob}
-use Rattle.map_ops.specs.declared.job.MapJob.TheVariants.{Unput, Restore, Relink}
 use Rattle.map_ops.specs.TableAt.{TableAt, SpareAt, KeepsNodes, nodes_of}
-use Rattle.map_ops.specs.Changes.{SeeksNear}
 use Rattle.map_ops.specs.Nodes.{LinksNode, MarksNode, WritesNode, WritesNothing, OpWrites, PutWrites, PutIfWrites, TakeWrites, JobWrites, node_for}
 use Rattle.boost_core.specs.declared.claim.Claim.{Claim}
-use Rattle.boost_core.specs.declared.claim.Claim.TheVariants.{Lock, Right, Held, Stale}
+use Rattle.boost_core.specs.declared.claim.Claim.TheVariants.{Lock, Right}
 use Rattle.boost_core.specs.declared.session.Session.{Session}
 use Rattle.boost_core.specs.declared.counts.Counts.{Counts}
 use Rattle.boost_core.specs.Sessions.{Does, ActsIn, IsAsked, AsksBy}
@@ -59,86 +49,57 @@ undone l l' (Unput key) spread is = marked l l' key is
 undone l l' (Restore key was) spread is = written l l' key was is
 undone l l' (Relink key was spare) spread is = linked l l' (node_for key was spare) spread is
 
+-- After a step of a caller the unmarked nodes are still linked, and the buckets and the helpers are
+-- unchanged.
+pub record Leaves (t t' : TableAt) : Type 0 where
+  pub nodes : Stay (nodes_of t) (nodes_of t')
+  pub buckets : t'.buckets ≡ t.buckets
+
 module _ (t t' : TableAt) (spread : IsSpread (nodes_of t')) where
-  same : t' ≡ t → Stay (nodes_of t) (nodes_of t')
-  same is = stay_same (nodes_of t) (nodes_of t') (ap nodes_of is)
+  same : t' ≡ t → Leaves t t'
+  same is = record { nodes = stay_same (nodes_of t) (nodes_of t') (ap nodes_of is); buckets = ap (λ u. u.buckets) is }
 
-  rested : KeepsNodes t t' → Stay (nodes_of t) (nodes_of t')
-  rested keeps = stay_same (nodes_of t) (nodes_of t') keeps.all
-
-  sought : (key : ℕ) → SeeksNear t t' key → Stay (nodes_of t) (nodes_of t')
-  sought key near = subst (Stay (nodes_of t)) (sym near.nodes) (stay_sought (regular_at key) (nodes_of t) near.start)
+  rested : KeepsNodes t t' → Leaves t t'
+  rested keeps = record { nodes = stay_same (nodes_of t) (nodes_of t') keeps.all; buckets = keeps.buckets.all }
 
   module _ (x y : Session) (locks locks' : List (Option ℕ)) where
-    asked : (c stripe : ℕ) (op : Op) (answer : Answer) → IsAsked c stripe op x t locks answer y t' locks' → Stay (nodes_of t) (nodes_of t')
+    asked : (c stripe : ℕ) (op : Op) (answer : Answer) → IsAsked c stripe op x t locks answer y t' locks' → Leaves t t'
     asked c stripe op answers.Asked is = rested is.prepares.nodes
-    asked c stripe op (answers.Busy holder) is = stay_same (nodes_of t) (nodes_of t') (is.back.nodes.all ∙ is.prepares.nodes.all)
+    asked c stripe op (answers.Busy holder) is =
+        record {
+          nodes = stay_same (nodes_of t) (nodes_of t') (is.back.nodes.all ∙ is.prepares.nodes.all);
+          buckets = is.back.nodes.buckets.all ∙ is.prepares.nodes.buckets.all;
+        }
     asked c stripe op (answers.Refused refusal) is = same is.2
     asked c stripe op _ is = absurd is
 
-    asked_by : (claim : Claim) (c stripe : ℕ) (op : Op) (answer : Answer) → AsksBy claim c stripe op x t locks answer y t' locks' → Stay (nodes_of t) (nodes_of t')
+    asked_by : (claim : Claim) (c stripe : ℕ) (op : Op) (answer : Answer) → AsksBy claim c stripe op x t locks answer y t' locks'
+        → Leaves t t'
     asked_by Lock c stripe op answer is = asked c stripe op answer is
     asked_by Right c stripe op answer is = asked c stripe op is.0 is.2
-    asked_by (Held named) c stripe op answer is = same is.2
-    asked_by Stale c stripe op answer is = same is.2
+    asked_by _ c stripe op answer is = same is.2
 
-    acted : (c : ℕ) (answer : Answer) → ActsIn c x t locks answer y t' locks' → Stay (nodes_of t) (nodes_of t')
+    acted : (c : ℕ) (answer : Answer) → ActsIn c x t locks answer y t' locks' → Leaves t t'
     acted c answers.Again is = same is.1.table
-    acted c (answers.Done reply) is = operated t.list t'.list is.0.pending.op is.0.pending.spare _ spread is.0.writes
-    acted c answers.Undone is = undone t.list t'.list is.1.job spread is.1.writes
+    acted c (answers.Done reply) is =
+        record { nodes = operated t.list t'.list is.0.pending.op is.0.pending.spare _ spread is.0.writes; buckets = is.0.does.buckets.all }
+    acted c answers.Undone is = record { nodes = undone t.list t'.list is.1.job spread is.1.writes; buckets = is.1.back.buckets.all }
     acted c (answers.Returned n) is = same is.2
     acted c answers.Aborted is = same is.2
     acted c _ is = absurd is
 
-    pub does_stay : (claim : Claim) (stripes : ℕ) (counts : Counts) (step : Step) (answer : Answer) → Does claim stripes counts step x t locks answer y t' locks' → Stay (nodes_of t) (nodes_of t')
+    -- The parts that each step of a caller leaves unchanged.
+    pub does_stay : (claim : Claim) (stripes : ℕ) (counts : Counts) (step : Step) (answer : Answer)
+        → Does claim stripes counts step x t locks answer y t' locks' → Leaves t t'
     does_stay claim stripes counts (steps.Begin d) (answers.Began n) is = same is.2
-    does_stay claim stripes counts (steps.Begin d) _ is = absurd is
     does_stay claim stripes counts (steps.Ask d op) answer is = asked_by claim d _ op answer is
-    does_stay claim stripes counts (steps.Seek d) answers.Placed is = sought is.0.key is.0.near
-    does_stay claim stripes counts (steps.Seek d) _ is = absurd is
+    does_stay claim stripes counts (steps.Seek d) answers.Placed is = record {
+      nodes = subst (Stay (nodes_of t)) (sym is.0.near.nodes) (stay_sought (regular_at is.0.key) (nodes_of t) is.0.near.start);
+      buckets = is.0.places.keeps.buckets.all;
+    }
     does_stay claim stripes counts (steps.Act d) answer is = acted d answer is
     does_stay claim stripes counts (steps.Save d) answer is = same is.1
     does_stay claim stripes counts (steps.Back d n) answers.Leaving is = same is.1
-    does_stay claim stripes counts (steps.Back d n) _ is = absurd is
     does_stay claim stripes counts (steps.Commit d) (answers.Committed p) is = rested is.1.rests.nodes
-    does_stay claim stripes counts (steps.Commit d) _ is = absurd is
     does_stay claim stripes counts (steps.Abort d) answers.Leaving is = rested is.0.rests.nodes
-    does_stay claim stripes counts (steps.Abort d) _ is = absurd is
-    does_stay claim stripes counts _ answer is = absurd is
-
-    -- The buckets and the helpers are unchanged.
-    own_buckets : (c stripe : ℕ) (op : Op) (answer : Answer) → IsAsked c stripe op x t locks answer y t' locks' → t'.buckets ≡ t.buckets
-    own_buckets c stripe op answers.Asked is = is.prepares.nodes.buckets.all
-    own_buckets c stripe op (answers.Busy holder) is = is.back.nodes.buckets.all ∙ is.prepares.nodes.buckets.all
-    own_buckets c stripe op (answers.Refused refusal) is = ap (λ u. u.buckets) is.2
-    own_buckets c stripe op _ is = absurd is
-
-    asked_buckets : (claim : Claim) (c stripe : ℕ) (op : Op) (answer : Answer) → AsksBy claim c stripe op x t locks answer y t' locks' → t'.buckets ≡ t.buckets
-    asked_buckets Lock c stripe op answer is = own_buckets c stripe op answer is
-    asked_buckets Right c stripe op answer is = own_buckets c stripe op is.0 is.2
-    asked_buckets (Held named) c stripe op answer is = ap (λ u. u.buckets) is.2
-    asked_buckets Stale c stripe op answer is = ap (λ u. u.buckets) is.2
-
-    acted_buckets : (c : ℕ) (answer : Answer) → ActsIn c x t locks answer y t' locks' → t'.buckets ≡ t.buckets
-    acted_buckets c answers.Again is = ap (λ u. u.buckets) is.1.table
-    acted_buckets c (answers.Done reply) is = is.0.does.buckets.all
-    acted_buckets c answers.Undone is = is.1.back.buckets.all
-    acted_buckets c (answers.Returned n) is = ap (λ u. u.buckets) is.2
-    acted_buckets c answers.Aborted is = ap (λ u. u.buckets) is.2
-    acted_buckets c _ is = absurd is
-
-    pub does_buckets : (claim : Claim) (stripes : ℕ) (counts : Counts) (step : Step) (answer : Answer) → Does claim stripes counts step x t locks answer y t' locks' → t'.buckets ≡ t.buckets
-    does_buckets claim stripes counts (steps.Begin d) (answers.Began n) is = ap (λ u. u.buckets) is.2
-    does_buckets claim stripes counts (steps.Begin d) _ is = absurd is
-    does_buckets claim stripes counts (steps.Ask d op) answer is = asked_buckets claim d _ op answer is
-    does_buckets claim stripes counts (steps.Seek d) answers.Placed is = is.0.places.keeps.buckets.all
-    does_buckets claim stripes counts (steps.Seek d) _ is = absurd is
-    does_buckets claim stripes counts (steps.Act d) answer is = acted_buckets d answer is
-    does_buckets claim stripes counts (steps.Save d) answer is = ap (λ u. u.buckets) is.1
-    does_buckets claim stripes counts (steps.Back d n) answers.Leaving is = ap (λ u. u.buckets) is.1
-    does_buckets claim stripes counts (steps.Back d n) _ is = absurd is
-    does_buckets claim stripes counts (steps.Commit d) (answers.Committed p) is = is.1.rests.nodes.buckets.all
-    does_buckets claim stripes counts (steps.Commit d) _ is = absurd is
-    does_buckets claim stripes counts (steps.Abort d) answers.Leaving is = is.0.rests.nodes.buckets.all
-    does_buckets claim stripes counts (steps.Abort d) _ is = absurd is
-    does_buckets claim stripes counts _ answer is = absurd is
+    does_stay claim stripes counts _ _ is = absurd is

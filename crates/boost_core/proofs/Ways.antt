@@ -1,9 +1,7 @@
 -- The way from bucket 0 to a bucket rises.
-use Prim.Native.Nat.{zero, suc}
-use Rattle.std.proofs.Common.{◌≡◌, ◌≢◌, ℕ, ◌^◌, ◌<◌, ◌≤◌, refl, ap, sym, subst, ◌∙◌, arith, inl, inr}
+use Rattle.std.proofs.Common.{◌≡◌, ◌≢◌, ℕ, ◌^◌, ◌<◌, ◌≤◌, refl, ap, sym, subst, ◌∙◌, arith, inl, inr, zero, suc, pow_pos}
 use Rattle.std.proofs.lemmas.Bool.{cases_lt}
 use Rattle.std.proofs.lemmas.Bool.Decides.{eqb_tells, leb_tells}
-use Rattle.std.proofs.lemmas.Nat.{pow_pos}
 use Rattle.split_key.specs.Split.{parent_of, highest_cleared, IsAncestor}
 use Rattle.txn_drive.specs.Ways.{child_within, child_towards}
 use Rattle.txn_drive.proofs.WayLemmas.{parent_of-zero, parent_of-child_towards, child_towards-le}

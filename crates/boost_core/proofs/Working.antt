@@ -1,88 +1,49 @@
 -- The steps by which callers work on the map.
-use Rattle.std.proofs.Common.{◌≡◌, ℕ, ◌+◌, ◌-◌, ◌<◌, ◌≤◌, true, cond, List, [], ◌∷◌, ◌++◌, length, Option, Some, None, is_some, refl, sym, ap, subst, ◌∙◌, arith}
-use Rattle.std.specs.Prelude.{slice_get, slice_set, map, reverse, slice_index, nat_lt, option_to_list}
-use Rattle.std.specs.Option.{option_map}
-use Rattle.std.specs.List.{AllByRecursion}
-use Rattle.std.proofs.lemmas.Bool.{false≢true, ne_eqb, ltb-true}
-use Rattle.std.proofs.lemmas.List.{reverse-append}
-use Rattle.std.proofs.lemmas.List.Sums.{sum_by_push}
-use Rattle.txn_words.specs.Map.{get, key_of, reply_of, after, set_at}
-use Rattle.txn_trace.specs.Locks.{stripe_of}
+use Rattle.std.proofs.Common.{◌≡◌, ℕ, ◌+◌, ◌-◌, ◌<◌, ◌≤◌, true, cond, List, [], ◌∷◌, ◌++◌, length, Option, Some, None, is_some, refl, sym, ap, subst, ◌∙◌, arith, slice_get, slice_set, map, reverse, slice_index, nat_lt, option_to_list, ne_eqb, ltb-true}
+use Rattle.boost_core.proofs.Vocabulary.{AllByRecursion, false≢true, reverse-append, stripe_of, holder_of, TableAt, content, table_changes, serial, now, log_of, Phase, Opened, Waiting, LeavingTo, LeavingToEnd, Next, kept_at, MapJob}
+use Rattle.txn_words.specs.Map.{get, key_of, reply_of, after, set_at, Map}
 use Rattle.txn_trace.specs.Legal.{runs, is_running}
-use Rattle.txn_words.specs.Shape.{changes}
+use Rattle.txn_words.specs.Shape.{changes, Seat}
 use Rattle.txn_words.proofs.Effects.{get-after_other}
 use Rattle.txn_words.proofs.Maps.{get-set_at}
 use Rattle.txn_trace.proofs.Held.{waiting_held, log_held, held_apart}
-use Rattle.map_ops.specs.Jobs.{takes_node, key_of_job, value_before, spare_of_job, job_of}
-use Rattle.map_ops.specs.TableAt.{Keeps}
+use Rattle.map_ops.specs.Jobs.{takes_node, key_of_job, value_before, spare_of_job, job_of, PendingAt}
 use Rattle.txn_words.specs.declared.entry.Entry.TheVariants as entry
 use Rattle.txn_words.specs.declared.step.Step.TheVariants as steps
 use Rattle.txn_words.specs.declared.answer.Answer.TheVariants as answers
-use Rattle.txn_words.specs.Map.{Map}
-use Rattle.txn_trace.specs.Serial.{serial}
-use Rattle.txn_trace.specs.Now.{now}
-use Rattle.txn_trace.specs.Locks.{holder_of}
-use Rattle.txn_trace.specs.Log.{log_of}
-use Rattle.txn_words.specs.declared.seat.Phase.{Phase}
-use Rattle.txn_words.specs.declared.seat.Phase.TheVariants.{Closed, Opened, Waiting, LeavingTo, LeavingToEnd}
-use Rattle.txn_words.specs.Shape.{Seat}
-use Rattle.txn_words.specs.Seats.{has_job}
-use Rattle.txn_trace.proofs.Next.{Next}
 use Rattle.txn_trace.proofs.Entries as laws
-use Rattle.undo_log.specs.UndoLog.{kept_at}
-use Rattle.map_ops.specs.declared.job.MapJob.{MapJob}
-use Rattle.map_ops.specs.Jobs.{PendingAt}
-use Rattle.map_ops.specs.TableAt.{TableAt, content, cursor_changes, table_changes}
 use Rattle.boost_core.specs.declared.session.Session.{Session}
 use Rattle.boost_core.specs.State.{seat_in, holder_by}
-use Rattle.boost_core.specs.Refusals.{refusal_of}
+use Rattle.boost_core.specs.Refusals.{refusal_of, has_job}
 use Rattle.boost_core.specs.Spares.{times_of, times_in, times_out, IsCovered}
 use Rattle.boost_core.specs.Core.{World, Tells, state_of, session_changes}
 use Rattle.boost_core.proofs.Numbers.{no_more}
-use Rattle.boost_core.proofs.Moves.{Runs, state_is, changes_set}
-use Rattle.boost_core.proofs.Grow.{world_after, seated_as}
-use Rattle.boost_core.proofs.Outcomes.{Called, move_is}
+use Rattle.boost_core.proofs.Moves.{Runs, runs_of}
+use Rattle.boost_core.proofs.Outcomes.{Called, entered}
 use Rattle.boost_core.specs.Answers.{IsReply}
-use Rattle.boost_core.specs.Sessions.{Side, side_of, level_of, KeepsPlaced, Waits, spare_if, times_kept, change_of, changes_of, AreDue, DoesIn, TakesBackIn}
+use Rattle.boost_core.specs.Sessions.{side_of, level_of, KeepsPlaced, Waits, spare_if, times_kept, change_of, changes_of, AreDue, DoesIn, TakesBackIn}
+use Rattle.boost_core.proofs.Settling.{times_pushed}
 use Rattle.boost_core.proofs.Spares.{spent}
 use Rattle.boost_core.proofs.Due.{NotedIf, noted, changes_noted, due_noted}
 use Rattle.boost_core.proofs.Sides.{IsGoing, going, waiting_op, changes_last}
 use Rattle.boost_core.proofs.Refused.{seat_here}
 use Rattle.boost_core.proofs.SparesKept.{done_covered}
 
-pub keeps_runs : (t t' : TableAt) → Keeps t t' → table_changes t ≤ table_changes t' → Runs t t'
-keeps_runs t t' keeps rises = record {
-  size = keeps.buckets.size;
-  stored = keeps.buckets.stored;
-  linked = keeps.linked;
-  helps = keeps.buckets.helps;
-  rises = rises;
-  last = let same = keeps.last in omega arith;
-  one_last = let same = keeps.last in omega arith;
-}
-
 going_waits : (q : Phase) (o : Option PendingAt) (room room' : ℕ) → IsGoing q → Waits q o room → Waits q o room'
-going_waits Closed o room room' goes waits = absurd goes
-going_waits Opened o room room' goes waits = absurd goes
-going_waits (Waiting op) o room room' goes waits = absurd goes
 going_waits (LeavingTo n) None room room' goes waits = tt
 going_waits (LeavingTo n) (Some pending) room room' goes waits = absurd waits
 going_waits LeavingToEnd None room room' goes waits = tt
 going_waits LeavingToEnd (Some pending) room room' goes waits = absurd waits
+going_waits _ o room room' goes waits = absurd goes
 
 going_runs : (q : Phase) → IsGoing q → runs q ≡ true
-going_runs Closed is = absurd is
-going_runs Opened is = absurd is
-going_runs (Waiting op) is = absurd is
 going_runs (LeavingTo n) is = refl
 going_runs LeavingToEnd is = refl
+going_runs _ is = absurd is
 
 waiting_spare : (q : Phase) (pending : PendingAt) (room : ℕ) → Waits q (Some pending) room → is_some pending.spare ≡ takes_node pending.op
-waiting_spare Closed pending room is = absurd is
-waiting_spare Opened pending room is = absurd is
 waiting_spare (Waiting op) pending room is = is.2 ∙ ap takes_node (sym is.0)
-waiting_spare (LeavingTo n) pending room is = absurd is
-waiting_spare LeavingToEnd pending room is = absurd is
+waiting_spare _ pending room is = absurd is
 
 module _ (w : World) (tells : Tells w) (c : ℕ) (x : Session) (at : slice_get w.sessions c ≡ Some x) where
   here : seat_in w.history c ≡ x.seat.seat
@@ -116,51 +77,40 @@ module _ (w : World) (tells : Tells w) (c : ℕ) (x : Session) (at : slice_get w
         ∙ changes_noted (now w.history) does.pending.op does.pending.spare x.log.jobs does.job noted_here
 
     did_runs : table_changes w.table ≤ table_changes t' → Runs w.table t'
-    did_runs rises = record {
-      size = does.does.buckets.size;
-      stored = does.does.buckets.stored;
-      linked = does.does.linked;
-      helps = does.does.buckets.helps;
-      rises = rises;
-      last = let same = does.does.last in omega arith;
-      one_last = let same = does.does.last in omega arith;
-    }
+    did_runs rises = runs_of w.table t' does.does.buckets does.does.linked rises does.does.last
 
     pub did_called : table_changes w.table ≤ table_changes t' → Called w c x (steps.Act c) (answers.Done reply) y t' w.locks
-    did_called rises = record {
-      comes = record {
-        seat = did_seat;
-        committed = serial w.history;
-        current = after (now w.history) does.pending.op;
-        holder = λ s. holder_of w.limits.stripes s w.history;
-        side = record (side_of x) { pending = None; jobs = x.log.jobs ++ option_to_list does.job };
-        becomes = does.becomes;
-        next = subst (λ l. Next (holder_by w.words) w.limits.stripes w.history (entry.Did c reply) did_seat l (serial w.history) (after (now w.history) does.pending.op) (λ s. holder_of w.limits.stripes s w.history)) did_log did_law;
-        mine = refl;
-        saved = λ is. absurd (false≢true is);
-        kept = (tells.seated c x at).agrees.kept;
-        waits = tt;
-        due = due_noted (now w.history) does.pending.op does.pending.spare x.log.jobs does.job noted_here (tells.seated c x at).due;
-        content = does.does.content_is ∙ ap (λ n. after n does.pending.op) tells.content;
-        apart = λ d other k held. get-after_other (now w.history) does.pending.op k
-            (held_apart w.limits.stripes w.history d c k (key_of does.pending.op) held (waiting_held w.limits.stripes w.history tells.legal c does.pending.op x.seat.seat (tells.seated c x at).seat phase_was) other);
-        placed = keeps;
-        spares = λ others covered. done_covered w.table t' does.pending.spare does.job x.log.jobs (content w.table) does.pending.op does.does.job_is does.does.spares others
-            (subst (λ (o : Option PendingAt). IsCovered (λ p s. others p s + (times_of (spare_if o) p s + times_in x.log.jobs p s)) w.table) does.had covered);
-        largest = does.does.buckets.largest;
-        helpers = ap length does.does.buckets.helps;
-        begins = no_more w.counts.began;
-        commits = no_more w.counts.committed;
-        long = refl;
-        holders = tells.holders;
-      };
-      move = λ seat'. move_is w (world_after w c (seated_as y seat') (w.history ++ entry.Did c reply ∷ []) w.counts t' w.locks None) (steps.Act c) (answers.Done reply)
-          (none, subst (λ (q : Phase). IsReply q (now w.history) reply) (sym (ap (λ (s : Seat). s.phase) here ∙ phase_was)) reply_is)
-          (state_is w (w.history ++ entry.Did c reply ∷ []) (w.history ++ entry.Did c reply ∷ []) w.counts t' (slice_set (map session_changes w.sessions) c None) (slice_set w.sessions c (seated_as y seat')) w.locks None (did_runs rises) refl
-          (changes_set w.sessions c (seated_as y seat') None (ap (λ (s : Side). option_map cursor_changes s.cursor) does.becomes)))
-          (did_runs rises) (λ kept. absurd (false≢true kept));
-      fresh = λ seat'. tt;
-    }
+    did_called rises =
+        entered w c x y t' w.locks (steps.Act c) (answers.Done reply) (entry.Did c reply)
+        (slice_set (map session_changes w.sessions) c None) refl refl refl refl
+        (none, subst (λ (q : Phase). IsReply q (now w.history) reply) (sym (ap (λ (s : Seat). s.phase) here ∙ phase_was)) reply_is)
+        (did_runs rises) (λ kept. absurd (false≢true kept))
+        (record {
+          seat = did_seat;
+          committed = serial w.history;
+          current = after (now w.history) does.pending.op;
+          holder = λ s. holder_of w.limits.stripes s w.history;
+          side = record (side_of x) { pending = None; jobs = x.log.jobs ++ option_to_list does.job };
+          becomes = does.becomes;
+          next = subst (λ l. Next (holder_by w.words) w.limits.stripes w.history (entry.Did c reply) did_seat l (serial w.history) (after (now w.history) does.pending.op) (λ s. holder_of w.limits.stripes s w.history)) did_log did_law;
+          mine = refl;
+          saved = λ is. absurd (false≢true is);
+          kept = (tells.seated c x at).agrees.kept;
+          waits = tt;
+          due = due_noted (now w.history) does.pending.op does.pending.spare x.log.jobs does.job noted_here (tells.seated c x at).due;
+          content = does.does.content_is ∙ ap (λ n. after n does.pending.op) tells.content;
+          apart = λ d other k held. get-after_other (now w.history) does.pending.op k
+              (held_apart w.limits.stripes w.history d c k (key_of does.pending.op) held (waiting_held w.limits.stripes w.history tells.legal c does.pending.op x.seat.seat (tells.seated c x at).seat phase_was) other);
+          placed = keeps;
+          spares = λ others covered. done_covered w.table t' does.pending.spare does.job x.log.jobs (content w.table) does.pending.op does.does.job_is does.does.spares others
+              (subst (λ (o : Option PendingAt). IsCovered (λ p s. others p s + (times_of (spare_if o) p s + times_in x.log.jobs p s)) w.table) does.had covered);
+          largest = does.does.buckets.largest;
+          helpers = ap length does.does.buckets.helps;
+          begins = no_more w.counts.began;
+          commits = no_more w.counts.committed;
+          long = refl;
+          holders = tells.holders;
+        })
 
   -- The newest change is taken back.
   module _ (none : refusal_of (state_of w) (steps.Act c) ≡ None) (has : has_job x.seat.seat ≡ true) (y : Session) (t' : TableAt) (back : TakesBackIn x w.table y t') (keeps : KeepsPlaced w.table t') where
@@ -184,35 +134,25 @@ module _ (w : World) (tells : Tells w) (c : ℕ) (x : Session) (at : slice_get w
 
     undone_law : (q : Phase) → x.seat.seat.phase ≡ q → IsGoing q × (nat_lt (kept_at x.log.kept (level_of q)) (length x.log.jobs) ≡ true)
         → Next (holder_by w.words) w.limits.stripes w.history (entry.Undone c) undone_seat (changes_of y.log.jobs) (serial w.history) undone_map (λ s. holder_of w.limits.stripes s w.history)
-    undone_law Closed is so = absurd so.0
-    undone_law Opened is so = absurd so.0
-    undone_law (Waiting op) is so = absurd so.0
     undone_law (LeavingTo n) is so =
         let agrees = (tells.seated c x at).agrees in
         laws.undone_to w.limits.stripes w.history tells.legal c n x.seat.seat (tells.seated c x at).seat is
         (subst (λ ks. slice_index ks n < x.seat.seat.standing) (sym agrees.kept) (subst (λ k. kept_at x.log.kept n < k) (sym agrees.standing) (ltb-true (kept_at x.log.kept n) (length x.log.jobs) so.1))) (change_of back.job) (changes_of y.log.jobs) log_is
     undone_law LeavingToEnd is so = laws.undone_to_end w.limits.stripes w.history tells.legal c x.seat.seat (tells.seated c x at).seat is some_standing (change_of back.job) (changes_of y.log.jobs) log_is
+    undone_law _ is so = absurd so.0
 
     key_held : holder_of w.limits.stripes (stripe_of w.limits.stripes (key_of_job back.job)) w.history ≡ Some c
     key_held = (subst (λ (log : List (ℕ × Option ℕ)). AllByRecursion (λ (change : ℕ × Option ℕ). holder_of w.limits.stripes (stripe_of w.limits.stripes change.0) w.history ≡ Some c) log) log_is
         (log_held w.limits.stripes w.history tells.legal c (ap is_running (tells.seated c x at).seat ∙ going_runs x.seat.seat.phase goes.0))).0
 
     undone_runs : table_changes w.table ≤ table_changes t' → Runs w.table t'
-    undone_runs rises = record {
-      size = back.back.buckets.size;
-      stored = back.back.buckets.stored;
-      linked = back.back.linked;
-      helps = back.back.buckets.helps;
-      rises = rises;
-      last = let same = back.back.last in omega arith;
-      one_last = let same = back.back.last in omega arith;
-    }
+    undone_runs rises = runs_of w.table t' back.back.buckets back.back.linked rises back.back.last
 
     undone_covered : (others : ℕ → ℕ → ℕ) → IsCovered (λ place stamp. others place stamp + times_kept (side_of x) place stamp) w.table → IsCovered (λ place stamp. others place stamp + times_kept (record (side_of x) { jobs = y.log.jobs }) place stamp) t'
     undone_covered others covered place stamp =
         let after : others place stamp + times_of (spare_if x.pending) place stamp + times_in y.log.jobs place stamp ≡ times_out t' place stamp =
         spent w.table t' (spare_of_job back.job) (λ p s. others p s + times_of (spare_if x.pending) p s + times_in y.log.jobs p s) back.back.spares (λ p s.
-        let times : times_in x.log.jobs p s ≡ times_in y.log.jobs p s + times_of (spare_of_job back.job) p s = ap (λ (js : List MapJob). times_in js p s) back.jobs ∙ sum_by_push (λ (j : MapJob). times_of (spare_of_job j) p s) y.log.jobs back.job in
+        let times : times_in x.log.jobs p s ≡ times_in y.log.jobs p s + times_of (spare_of_job back.job) p s = times_pushed x.log.jobs y.log.jobs back.job p s back.jobs in
         let exact : others p s + (times_of (spare_if x.pending) p s + times_in x.log.jobs p s) ≡ times_out w.table p s = covered p s in
         regroup (others p s) (times_of (spare_if x.pending) p s) (times_in x.log.jobs p s) (times_in y.log.jobs p s) (times_of (spare_of_job back.job) p s) (times_out w.table p s) times exact) place stamp in
         regroup' (others place stamp) (times_of (spare_if x.pending) place stamp) (times_in y.log.jobs place stamp) (times_out t' place stamp) after
@@ -224,36 +164,33 @@ module _ (w : World) (tells : Tells w) (c : ℕ) (x : Session) (at : slice_get w
         regroup' a b k n exact = omega arith
 
     pub undone_called : table_changes w.table ≤ table_changes t' → Called w c x (steps.Act c) answers.Undone y t' w.locks
-    undone_called rises = record {
-      comes = record {
-        seat = undone_seat;
-        committed = serial w.history;
-        current = undone_map;
-        holder = λ s. holder_of w.limits.stripes s w.history;
-        side = record (side_of x) { jobs = y.log.jobs };
-        becomes = back.becomes;
-        next = undone_law x.seat.seat.phase refl goes;
-        mine = refl;
-        saved = λ is. absurd (false≢true is);
-        kept = (tells.seated c x at).agrees.kept;
-        waits = going_waits x.seat.seat.phase x.pending x.log.room y.log.room goes.0 (tells.seated c x at).agrees.waits;
-        due = (subst (λ (js : List MapJob). AreDue (now w.history) js) (ap reverse back.jobs ∙ reverse-append y.log.jobs (back.job ∷ [])) (tells.seated c x at).due).1;
-        content = back.back.content_is ∙ ap (λ n. set_at n (key_of_job back.job) (value_before back.job)) tells.content;
-        apart = λ d other k held.
-            let away = held_apart w.limits.stripes w.history d c k (key_of_job back.job) held key_held other in
-            get-set_at (now w.history) (key_of_job back.job) (value_before back.job) k ∙ ap (λ b. cond b (value_before back.job) (get (now w.history) k)) (ne_eqb k (key_of_job back.job) away);
-        placed = keeps;
-        spares = undone_covered;
-        largest = back.back.buckets.largest;
-        helpers = ap length back.back.buckets.helps;
-        begins = no_more w.counts.began;
-        commits = no_more w.counts.committed;
-        long = refl;
-        holders = tells.holders;
-      };
-      move = λ seat'. move_is w (world_after w c (seated_as y seat') (w.history ++ entry.Undone c ∷ []) w.counts t' w.locks None) (steps.Act c) answers.Undone (none, ap has_job here ∙ has)
-          (state_is w (w.history ++ entry.Undone c ∷ []) (w.history ++ entry.Undone c ∷ []) w.counts t' (slice_set (map session_changes w.sessions) c None) (slice_set w.sessions c (seated_as y seat')) w.locks None (undone_runs rises) refl
-          (changes_set w.sessions c (seated_as y seat') None (ap (λ (s : Side). option_map cursor_changes s.cursor) back.becomes)))
-          (undone_runs rises) (λ kept. absurd (false≢true kept));
-      fresh = λ seat'. tt;
-    }
+    undone_called rises =
+        entered w c x y t' w.locks (steps.Act c) answers.Undone (entry.Undone c)
+        (slice_set (map session_changes w.sessions) c None) refl refl refl refl (none, ap has_job here ∙ has) (undone_runs rises)
+        (λ kept. absurd (false≢true kept))
+        (record {
+          seat = undone_seat;
+          committed = serial w.history;
+          current = undone_map;
+          holder = λ s. holder_of w.limits.stripes s w.history;
+          side = record (side_of x) { jobs = y.log.jobs };
+          becomes = back.becomes;
+          next = undone_law x.seat.seat.phase refl goes;
+          mine = refl;
+          saved = λ is. absurd (false≢true is);
+          kept = (tells.seated c x at).agrees.kept;
+          waits = going_waits x.seat.seat.phase x.pending x.log.room y.log.room goes.0 (tells.seated c x at).agrees.waits;
+          due = (subst (λ (js : List MapJob). AreDue (now w.history) js) (ap reverse back.jobs ∙ reverse-append y.log.jobs (back.job ∷ [])) (tells.seated c x at).due).1;
+          content = back.back.content_is ∙ ap (λ n. set_at n (key_of_job back.job) (value_before back.job)) tells.content;
+          apart = λ d other k held.
+              let away = held_apart w.limits.stripes w.history d c k (key_of_job back.job) held key_held other in
+              get-set_at (now w.history) (key_of_job back.job) (value_before back.job) k ∙ ap (λ b. cond b (value_before back.job) (get (now w.history) k)) (ne_eqb k (key_of_job back.job) away);
+          placed = keeps;
+          spares = undone_covered;
+          largest = back.back.buckets.largest;
+          helpers = ap length back.back.buckets.helps;
+          begins = no_more w.counts.began;
+          commits = no_more w.counts.committed;
+          long = refl;
+          holders = tells.holders;
+        })

@@ -2,7 +2,7 @@
 -- stripe's word. A word is 0, or one more than the number of the caller that it names.
 pub use Rattle.boost_core.specs.declared.claim.Claim.{Claim}
 pub use Rattle.boost_core.specs.declared.claim.Claim.TheVariants.{Lock, Right, Held, Stale}
-use Rattle.std.specs.Prelude.{◌≡◌, ◌⊎◌, ℕ, ◌+◌, ◌-◌, ◌≤◌, ◌==◌, ◌&&◌, Bool, true, false, not, IsTrue, Option, None, if◌then◌else◌}
+use Rattle.std.specs.Prelude.{◌≡◌, ◌⊎◌, ℕ, ◌+◌, ◌≤◌, ◌==◌, ◌&&◌, Bool, true, false, not, IsTrue, None, if◌then◌else◌}
 use Rattle.txn_words.specs.declared.holder.Holder.TheVariants.{Now}
 use Rattle.txn_words.specs.declared.op.Op.{Op}
 use Rattle.txn_words.specs.declared.step.Step.{Step}

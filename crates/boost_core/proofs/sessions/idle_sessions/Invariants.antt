@@ -1,5 +1,4 @@
-use Rattle.std.proofs.Common.{◌≡◌, ◌≤◌, vec_len}
-use Rattle.std.specs.Prelude.{vec_capacity}
+use Rattle.std.proofs.Common.{◌≡◌, ◌≤◌, vec_len, vec_capacity}
 use Rattle.std.specs.List.{All}
 use Rattle.boost_core.specs.Sessions.{IsIdle}
 use Rattle.boost_core.proofs.sessions.idle_sessions.Given as goal

@@ -1,12 +1,11 @@
-use Rattle.std.proofs.Common.{◌≡◌, ◌<◌, ◌++◌, inr, List, Option, refl, sym, ap, subst, ◌∙◌, arith}
-use Rattle.std.specs.Prelude.{vec_len, vec_capacity, sum_by, option_to_list}
+use Rattle.std.proofs.Common.{◌≡◌, ◌<◌, ◌++◌, inr, List, Option, refl, sym, ap, subst, ◌∙◌, arith, vec_len, vec_capacity, sum_by, option_to_list}
 use Rattle.txn_words.specs.declared.entry.Entry.{Entry}
 use Rattle.boost_core.specs.declared.counts.Counts.{Counts}
 use Rattle.boost_core.specs.Counts.{counts_after}
 use Rattle.boost_core.specs.State.{Owner}
 use Rattle.boost_core.specs.Sessions.{Does, Takes, owed_of}
 use Rattle.boost_core.specs.Words.{Goes, reserved_by}
-use Rattle.boost_core.specs.Core.{Tells, world_of, state_of}
+use Rattle.boost_core.specs.Core.{Tells, world_of, state_of, World}
 use Rattle.boost_core.proofs.Beginners.{noted_then}
 use Rattle.boost_core.proofs.Numbers.{began_bound, committed_bound, when_ok, when_err}
 use Rattle.boost_core.proofs.Refused.{at_free}
@@ -20,7 +19,6 @@ use Rattle.boost_core.proofs.Outcomes.{CalledBy, claims_of, goes_of, goes_lackin
 use Rattle.txn_words.specs.declared.answer.Answer.TheVariants as answers
 use Rattle.txn_words.specs.declared.refusal.Refusal.TheVariants as refusals
 use Rattle.txn_words.specs.Owed.{reserved}
-use Rattle.boost_core.specs.Core.{World}
 use Rattle.boost_core.proofs.machine.Core.call.Goals as goal
 
 pub overflow_add-self-inside : goal.overflow_add-self-inside
@@ -82,7 +80,10 @@ returns-clause-lists c =
     let at = at_free _ c.self.invariant.tells c.args.caller c.args.step c.requires.owner none c.index_mut-session.result.now c.index_mut-session.ensures.value in
     let w : World = world_of c.self.inside.limits c.self.inside.history c.self.inside.counts c.self.inside.table c.self.inside.sessions c.self.inside.locks c.self.inside.placed c.self.inside.words in
     let now : World = world_after w c.args.caller (seated_as c.answer-answer.new.self c.add-self-inside.new.seat) c.add-self-inside.new.history.items c.after-self-inside.result c.answer-answer.new.table c.answer-answer.new.locks c.placed_after-self-inside.result in
-    lists_by_of c.args.claim _ _ _ _ _ c.self.view_is (does w c.self.invariant.tells c.args.caller c.index_mut-session.result.now at now c.answer-answer.new.self c.answer-answer.new.locks c.size-size.ensures.stored c.args.claim c.from-stripes.result c.args.step c.requires.owner (claims_of c.args.claim _ _ c.args.step c.self.view_is c.requires.claim) c.answer-answer.result c.answer-answer.ensures.does)
+    lists_by_of c.args.claim _ _ _ _ _ c.self.view_is
+    (does w c.self.invariant.tells c.index_mut-session.result.now now c.answer-answer.new.self c.answer-answer.new.locks
+    c.size-size.ensures.stored c.args.claim c.from-stripes.result c.args.caller at c.args.step c.requires.owner
+    (claims_of c.args.claim _ _ c.args.step c.self.view_is c.requires.claim) c.answer-answer.result c.answer-answer.ensures.does)
 
 pub returns-clause-cursors : goal.returns-clause-cursors
 returns-clause-cursors c =

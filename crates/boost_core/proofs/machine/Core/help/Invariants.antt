@@ -1,7 +1,6 @@
 use Rattle.std.proofs.Common.{◌≡◌, ℕ}
 use Rattle.txn_drive.specs.declared.call.Call.TheVariants as calls
-use Rattle.txn_drive.specs.declared.drive.Drive.{Drive}
-use Rattle.txn_drive.specs.Drives.{new_drive}
+use Rattle.boost_core.proofs.Vocabulary.{Drive, new_drive}
 use Rattle.boost_core.specs.State.{State}
 use Rattle.boost_core.specs.Plain.{Drives}
 use Rattle.boost_core.proofs.Driving.{Fits, left}

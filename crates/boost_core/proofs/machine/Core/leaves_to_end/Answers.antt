@@ -1,5 +1,4 @@
-use Rattle.std.proofs.Common.{◌≡◌, ◌≤◌, List, Some, sym, ap, subst, ◌∙◌, arith}
-use Rattle.std.specs.Prelude.{slice_get}
+use Rattle.std.proofs.Common.{◌≡◌, ◌≤◌, List, Some, sym, ap, subst, ◌∙◌, arith, slice_get}
 use Rattle.boost_core.specs.declared.session.Session.{Session}
 use Rattle.boost_core.proofs.Refused.{index_at, seat_here}
 use Rattle.txn_words.specs.Shape.{Seat}

@@ -2,8 +2,7 @@ use Rattle.std.proofs.Common.{◌≡◌, ℕ, ap, subst, ◌∙◌}
 use Rattle.std.specs.Result.{IfOk}
 use Rattle.std.specs.Ordering.{nat_cmp}
 use Rattle.std.specs.BTreeMap.{get as value_at}
-use Rattle.txn_words.specs.Map.{Map, get}
-use Rattle.txn_trace.specs.Now.{now}
+use Rattle.boost_core.proofs.Vocabulary.{Map, get, now}
 use Rattle.boost_core.specs.State.{State}
 use Rattle.boost_core.proofs.machine.Core.map.Goals as goal
 

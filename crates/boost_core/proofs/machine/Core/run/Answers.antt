@@ -1,5 +1,4 @@
-use Rattle.std.proofs.Common.{arith, refl, sym, ◌∙◌}
-use Rattle.std.proofs.lemmas.List.{take_all}
+use Rattle.std.proofs.Common.{arith, refl, sym, ◌∙◌, take_all}
 use Rattle.boost_core.proofs.Runs.{Moves-more, words_stay}
 use Rattle.boost_core.proofs.machine.Core.run.Goals as goal
 

@@ -1,7 +1,5 @@
-use Rattle.std.proofs.Common.{suc, [], ◌∷◌, refl, sym, ap, subst, ◌∙◌}
-use Rattle.std.specs.Prelude.{nat_le}
-use Rattle.txn_words.specs.Sizes.{Sizes}
-use Rattle.txn_words.specs.declared.answer.Answer.{Answer}
+use Rattle.std.proofs.Common.{suc, [], ◌∷◌, refl, sym, ap, subst, ◌∙◌, nat_le}
+use Rattle.boost_core.proofs.Vocabulary.{Sizes, Answer}
 use Rattle.txn_words.specs.declared.answer.Answer.TheVariants.{Placed, Undone}
 use Rattle.txn_words.specs.declared.step.Step.TheVariants.{Seek, Act}
 use Rattle.boost_core.specs.Refusals.{is_leaving}

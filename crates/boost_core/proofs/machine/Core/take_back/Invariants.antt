@@ -1,6 +1,5 @@
 use Rattle.std.proofs.Common.{◌≡◌, ℕ, List}
-use Rattle.txn_words.specs.declared.step.Step.{Step}
-use Rattle.txn_words.specs.declared.answer.Answer.{Answer}
+use Rattle.boost_core.proofs.Vocabulary.{Step, Answer}
 use Rattle.boost_core.specs.State.{State, seat_in}
 use Rattle.boost_core.specs.Machine.{Moves}
 use Rattle.boost_core.specs.Plain.{undoing, undone}
