@@ -1,5 +1,6 @@
 -- Changes of a key, and their fates.
-use Rattle.std.specs.Prelude.{ℕ, ◌+◌, ◌-◌, ◌==◌, Bool, false, ◌&&◌, Option, Some, None, List, [], ◌∷◌, length, drop, if◌then◌else◌}
+use Rattle.std.specs.Prelude.{◌≡◌, ℕ, ◌+◌, ◌-◌, ◌==◌, Bool, false, ◌&&◌, Option, Some, None}
+use Rattle.std.specs.Prelude.{List, [], ◌∷◌, length, drop, if◌then◌else◌}
 use Rattle.txn_words.specs.declared.op.Op.{Op}
 use Rattle.txn_words.specs.declared.entry.Entry.{Entry}
 use Rattle.txn_words.specs.declared.entry.Entry.TheVariants as entries
@@ -76,3 +77,8 @@ fate_from c waiting above (e ∷ es) = elim (decided c above e) [
 -- The fate of a change of the history.
 abbrev pub fate_of : List Entry → Change → Fate
 fate_of h change = fate_from change.caller None 0 (drop (change.did + 1) h)
+
+-- The last change of the key, with its fate.
+abbrev pub IsLast : ℕ → List Entry → Option (Change × Fate) → Type 0
+IsLast k h None = last_change k h ≡ None
+IsLast k h (Some last) = (last_change k h ≡ Some last.0) × (last.1 ≡ fate_of h last.0)

@@ -14,19 +14,12 @@ use Rattle.history_check.specs.Callers.{IsIn}
 use Rattle.history_check.specs.declared.verdict.Rule.{Rule}
 use Rattle.history_check.specs.declared.verdict.Rule.TheVariants as rules
 use Rattle.serial_check.specs.Commits.{FitsOrTorn, IsMisread}
-use Rattle.bad_entry.specs.declared.change.Change.{Change}
-use Rattle.bad_entry.specs.declared.change.Fate.{Fate}
 use Rattle.bad_entry.specs.declared.reason.Reason.{Reason}
 use Rattle.bad_entry.specs.declared.reason.Reason.TheVariants as reasons
-use Rattle.bad_entry.specs.Changes.{fate_of, last_change}
+use Rattle.bad_entry.specs.Changes.{IsLast}
 use Rattle.bad_entry.specs.Commits.{IsTornSince, last_commit}
 use Rattle.bad_entry.specs.Desks.{txn_in, waiting_in}
 use Rattle.bad_entry.specs.Holding.{IsHeld}
-
--- The last change of the key, with its fate.
-abbrev pub IsLast : ℕ → List Entry → Option (Change × Fate) → Type 0
-IsLast k h None = last_change k h ≡ None
-IsLast k h (Some last) = (last_change k h ≡ Some last.0) × (last.1 ≡ fate_of h last.0)
 
 -- The caller waits for this operation, this reply is due to it by the map now, and this is the last
 -- change of its key; or it waits for none.

@@ -20,7 +20,7 @@ mod due;
 mod held;
 mod reason;
 
-pub use change::{Change, Fate, fate_of, last_change};
+pub use change::{Change, Fate, fate_of, last_change, last_with_fate};
 pub use due::{last_commit, torn_since, value_now};
 pub use held::{Held, held_by, txn_of};
 pub use reason::{Reason, by_commits, by_locks};

@@ -12,10 +12,10 @@ ghost use Rattle.txn_words.specs.declared.op.Op.{Op};
 ghost use Rattle.history_check.specs.Callers.{HaveEntered};
 ghost use Rattle.serial_check.specs.Serializable.{IsSerializable};
 ghost use Rattle.bad_entry.specs.Desks.{waiting_in};
-ghost use Rattle.bad_entry.specs.Reasons.{IsLast, IsLockReason, IsReplyReason, IsReasonByCommits, IsCommitReason};
-ghost use Rattle.bad_entry.specs.Reasons.{IsReasonByLocks, IsShapeReason};
+ghost use Rattle.bad_entry.specs.Reasons.{IsLockReason, IsReplyReason, IsReasonByCommits};
+ghost use Rattle.bad_entry.specs.Reasons.{IsCommitReason, IsReasonByLocks, IsShapeReason};
 
-use crate::change::{Change, Fate, fate_of, last_change};
+use crate::change::{Change, Fate, last_with_fate};
 use crate::desks::Desks;
 use crate::due::{fed_by_commits, fed_by_locks, last_commit, torn_since, value_now};
 use crate::held::{Held, held_by, txn_of};
@@ -76,21 +76,6 @@ pub enum Reason {
     Nothing,
 }
 
-/// The last change of a key, and its fate.
-fn last_in(
-    alloc: Global,
-    entries: &[SmallEntry],
-    key: u64,
-) -> Result<Option<(Change, Fate)>, AllocError>
-    requires { All (λ entry. caller_of entry < 64) entries.now }
-    ensures { IfOk result (IsLast key entries.now) }
-{
-    match last_change(alloc, entries, key)? {
-        Some(change) => Ok(Some((change, fate_of(entries, change)))),
-        None => Ok(None),
-    }
-}
-
 /// The operation that a caller waits for after a history.
 fn waiting_in(alloc: Global, entries: &[SmallEntry], caller: u64) -> Result<Option<Op>, AllocError>
     requires caller { caller < 64 }
@@ -122,7 +107,7 @@ fn reply_reason(
         return Ok(Reason::Nothing);
     };
     let due = value_now(alloc, entries, stripes, holder, op.key())?;
-    let last = last_in(alloc, entries, op.key())?;
+    let last = last_with_fate(alloc, entries, op.key())?;
     Ok(Reason::Reply { op, due, last })
 }
 

@@ -5,7 +5,7 @@ ghost use Rattle.std.specs.Prelude.{◌<◌, IfSome};
 ghost use Rattle.std.specs.List.{All};
 ghost use Rattle.txn_words.specs.Kinds.{caller_of};
 
-use bad_entry::{Change, Fate, Held, Reason, fate_of, last_change, last_commit, txn_of};
+use bad_entry::{Change, Fate, Held, Reason, last_commit, last_with_fate, txn_of};
 use entry_lines::history_lines;
 use history_check::{Callers, Rule, Verdict};
 use std::alloc::{AllocError, Global};
@@ -164,20 +164,6 @@ fn put_last(text: &mut String, key: u64, last: Option<(Change, Fate)>) -> Result
     }
 }
 
-/// The last change of a key, and its fate.
-fn last_in(
-    alloc: Global,
-    entries: &[SmallEntry],
-    key: u64,
-) -> Result<Option<(Change, Fate)>, AllocError>
-    requires { All (λ entry. caller_of entry < 64) entries.now }
-{
-    match last_change(alloc, entries, key)? {
-        Some(change) => Ok(Some((change, fate_of(entries, change)))),
-        None => Ok(None),
-    }
-}
-
 /// Adds the first reply that contradicts those before it.
 fn put_first_torn(
     alloc: Global,
@@ -287,7 +273,7 @@ fn put_reason(
                 text,
                 "the first reply at key {key} was {read}; the reply that was due: {due}"
             )?;
-            put_last(text, key, last_in(alloc, entries, key)?)?;
+            put_last(text, key, last_with_fate(alloc, entries, key)?)?;
             put_since_commit(alloc, text, entries, key, commit)?;
             put_transaction(alloc, text, entries, caller)
         }
