@@ -2,8 +2,6 @@
 //! that the file's version has. The checker knows no versions; here the version chooses its rule.
 //! The bytes are dropped before the entries are judged.
 ghost use Rattle.std.specs.Prelude.{◌≡◌, IfOk, IfErr, string_bytes};
-ghost use Rattle.piece_files.specs.Faults.{Gives};
-ghost use Rattle.txn_files.specs.HistoryFile.{history_of, holder_in};
 ghost use Rattle.history_check.specs.Verdicts.{meaning_of};
 ghost use Rattle.boostmap_engine.specs.Judgement.{verdict_line, says_legal, IsJudged, IsNoHistoryFile};
 ghost use Rattle.boostmap_engine.specs.Written.{HasNone};
@@ -11,16 +9,7 @@ ghost use Rattle.boostmap_engine.specs.Written.{HasNone};
 use crate::fault::Fault;
 use history_check::{Verdict, check_packed};
 use std::alloc::{AllocError, Global};
-use txn_files::{FileFault, holder_in, read_packed_history};
-use txn_trace::SmallEntry;
-
-/// The stripes, the entries and the version of the history file that the bytes are. The bytes are
-/// dropped.
-fn history_in(alloc: Global, bytes: Vec<u8>) -> Result<(u32, Vec<SmallEntry>, u64), FileFault>
-    ensures { Gives (λ file. (file.0, file.1.items, file.2)) result (history_of bytes.items) }
-{
-    read_packed_history(alloc, &bytes)
-}
+use txn_files::{holder_in, into_packed_history};
 
 /// The verdict on the history that the bytes are, by the rule of their version.
 ///
@@ -35,7 +24,7 @@ pub fn judge(alloc: Global, bytes: Vec<u8>) -> Result<Verdict, Fault>
     ensures ok { IfOk result (λ verdict. IsJudged bytes.items (meaning_of verdict)) }
     ensures err { IfErr result (HasNone IsNoHistoryFile bytes.items) }
 {
-    let (stripes, entries, version) = history_in(alloc, bytes)?;
+    let (stripes, entries, version) = into_packed_history(alloc, bytes)?;
     let verdict = check_packed(alloc, &entries, u64::from(stripes), holder_in(version))?;
     Ok(verdict)
 }

@@ -9,7 +9,7 @@ use Rattle.clap.specs.declared.builder.action.ArgAction.TheVariants.{Set}
 use Rattle.clap.specs.Words.{App, Rule, Row, Text, Kinds, fault_of, first_of, new_app}
 use Rattle.clap.specs.Words.{new_rule, subcommand_of, with_rule, with_subcommand}
 use Rattle.clap.specs.Simple.{on_top}
-use Rattle.program_host.specs.Words.{is_numeral}
+use Rattle.program_host.specs.Words.{file_word, is_numeral}
 use Rattle.command_line.specs.declared.words.Call.{Call}
 use Rattle.command_line.specs.declared.words.Command.{Command}
 use Rattle.command_line.specs.declared.words.Command.TheVariants.{Replay, Run, Mix, Check}
@@ -34,9 +34,6 @@ asked_of call = (name_of call.command, given_seed call.command, call.file.now)
 
 -- The command line: `replay FILE`, `run FILE`, `mix --seed N FILE` and `check FILE`, each as an
 -- application of `clap`, whose rules say how words are read.
-abbrev pub file_word : Rule
-file_word = record (new_rule (codes "FILE")) { required = true; action = Some Set }
-
 abbrev pub seed_word : Rule
 seed_word = record (new_rule (codes "seed")) {
   long = Some (codes "seed");
@@ -45,7 +42,7 @@ seed_word = record (new_rule (codes "seed")) {
 }
 
 abbrev pub over_file : Text → App
-over_file name = with_rule (new_app name) file_word
+over_file name = with_rule (new_app name) (file_word (codes "FILE"))
 
 abbrev pub seeded : App
 seeded = with_rule (over_file (codes "mix")) seed_word

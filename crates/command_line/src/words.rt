@@ -1,12 +1,12 @@
 //! The command line, by the rules of `clap`: the call that the words ask for, or that they ask for
 //! none. No file is opened here; a call borrows the name of its file from the words. Each command
 //! is made and added separately, which keeps the proof of `all_commands` cheap.
-ghost use Rattle.std.specs.Prelude.{◌≡◌, ◌⊎◌, Some, None, false, IfOk, IfErr, map, option_map};
+ghost use Rattle.std.specs.Prelude.{◌≡◌, ◌⊎◌, Some, None, false, IfOk, IfErr, codes, map, option_map};
 ghost use Rattle.std.specs.String.{string_bytes};
 ghost use Rattle.clap.specs.Words.{found_of, rows_of, rule_of};
-ghost use Rattle.program_host.specs.Words.{Has};
+ghost use Rattle.program_host.specs.Words.{Has, file_word};
 ghost use Rattle.command_line.specs.Words.{asked, asked_in, asked_of, seed_of};
-ghost use Rattle.command_line.specs.Words.{command_line, file_word, over_file, seed_word, seeded};
+ghost use Rattle.command_line.specs.Words.{command_line, over_file, seed_word, seeded};
 ghost use Rattle.command_line.specs.declared.no_call.NoCall.TheVariants as reasons;
 
 use crate::no_call::NoCall;
@@ -41,7 +41,7 @@ pub struct Call<'a> {
 
 /// The name of a file, which may not be left out.
 fn file_name<'a>(alloc: Global) -> Arg<'a>
-    ensures rule { rule_of result ≡ file_word }
+    ensures rule { rule_of result ≡ file_word (codes "FILE") }
     ensures local { result.global ≡ false }
 {
     Arg::new(alloc, "FILE")

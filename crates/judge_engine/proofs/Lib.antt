@@ -1,6 +1,5 @@
 pub mod Ends
 pub mod Feeding
-pub mod Histories
 pub mod Known
 pub mod LineLemmas
 pub mod Settled

@@ -1,11 +1,9 @@
 //! The verdict on the bytes of a history file, and the lines that lead to its bad entry. No reader
 //! or writer is used here, so the contracts are about bytes only. `judge_file` drops the bytes
 //! before it judges; `explain_file` borrows them, so that `why` can search them for a flaw.
-ghost use Rattle.std.specs.Prelude.{◌≡◌, ◌<◌, IfOk, IfErr};
+ghost use Rattle.std.specs.Prelude.{◌<◌, IfOk, IfErr};
 ghost use Rattle.std.specs.List.{All};
 ghost use Rattle.txn_words.specs.Kinds.{caller_of};
-ghost use Rattle.piece_files.specs.Faults.{Gives};
-ghost use Rattle.txn_files.specs.HistoryFile.{history_of, holder_in};
 ghost use Rattle.judge_engine.specs.declared.basis.Basis.TheVariants as bases;
 ghost use Rattle.judge_engine.specs.Bases.{IsVerdictBy};
 ghost use Rattle.judge_engine.specs.Files.{IsJudgedFile, IsUnjudgedFile};
@@ -14,16 +12,8 @@ use crate::fault::Fault;
 use crate::lines::{lines_by_commits, lines_by_locks};
 use history_check::Verdict;
 use std::alloc::{AllocError, Global};
-use txn_files::{FileFault, holder_in, read_packed_history};
+use txn_files::{holder_in, into_packed_history, read_packed_history};
 use txn_trace::{Holder, SmallEntry};
-
-/// The stripes, the entries and the version of the history file that bytes are. The bytes are
-/// dropped.
-fn history_in(alloc: Global, bytes: Vec<u8>) -> Result<(u32, Vec<SmallEntry>, u64), FileFault>
-    ensures { Gives (λ file. (file.0, file.1.items, file.2)) result (history_of bytes.items) }
-{
-    read_packed_history(alloc, &bytes)
-}
 
 /// The verdict on entries by the order of commits.
 fn in_order_of_commits(alloc: Global, entries: &[SmallEntry]) -> Result<Verdict, AllocError>
@@ -61,7 +51,7 @@ pub(crate) fn judge_file(alloc: Global, by_commits: bool, bytes: Vec<u8>) -> Res
     ensures ok { IfOk result (IsJudgedFile by_commits bytes.items) }
     ensures err { IfErr result (IsUnjudgedFile bytes.items) }
 {
-    let (stripes, packed, version) = history_in(alloc, bytes)?;
+    let (stripes, packed, version) = into_packed_history(alloc, bytes)?;
     let entries = packed.as_slice();
     let stripes = u64::from(stripes);
     if by_commits {

@@ -10,7 +10,7 @@ use Rattle.clap.specs.declared.error.kind.ErrorKind.TheVariants.{DisplayHelp, Di
 use Rattle.clap.specs.Words.{App, IsAmong, Kinds, Rule, Row, Text, fault_of, first_of}
 use Rattle.clap.specs.Words.{new_app, new_rule, subcommand_of, with_rule, with_subcommand}
 use Rattle.clap.specs.Simple.{on_top}
-use Rattle.program_host.specs.Words.{is_numeral}
+use Rattle.program_host.specs.Words.{file_word, is_numeral}
 use Rattle.txn_words.specs.declared.holder.Holder.TheVariants.{Begun}
 use Rattle.txn_words.specs.Sizes.{max_stripes}
 use Rattle.judge_engine.specs.declared.basis.Basis.{Basis}
@@ -46,9 +46,6 @@ IsReady asked = Unit {0}
 -- The command line: `check [--serializable] FILE`, `outcomes SCRIPTS HISTORY`,
 -- `watch [--serializable] [--stripes N]` and `why [--serializable] FILE`, each as one of `clap`'s
 -- applications, whose own rules say how words are read.
-abbrev pub file_word : Text → Rule
-file_word name = record (new_rule name) { required = true; action = Some Set }
-
 abbrev pub serializable_word : Rule
 serializable_word = record (new_rule (codes "serializable")) {
   long = Some (codes "serializable");

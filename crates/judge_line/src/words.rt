@@ -8,11 +8,11 @@ ghost use Rattle.clap.specs.Words.{first_of, found_of, rows_of, rule_of};
 ghost use Rattle.judge_engine.specs.declared.fault.Fault.TheVariants as faults;
 ghost use Rattle.judge_engine.specs.Bases.{HasStripes};
 ghost use Rattle.judge_line.specs.declared.failure.Failure.TheVariants as failures;
-ghost use Rattle.program_host.specs.Words.{Has};
+ghost use Rattle.program_host.specs.Words.{Has, file_word};
 ghost use Rattle.judge_line.specs.Words.{Asks, IsAnswered, IsReady, asked_in, asked_of, basis_for};
 ghost use Rattle.judge_line.specs.Words.{command_line, flagged, is_set, outcomes_for, over_both};
-ghost use Rattle.judge_line.specs.Words.{over_history, file_word, serializable_word, stripes_of};
-ghost use Rattle.judge_line.specs.Words.{stripes_word, watching};
+ghost use Rattle.judge_line.specs.Words.{over_history, serializable_word, stripes_of, stripes_word};
+ghost use Rattle.judge_line.specs.Words.{watching};
 
 use crate::failure::Failure;
 use clap::error::ErrorKind;

@@ -1,14 +1,19 @@
 -- Command lines that `clap` reads.
-use Rattle.std.specs.Prelude.{◌≡◌, ◌&&◌, Bool, false, length, nat_lt}
+use Rattle.std.specs.Prelude.{◌≡◌, ◌&&◌, Bool, true, false, Some, length, nat_lt}
 use Rattle.std.specs.List.{list_all}
 use Rattle.std.specs.Char.{digit_value}
+use Rattle.clap.specs.declared.builder.action.ArgAction.TheVariants.{Set}
 use Rattle.clap.specs.declared.builder.command.Command.{Command}
 use Rattle.clap.specs.declared.builder.command.Command.TheViews.{out-Command}
-use Rattle.clap.specs.Words.{App, Text, app_of}
+use Rattle.clap.specs.Words.{App, Rule, Text, app_of, new_rule}
 
 -- A command that `clap` built is this application.
 abbrev pub Has : Command → App → Type 0
 Has command app = (app_of command ≡ app) × ((out-Command command).has_globals ≡ false)
+
+-- The word that names a file, and may not be left out.
+abbrev pub file_word : Text → Rule
+file_word name = record (new_rule name) { required = true; action = Some Set }
 
 -- A word is a numeral: it has one or more characters, all of them decimal digits.
 abbrev pub is_numeral : Text → Bool

@@ -1,3 +1,4 @@
+pub mod InRange
 pub mod Joined
 pub mod Kept
 pub mod PlainPieces

@@ -309,6 +309,26 @@ pub fn read_packed_history(
     kept_history(alloc, bytes)
 }
 
+/// The number of stripes, the packed entries and the version of a history file, as
+/// `read_packed_history` reads it. The bytes are dropped, so that their memory is free before the
+/// entries are used.
+///
+/// # Errors
+///
+/// Those of `read_history`, in its order.
+///
+/// # Cost
+///
+/// That of `read_packed_history`.
+pub fn into_packed_history(
+    alloc: Global,
+    bytes: Vec<u8>,
+) -> Result<(u32, Vec<SmallEntry>, u64), FileFault>
+    ensures { Gives (λ file. (file.0, file.1.items, file.2)) result (history_of bytes.items) }
+{
+    read_packed_history(alloc, &bytes)
+}
+
 /// The history file by the entries that are kept, in packed form. In a history in range no entry is
 /// replaced, so this is the history file that the bytes are.
 fn kept_history(alloc: Global, bytes: &[u8]) -> Result<(u32, Vec<SmallEntry>, u64), FileFault>

@@ -11,7 +11,7 @@
 //! keys, which are those below 2^63. A file of any other version is tested for the shapes of
 //! version 2, and is then refused.
 //!
-//! Proved: `read_steps`, `read_scripts`, `read_history` and the two packed readers compute these
+//! Proved: `read_steps`, `read_scripts`, `read_history` and the packed readers compute these
 //! functions, or say that memory was refused. `history_text` makes the text of a history, as
 //! `text_of_history` says, and `HistoryPieces` hands it out, with a line feed, piece by piece.
 //!
@@ -29,7 +29,7 @@ mod script_file;
 mod step_file;
 mod text;
 
-pub use history_file::{holder_in, read_history, read_packed_history};
+pub use history_file::{holder_in, into_packed_history, read_history, read_packed_history};
 pub use piece::Piece;
 pub use piece_files::{FileFault, Part};
 pub use pieces::HistoryPieces;

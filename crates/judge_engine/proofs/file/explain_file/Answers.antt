@@ -1,4 +1,4 @@
-use Rattle.judge_engine.proofs.Histories.{file_in_range}
+use Rattle.txn_files.proofs.InRange.{file_in_range}
 use Rattle.judge_engine.proofs.file.explain_file.Goals as goal
 
 pub in_order_of_commits-requires : goal.in_order_of_commits-requires

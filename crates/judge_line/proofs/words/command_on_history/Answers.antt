@@ -1,6 +1,7 @@
 use Rattle.std.proofs.Common.{codes}
 use Rattle.std.proofs.lemmas.Result.{IfOk-weaker}
-use Rattle.judge_line.specs.Words.{flagged, file_word}
+use Rattle.program_host.specs.Words.{file_word}
+use Rattle.judge_line.specs.Words.{flagged}
 use Rattle.program_host.proofs.Building.{with_word}
 use Rattle.judge_line.proofs.words.command_on_history.Goals as goal
 

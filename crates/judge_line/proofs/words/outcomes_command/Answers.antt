@@ -1,8 +1,7 @@
 use Rattle.std.proofs.Common.{codes}
 use Rattle.std.proofs.lemmas.Result.{IfOk-weaker}
 use Rattle.clap.specs.Words.{new_app, with_rule}
-use Rattle.program_host.specs.Words.{Has}
-use Rattle.judge_line.specs.Words.{file_word}
+use Rattle.program_host.specs.Words.{Has, file_word}
 use Rattle.program_host.proofs.Building.{with_word}
 use Rattle.judge_line.proofs.words.outcomes_command.Goals as goal
 
