@@ -1,9 +1,9 @@
 -- The call that the words ask for, by the parse of `clap`.
-use Rattle.std.proofs.Common.{◌≡◌, true, List, [], ◌∷◌, Option, None, refl, sym, ap, subst, ◌∙◌}
+use Rattle.std.proofs.Common.{◌≡◌, true, List, [], ◌∷◌, Option, refl, sym, ap, subst, ◌∙◌}
 use Rattle.std.specs.Prelude.{option_and_then}
 use Rattle.clap.specs.declared.error.Error.{Error}
 use Rattle.clap.specs.declared.error.kind.ErrorKind.{ErrorKind}
-use Rattle.clap.specs.declared.error.kind.ErrorKind.TheVariants.{DisplayHelp, DisplayVersion, OutOfMemory}
+use Rattle.clap.specs.declared.error.kind.ErrorKind.TheVariants.{OutOfMemory}
 use Rattle.clap.specs.Words.{App, HasKind, IsAmong, Kinds, Row, Text, fault_of, is_simple, is_simple_and_free, kind_of, subcommand_of}
 use Rattle.clap.proofs.OnLiterals.{clap_on_literals}
 use Rattle.program_host.proofs.Asking.{fails_by, passes_with}
@@ -26,12 +26,6 @@ pub refused : (app : App) (words : List Text) (error : Error) (what : Option Ask
     → what ≡ answer_to (kind_of error) → Asks words what
 refused app words error what same fails other is =
     by_kind (fault_of command_line words) (subcommand_of command_line words) (kind_of error) what (fails_by command_line app words error simple_and_free same fails other) is
-
--- A kind that is neither help nor the version is none of the program's answers.
-pub no_answer : (kind : ErrorKind) → (kind ≡ DisplayHelp → ⊥) → (kind ≡ DisplayVersion → ⊥) → None ≡ answer_to kind
-no_answer DisplayHelp no_help no_version = absurd (no_help refl)
-no_answer DisplayVersion no_help no_version = absurd (no_version refl)
-no_answer kind no_help no_version = refl
 
 -- The call that the words ask for if the parse passes.
 pub found : (app : App) (words : List Text) (met : Option (Text × List Row)) (what : Option Asked) → app ≡ command_line → (is_simple_and_free app ≡ true → fault_of app words ≡ []) → (is_simple app ≡ true → met ≡ subcommand_of app words)
