@@ -27,8 +27,8 @@ Makes from to sum true old new = IsTransfer from to sum old new
 Makes from to sum false old new = (new ≡ old) × CannotMove sum (balance old from) (balance old to)
 
 -- The caller has committed one transaction more. The legal history that it has seen goes on from
--- what it had seen, and ends with this commit, which turns the map that the commits before it leave
--- into the map after the transfer.
+-- what it had seen, and ends with this commit. The commits before it leave a map, and this commit
+-- turns that map into the map after the transfer.
 pub record HasTransferred (from to sum : ℕ) (moved : Bool) (a b : Caller) : Type 0 where
   pub map_is : b.map ≡ a.map
   pub number_is : number b ≡ number a

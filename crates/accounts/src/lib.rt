@@ -1,8 +1,8 @@
 //! Accounts in a striped map: a key is an account, its value what the account has.
 //!
 //! An example of a caller of `striped_map`. Proved: a transfer is one transaction of its caller,
-//! whatever other callers do in their threads meanwhile. It changes the map that the commits before
-//! it leave into one in which the sum has gone over, or leaves it unchanged.
+//! whatever other callers do in their threads meanwhile. The commits before it leave a map. In that
+//! map the transfer moves the sum, or it leaves the map unchanged.
 #![tactic(auto)]
 
 ghost use Rattle.std.specs.Prelude.{◌≡◌, ◌≢◌, false, IfErr, IfOk, OnErr};

@@ -51,7 +51,7 @@ pub(crate) fn fed_by_commits(
 }
 
 /// The value of a key after a legal history, in the map with what open transactions changed: the
-/// reply that an operation on it is due.
+/// reply that is due to an operation on it.
 ///
 /// # Errors
 ///
@@ -136,7 +136,8 @@ pub fn torn_since(
     Ok(since)
 }
 
-/// The entry since which replies contradict one another, after one more entry, of this index.
+/// The index of the entry since which replies contradict one another, after the entry at `index`;
+/// None if they do not then. `is_torn` says whether they do.
 fn since_after(is_torn: bool, index: u64, since: Option<u64>) -> Option<u64>
     ensures { result ≡ (if is_torn then option_or since (Some index) else None) }
 {

@@ -35,7 +35,7 @@ pub enum Reason {
         /// The last change of the key, and its fate.
         last: Option<(Change, Fate)>,
     },
-    /// By the order of commits: the transaction that commits read at a key a value that the
+    /// By the order of commits: at a key, the committing transaction read a value that the
     /// committed map does not have.
     Misread {
         /// The key.
@@ -48,13 +48,14 @@ pub enum Reason {
         /// its caller.
         commit: Option<(u64, u64)>,
     },
-    /// By the order of commits: the replies of the transaction that commits contradict one another,
+    /// By the order of commits: the replies of the committing transaction contradict one another,
     /// whatever the map.
     Torn {
         /// The index of the first reply that contradicts those before it.
         since: Option<u64>,
     },
-    /// The lock of a key is held, or is not held by the caller that is named.
+    /// The lock of the operation's key is held by another caller, or the entry is a Busy that may
+    /// not name the caller that it names.
     Lock {
         /// The stripe of the key.
         stripe: u64,
@@ -72,7 +73,8 @@ pub enum Reason {
         /// How many committed.
         committed: u64,
     },
-    /// There is nothing to say: entries of this kind do not break this rule.
+    /// There is nothing to say: entries of this kind do not break this rule, or the entry is a Did
+    /// and its caller waits for no operation.
     Nothing,
 }
 

@@ -23,8 +23,8 @@ use Rattle.bad_file.specs.declared.place.Place.TheVariants.{File, Version, Strip
 
 -- ---- the elements of an entry
 
--- The entry that these elements are. In version 1 an entry that is new is none; and if the range is
--- asked for, an entry with a caller out of range is none.
+-- The entry that these elements are, if they are one. An entry that version 1 lacks does not count
+-- in version 1. If the range is asked for, an entry with a caller out of range does not count.
 abbrev pub entry_in : Bool → Bool → List Data → Option TheEntry
 entry_in is_old ranged ds =
     option_and_then (λ e. if (not is_old || is_old_entry e) && (not ranged || is_in_range e) then Some e else None)
@@ -88,7 +88,7 @@ IsFlawOfEntry is_old ranged d i (Some ds) flaw =
     (j : ℕ) × (wanted : Option Expected) × IsFault is_old ranged ds j wanted
     × (flaw ≡ wrong d (Element i j) wanted)
 
--- The entry of this index is the first that is none, and this is its flaw.
+-- The element of `entries` at this index is the first that is no entry, and this is its flaw.
 pub record IsFlawAt (is_old ranged : Bool) (d : Data) (i : ℕ) (flaw : Flaw) : Type 0 where
   pub entry : Data
   pub is_there : entry_at i d ≡ Some entry

@@ -70,7 +70,7 @@ pub(crate) fn time_put_scripts<R: Runtime + AllocGlobal + Threads + Wait + Sync>
     time_run(rt, limits, &scripts, TRIES)
 }
 
-/// Times the scripts of a script file, without reading it.
+/// Times the scripts of a script file. The time to read the file is not included.
 pub(crate) fn time_script_file<R: Runtime + AllocGlobal + Threads + Wait + Sync>(
     rt: &R,
     file: &str,

@@ -206,8 +206,8 @@ pub record StandsAt (state : State) (owner : Owner) (at : SortKey) : Type 0 wher
   pub between : IsBetween gap at
 
 -- A seek gives a cursor that fits, and the answer to an act of a caller or a link of a helper is
--- `again` exactly if its cursor no longer fits. A link is refused memory or a stamp only if it
--- fits.
+-- `again` exactly if its cursor no longer fits. A link is refused memory or a stamp only if the
+-- helper's cursor fits.
 abbrev pub Fits : State → Step → Answer → State → Type 0
 Fits old (Seek c) answers.Placed new = StandsAt new (Caller c) (regular_at (next_key old c))
 Fits old (Act c) answers.Again new = gap_for old (Caller c) ≡ None

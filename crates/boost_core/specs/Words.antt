@@ -49,8 +49,8 @@ reserved_by Lock step = reserved step
 reserved_by Right step = reserved step
 reserved_by claim step = 0
 
--- The other answers that a claim allows: with a right no operation is busy, with a word none is
--- granted, and neither memory nor a stamp is refused.
+-- Whether a claim that is not refused as stale allows an answer: with a right no operation is busy;
+-- with a word none is granted, and neither memory nor a stamp is refused.
 abbrev pub may_come : Claim → Answer → Bool
 may_come Lock answer = true
 may_come Right (answers.Busy x) = false
@@ -100,7 +100,8 @@ pub record ListsAsk (claim : Claim) (old : State) (step : Step) (answer : Answer
   pub stamp : new.stamp ≡ stamp_by claim old.stamp step answer
 
 -- The requirement on a claim. An operation is asked for by a lock exactly if stripes are not words;
--- any other step claims a lock. A holder that the claim names may be named.
+-- any other step claims a lock. If the claim names a holder, the rule of locks lets a Busy entry
+-- name it too.
 abbrev pub IsClaim : Claim → State → Step → Type 0
 IsClaim Lock state step = state.words ≡ true → is_ask step ≡ false
 IsClaim Right state (Ask c op) = state.words ≡ true

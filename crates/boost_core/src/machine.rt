@@ -149,8 +149,9 @@ impl Core {
     ///
     /// # Cost
     ///
-    /// A `Seek` and an `InitSeek` walk from the nearest initialised bucket to the position, and a
-    /// `Sweep` up to the first marked node; a `Commit` takes a step for each job and each stripe of
+    /// A `Seek` walks to the key's position from the dummy of its bucket, or of the nearest
+    /// initialised ancestor; an `InitSeek` walks from the dummy of the bucket's parent, and a
+    /// `Sweep` up to the first marked node. A `Commit` takes a step for each job and each stripe of
     /// the transaction, the end of an abort one for each stripe; each other step takes amortized
     /// constant time. Only the steps that may be refused with `NoMemory` take memory.
     pub fn step(&mut self, step: Step) -> Answer
@@ -279,8 +280,8 @@ impl Core {
     }
 
     /// Makes room in the history for this many more entries, besides those that callers owe, so
-    /// that it need not grow while they are added. If the room is to be written, no later entry is
-    /// the first to touch a page of memory. The core is unchanged.
+    /// that it need not grow while they are added. If `is_written`, the room is written, so that no
+    /// later entry is the first to touch a page of memory. The core is unchanged.
     ///
     /// # Errors
     ///

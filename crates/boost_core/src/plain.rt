@@ -21,16 +21,17 @@ impl Core {
     /// table doubles by itself: without `help` or `Double` it is one long list, through which each
     /// seek walks.
     ///
-    /// The answer is `Done` with the reply, or the first that is not `Asked`: `Busy` if another
-    /// caller holds the key's stripe, and this one now leaves to the end; or a refusal, which
-    /// leaves the state unchanged, in this order `NoSuchCaller`, `NotOpen`, `Leaving`,
+    /// The answer is `Done` with the reply, or that of the ask if it is not `Asked`: `Busy` if
+    /// another caller holds the key's stripe, and this one now leaves to the end; or a refusal,
+    /// which leaves the state unchanged, in this order `NoSuchCaller`, `NotOpen`, `Leaving`,
     /// `OperationUnfinished`, `BadKey` if the limits have half keys and the key is 2^63 or more,
     /// `NoMemory` for the history and the log, `StampsUsedUp`, `NoMemory` for the node.
     ///
     /// # Cost
     ///
-    /// Time in proportion to the nodes from the nearest initialised bucket to the key's position;
-    /// may take memory for the history, the log and a node.
+    /// Time in proportion to the nodes from the dummy of the key's bucket, or of its nearest
+    /// initialised ancestor, to the key's position; may take memory for the history, the log and a
+    /// node.
     pub fn put(&mut self, caller: u64, key: u64, value: u64) -> Answer
         requires { self.old.words ≡ false }
         ensures operates { Operates self.old caller (Op.Put key value) result self.new }

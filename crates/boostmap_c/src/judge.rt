@@ -150,9 +150,9 @@ fn feed_front(referee: &mut Referee, entries: &[CEntry]) -> (usize, u32)
     (entries.len(), DONE)
 }
 
-/// Begins to judge the history of a map with this number of stripes, by a rule: by locks, so that a
-/// Busy entry may name a caller that holds the stripe now (0), or one that has begun a transaction
-/// before (1); or by the order of commits (2), for which stripes do not matter.
+/// Begins to judge the history of a map with this number of stripes, by a rule. Rules 0 and 1 are
+/// by locks: by 0 a Busy entry may name a caller that holds the stripe now, by 1 one that has begun
+/// a transaction before. Rule 2 is by the order of commits; for it stripes do not matter.
 ///
 /// # Errors
 ///

@@ -25,12 +25,15 @@
 //!
 //! | Status | Meaning | The transaction then |
 //! |---|---|---|
-//! | 0 done | the word is a value, transaction, level or commit number | goes on, or has ended |
+//! | 0 done | the word is a value, a number or a count (see below) | goes on, or has ended |
 //! | 1 absent | done at a key without a value; no word is written | goes on |
 //! | 2 busy | the word is the stripe's holder | can only abort; on a striped map: is aborted |
 //! | 3 empty, 4 full | the handle owns nothing, or something already | nothing was done |
 //! | 7 short, 8 no entry | the array has too few places; the numbers are no entry | unchanged |
 //! | 16 + n | refusal n of `txn_trace` | unchanged, and so is the map |
+//!
+//! The word of a call that is done is a value; a transaction, level, commit or caller number; or a
+//! number of keys, pairs or entries. Some calls have none.
 //!
 //! After a refusal of `boostmap_striped_count` or `boostmap_striped_read` the transaction may hold
 //! more stripes than before. A `boostmap_help` that is refused may have initialised buckets.

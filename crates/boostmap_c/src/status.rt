@@ -6,7 +6,7 @@ ghost use Rattle.boostmap_c.specs.Replies.{refused, status_of, status_of_result,
 
 use txn_trace::{Answer, Refusal};
 
-/// Done; the word is the value, the transaction, the level or the commit number.
+/// Done; the word, if the call has one, is the value, number or count that it answers.
 pub(crate) const DONE: u32 = 0;
 
 /// Done, at a key without a value.

@@ -16,7 +16,7 @@ use txn_trace::{Limits, PackedStep};
 /// The estimated length of an answer's line, in bytes, by which room for all lines is made at once.
 const ANSWER: usize = 8;
 
-/// Each time this many steps have been taken, their memory is given back.
+/// When the number of steps left is a multiple of this, the memory of those taken is given back.
 const BLOCK: usize = 16_384;
 
 /// Gives back the memory of the steps that were taken, if the number of those left is a multiple of
@@ -93,8 +93,8 @@ fn text_of_run(alloc: Global, limits: Limits, steps: Vec<PackedStep>) -> Result<
     Ok(text)
 }
 
-/// The report of the steps that the bytes are, run on a new core, which takes only half keys if the
-/// file is of version 1. The bytes are dropped before the first step is taken.
+/// The report of the steps that the bytes are, run on a new core, which takes only keys below 2^63
+/// if the file is of version 1. The bytes are dropped before the first step is taken.
 ///
 /// # Errors
 ///

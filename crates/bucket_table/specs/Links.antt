@@ -19,8 +19,8 @@ pub record LinksAt (before after : Listing) (pred bucket place : ℕ) : Type 0 w
   pub dummies : (other : ℕ) → other < 2 ^ 32
       → has_dummy after.nodes other ≡ ((bucket == other) || has_dummy before.nodes other)
 
--- The reason why no dummy is linked: the stamps are used up exactly if 2^64 - 2 was given, the last
--- one; else memory was refused.
+-- The reason why no dummy is linked: the stamps are used up exactly if the last one given is
+-- 2^64 - 2; else memory was refused.
 abbrev pub IsUnlinked : Listing → Listing → InitRefusal → Type 0
 IsUnlinked before after StampsUsedUp = (after ≡ before) × (before.last ≡ 2 ^ 64 - 2)
 IsUnlinked before after NoMemory = (after ≡ before) × (before.last ≢ 2 ^ 64 - 2)

@@ -5,9 +5,9 @@
 //!
 //! A bucket is *stored* once the table knows its dummy, the node in the list that precedes all keys
 //! of the bucket. Bucket 0 is stored from the beginning, and each other one only after its parent.
-//! A key is sought from the nearest stored ancestor of its bucket. A *helper* stores a bucket in
-//! three steps: it seeks the position of the dummy, links the dummy there unless it is linked
-//! already, and stores it.
+//! A key is sought from the dummy of its bucket or, until that bucket is stored, of the nearest
+//! stored ancestor. A *helper* stores a bucket in three steps: it seeks the position of the dummy,
+//! links the dummy there unless it is linked already, and stores it.
 //!
 //! Beside the list the buckets are a row of segments, each with the entries of 64 buckets. A
 //! segment is there exactly if one of its buckets is stored: the first from the beginning, and each
@@ -37,9 +37,9 @@
 //! helper's state. On every value the sizes are powers of two and no bucket is stored before its
 //! parent (`IsSound`). Buckets are *at home* on their list (`IsHome`) if each stored bucket and
 //! each helper names its linked dummy, and each cursor was placed; each call keeps that, and so
-//! does any change of the list (`still_home`). The answer to a call is a function of the state
-//! before it (`Answers`), a refused call changes nothing, and no call changes the content of the
-//! list. A doubling changes only the size: no node moves.
+//! does any change of the list (`still_home`). Each answer but `NoMemory` is a function of the
+//! state before the call (`Answers`), a refused call changes nothing, and no call changes the
+//! content of the list. A doubling changes only the size: no node moves.
 //!
 //! Calls take constant time and no memory unless they say otherwise. `Buckets::new` and
 //! `Buckets::with_capacity` take memory, and so may `Buckets::init_link`, for a new dummy, and

@@ -61,7 +61,7 @@ impl Segment {
 }
 
 /// The dummies of the stored buckets, by bucket: a row of segments; each is there exactly if one of
-/// its buckets is stored. Memory for further segments may have been taken before these are there.
+/// its buckets is stored. Memory may have been taken for segments that are not there yet.
 ///
 /// A contract sees them as the flat list of all entries.
 #[derive(Drop)]

@@ -488,7 +488,7 @@ fn nine_undone_newest_first(rt: HostRuntime) -> Result<(), Fail> {
 
 /// Steps, each with the number of entries owed after it: two for an open transaction and one for
 /// each change that stands; two more for a put that waits and one for a get; one more on the way to
-/// a level.
+/// a level, and one less on the way to the end.
 static OWED: [(Step, usize); 16] = [
     (Step::Begin(0), 2),
     (Step::Ask(0, Op::Put(1, 10)), 4),

@@ -205,8 +205,8 @@ fn key_and_change(op: Op, reply: Reply) -> (u64, bool) {
     (op.key(), op.changes(reply))
 }
 
-/// Operations, each with a reply, its key, and whether it is a change then: a `PutIf` is if the
-/// reply is what is expected.
+/// Operations, each with a reply, the operation's key, and whether the operation is a change if it
+/// has this reply: a `PutIf` is one if the reply is the value that it expects.
 const OPERATIONS: [(Op, Reply, u64, bool); 10] = [
     (Op::Put(1, 10), None, 1, true),
     (Op::Take(2), None, 2, false),

@@ -25,7 +25,8 @@ use Rattle.boost_core.specs.declared.claim.Claim.{Claim}
 use Rattle.boost_core.specs.declared.claim.Claim.TheVariants.{Lock, Right}
 use Rattle.boost_core.specs.Words.{claim_of}
 
--- A stripe whose word was tried, and the word that was found: 0 if the caller has the right.
+-- A trial: its stripe, and the word that was found, or 0 if the caller has the right. A caller that
+-- had the right before has tried no word.
 pub record Trial : Type 0 where
   pub stripe : ℕ
   pub word : ℕ
@@ -67,8 +68,7 @@ pub record IsIdle (k : Claimed) : Type 0 where
   pub held : k.held ≡ []
   pub tried : k.tried ≡ None
 
--- The states in which a stripe's word may be tried: the right is in hand, the word is 0, or it is
--- another's.
+-- What a trial of a stripe finds: the right is in hand, the word is 0, or the word is another's.
 pub data Found : Type 0 where
   InHand : Found
   WasFree : Found
@@ -127,8 +127,8 @@ claim_in None m step = Lock
 claim_in (Some trial) m (Ask c op) = claim_by m c trial
 claim_in (Some trial) m step = Lock
 
--- The claims of a call before its first hold: an operation tries the word of its key's
--- stripe.
+-- The claims of a call before its first hold: an operation tries the word of its key's stripe,
+-- unless its caller has the right.
 abbrev pub Readies : Claimed → Call → Claimed → Type 0
 Readies k (calls.Op op) l = Tries k (stripe_of k.stripes (key_of op)) l
 Readies k call l = l ≡ k

@@ -1,4 +1,4 @@
--- The effect of a hold, which is one turn of a call on the core, on core, token and drive, and the
+-- A hold is one turn of a call on the core. Here is its effect on core, token and drive, and the
 -- effect of a call by its end.
 use Rattle.std.specs.Prelude.{ℕ, ◌≡◌, ◌≢◌, Bool, true, false, not, ◌||◌, List, [], ◌++◌}
 use Rattle.std.specs.Prelude.{Option, Some, None, is_some}

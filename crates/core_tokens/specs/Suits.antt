@@ -54,8 +54,8 @@ abbrev pub is_odd : Call → End → Bool
 is_odd call (ends.Refused refusal) = not (may_refuse call refusal)
 is_odd call outcome = false
 
--- A drive has begun if the seat refuses nothing; while it works, the seat has the phase of the
--- work.
+-- Until the first step of a call is answered, the seat does not refuse that step, for some `half`;
+-- while the drive works, the seat has the phase of the work.
 abbrev pub Fits : Seat → Call → Phase → Type 0
 Fits s call Fresh = (half : Bool) × (refusal_in half s (first_step 0 call) ≡ None)
 Fits s call (Seeking work again) = work_phase call work ≡ Some s.phase

@@ -74,12 +74,12 @@ abbrev pub is_over : Option Seat → Bool
 is_over None = true
 is_over (Some s) = is_closed s.phase
 
--- If the call is an operation, the last word that the caller has tried is that of its key's stripe.
+-- If the call is an operation, the caller's last trial was of the stripe of its key.
 abbrev pub HasTried : {S : Type 0} → Token S → Call → Type 0
 HasTried k call = HasTriedFor k.claims.tried k.limits.stripes call
 
--- If the next step of a drive asks for an operation, the last word that the caller has tried is
--- that of its key's stripe.
+-- If the next step of a drive asks for an operation, the caller's last trial was of the stripe of
+-- its key.
 abbrev pub HasTriedNext : {S : Type 0} → Token S → Drive → Type 0
 HasTriedNext k d = HasTriedIf k.claims.tried k.limits.stripes (step_of d)
 

@@ -167,9 +167,9 @@ impl<L: Ledger, S: Side> Caller<L, S> {
     /// end of the call, if the drive has ended with it or before.
     ///
     /// The core takes the steps of the turn and no other, and `seen` gains their entries and no
-    /// other. An operation is asked for by the word that was tried last, so call `make_ready` or
-    /// `try_word` once before its first turn. Side value and rights are unchanged: `follow` rolls
-    /// the value back and returns the rights when the drive has ended.
+    /// other. An operation is asked for by its stripe's right, or by the word that was tried last,
+    /// so call `make_ready` or `try_word` once before its first turn. Side value and rights are
+    /// unchanged: `follow` rolls the value back and returns the rights when the drive has ended.
     ///
     /// # Errors
     ///
@@ -376,9 +376,9 @@ impl<L: Ledger, S: Side> Caller<L, S> {
 
     /// Changes the side value, and logs the job that takes the change back.
     ///
-    /// The job must name the words now as before, and those that `change` answers as after. It
-    /// needs no transaction: a change that is made outside of one stays. Nothing is added to
-    /// `seen`.
+    /// The words now must be the job's `before`, and the words of the value that `change` answers
+    /// its `after`. No transaction is needed: a change that is made outside of one stays. Nothing
+    /// is added to `seen`.
     ///
     /// # Errors
     ///

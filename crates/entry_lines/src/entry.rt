@@ -55,7 +55,7 @@ fn busy_entry(caller: u64, values: &[Plain<'_>]) -> Option<Entry>
     one_in(rest).map(|holder| Entry::Busy(caller, op, holder))
 }
 
-/// An entry of this name and caller that begins, divides or ends a transaction.
+/// An entry of this name and caller that is about the course of a transaction.
 #[tactic(auto, unfolding(txn_files::specs::Entries::transaction_entry))]
 fn entry_of_transaction(name: &str, caller: u64, values: &[Plain<'_>]) -> Option<Entry>
     ensures { result ≡ transaction_entry name.now caller (map data_of values.now) }

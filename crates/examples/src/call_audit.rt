@@ -18,7 +18,7 @@ fn say<R: Print + AllocGlobal>(rt: &R, what: &str, history: &[Entry]) -> io::Res
 }
 
 /// Prints whether a history is legal in which a caller gets what another put, and whether it is
-/// with another reply.
+/// still legal if the reply to that get is another.
 pub(crate) fn show<R: Print + AllocGlobal>(rt: &R) -> io::Result<()> {
     let mut history = [
         Entry::Began(0, 1),

@@ -1,5 +1,5 @@
 //! A queue of jobs in one map, from which four threads take jobs. A key is a job, and its value is
-//! the job's state. Each job is done once, and a worker that stops in the middle of a transaction
+//! the job's state. Each job is done once, and a caller that stops in the middle of a transaction
 //! leaves nothing behind.
 ghost use Rattle.shared_transactions.specs.Keeps.{Keeps};
 

@@ -6,13 +6,13 @@ use Rattle.std.specs.BTreeMap.{BTreeMap, get as value_at}
 use Rattle.txn_words.specs.Map.{Map, get}
 use Rattle.history_check.specs.declared.values.Values.{Values}
 
--- A sorted map has the same value at each key that has this remainder.
+-- At each key that has this remainder, the sorted map has the same value as `m`.
 abbrev pub HasOf : Map → ℕ → BTreeMap ℕ ℕ → Type 0
 HasOf m remainder values =
     (key : ℕ) → key % 1021 ≡ remainder → value_at nat_cmp values key ≡ get m key
 
--- Each of the sorted maps has the values of the keys of its remainder, so together they have those of
--- all keys.
+-- Each of the sorted maps has the values of the keys of its remainder, so together they have those
+-- of all keys.
 abbrev pub Have : Map → Values → Type 0
 Have m values =
     (remainder : ℕ) → IfSome (slice_get values.maps.items remainder) (HasOf m remainder)

@@ -41,7 +41,8 @@ impl Checker {
     ///
     /// # Cost
     ///
-    /// Time and memory in proportion to the stripes, for 64 callers and for 1,021 maps without keys.
+    /// Time and memory in proportion to the stripes, for 64 callers and for 1,021 maps without
+    /// keys.
     pub fn new(alloc: Global, stripes: u64, holder: Holder) -> Result<Checker, AllocError>
         requires { 0 < stripes }
         ensures { IfOk result (IsFed holder stripes []) }
@@ -59,8 +60,8 @@ impl Checker {
     ///
     /// # Errors
     ///
-    /// `AllocError` if memory is refused, or 2^64 - 1 entries were fed already. The checker is
-    /// unchanged then, and the same entry may be fed again.
+    /// `AllocError` if memory is refused, or 2^64 - 1 entries were fed already. The entry was not
+    /// fed then, and may be fed again.
     ///
     /// # Cost
     ///

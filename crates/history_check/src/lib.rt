@@ -25,7 +25,7 @@
 //!
 //! Proved: `check`, `check_packed`, and a `Checker` that was fed the same entries, say what the
 //! definition `verdict` of `txn_trace` says, and they say legal exactly if `IsLegal` holds. If
-//! memory is refused, the entry is not fed and the checker is unchanged.
+//! memory is refused, the entry is not fed: the checker was fed the same entries as before.
 #![tactic(auto)]
 
 mod caller;

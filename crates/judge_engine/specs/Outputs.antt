@@ -25,14 +25,15 @@ FailsToWrite old new Read = ⊥
 FailsToWrite old new (Input fault) = ⊥
 FailsToWrite old new (Line number fault) = ⊥
 
--- The line of such a verdict was written, and this is whether it says legal.
+-- The line of a verdict that is as `IsRight` says was written, and `legal` is whether the verdict
+-- says legal.
 abbrev pub WritesLine : (Verdict → Type 0) → Bool → Option (List ℕ) → Option (List ℕ) → Type 0
 WritesLine IsRight legal old new =
     (outcome : Verdict) × IsRight outcome × (legal ≡ says_legal outcome)
     × Appends old new (verdict_line outcome)
 
--- The line of such a verdict was written and further lines after it, and this is whether it says
--- legal.
+-- The line of a verdict that is as `IsRight` says was written and further lines after it, and
+-- `legal` is whether the verdict says legal.
 abbrev pub WritesLines : (Verdict → Type 0) → Bool → Option (List ℕ) → Option (List ℕ) → Type 0
 WritesLines IsRight legal old new =
     (outcome : Verdict) × (lines : List ℕ) × IsRight outcome × (legal ≡ says_legal outcome)

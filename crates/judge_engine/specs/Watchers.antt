@@ -8,7 +8,7 @@ use Rattle.judge_engine.specs.declared.watcher.Watcher.{Watcher}
 use Rattle.judge_engine.specs.Bases.{IsFedBy}
 use Rattle.judge_engine.specs.Breaks.{IsUnbroken}
 
--- These entries, and then those that lines are; the line that is refused is the same.
+-- The entries h, and then the entries of `more`; the line that is refused is that of `more`.
 abbrev pub ahead : List Entry → List Entry × Option (ℕ × FileFault)
     → List Entry × Option (ℕ × FileFault)
 ahead h more = (h ++ more.0, more.1)

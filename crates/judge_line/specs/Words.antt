@@ -133,12 +133,12 @@ answer_to DisplayHelp = Some Help
 answer_to DisplayVersion = Some Version
 answer_to kind = None
 
--- An error of this kind, if it is not that memory was refused, gives this call.
+-- An error of this kind is not that memory was refused, and gives this call.
 abbrev pub IsAnswered : ErrorKind → Option Asked → Type 0
 IsAnswered kind what = (kind ≡ OutOfMemory → ⊥) × (what ≡ answer_to kind)
 
--- The call by the kinds of error that the words may give, or by the command that was found if they
--- give none.
+-- If there are kinds of error that the words may give, the call is the answer to one of them. If
+-- there are none, it is the call of the command that was found.
 abbrev pub AsksBy : Kinds → Option (Text × List Row) → Option Asked → Type 0
 AsksBy [] found what = what ≡ option_and_then (λ command. asked_in command.0 command.1) found
 AsksBy kinds found what = (kind : ErrorKind) × IsAmong kind kinds × (what ≡ answer_to kind)

@@ -12,8 +12,8 @@ use crate::steps::{link_at, look, mark_at, swap_at};
 use node_list::{NodeList, NodeRef, Spare};
 
 /// Links the node of a spare at the cursor, and answers that node. The spare belongs to this list
-/// and has the sort key sought; if the cursor fits, no node may have that sort key, as `look`
-/// tells.
+/// and has the sort key sought. If the cursor fits, `look` must answer that no node has that sort
+/// key.
 ///
 /// The content gains the pair of a regular node; a dummy leaves it unchanged.
 ///

@@ -48,9 +48,10 @@ pub record IsHeld {S : Type 0} (k : Token S) (call : Call) (outcome : End) (l : 
     pub last : Drive
     pub held : Held before between half (Some outcome) after l last
 
--- A call that took the lock: an operation had tried the word of its key's stripe before. The
--- entries that the token has seen since are those that its holds added. Its claims are those after
--- that try, except that all rights were given back if the call ended its transaction.
+-- A call that took the lock. An operation had tried the word of its key's stripe before, unless the
+-- token had the right. The entries that the token has seen since are those that its holds added.
+-- Its claims are those that it had before its first hold, except that all rights were given back if
+-- the call ended its transaction.
 pub record WentOn {S : Type 0} (k : Token S) (call : Call) (outcome : End) (l : Token S) : Type 0
   where
     pub ready : Token S

@@ -144,8 +144,8 @@ impl<L: Ledger> SharedMap<L> {
         self.operate(rt, me, Op::Take(key))
     }
 
-    /// Puts a value at a key if the value before is the one expected, `None` for a key that is not
-    /// there, and answers the value before. The value is put exactly if these two are equal.
+    /// Puts a value at a key exactly if the value before is the expected one; `None` stands for a
+    /// key that is not there. Answers the value before.
     ///
     /// # Errors
     ///
@@ -386,9 +386,9 @@ impl<L: Ledger> SharedMap<L> {
 
     /// Changes the side value, and logs the job that takes the change back.
     ///
-    /// The job must name the words now as before, and those that `change` answers as after. It
-    /// needs no transaction: a change that is made outside of one stays. Nothing is added to
-    /// `seen`.
+    /// The words now must be the job's `before`, and the words of the value that `change` answers
+    /// its `after`. No transaction is needed: a change that is made outside of one stays. Nothing
+    /// is added to `seen`.
     ///
     /// # Errors
     ///

@@ -51,7 +51,8 @@ abbrev pub seek_answer : ℕ → List Bool → Option Help → ℕ → Result In
 seek_answer size stored help bucket =
     answer_for (buckets.seek_answer size (is_stored stored) help bucket)
 
--- The answer to a link if memory lasts, from the helper's state.
+-- The answer to a link if memory lasts, from whether the helper's cursor fits, which dummies are
+-- linked, the last stamp and the helper's state.
 abbrev pub link_answer : Bool → List Bool → ℕ → Option Help → Result InitLink Refusal
 link_answer fitting linked last help =
     answer_for (buckets.link_answer fitting (is_stored linked) last help)
@@ -83,7 +84,8 @@ pub record Becomes (old new : TableAt) (size : ℕ) (stored linked : List Bool)
   pub linked_is : linked_of new ≡ linked
   pub helps_is : helps_of new ≡ helps
 
--- A helper gets another state, and no node and no stamp is taken.
+-- A helper gets this state. The size, the stored buckets, the linked dummies, the pairs, the spares
+-- and the last stamp are unchanged, and so are the other helpers with their cursors.
 pub record Helps (old new : TableAt) (helper : ℕ) (help : Help) : Type 0 where
   pub becomes : Becomes old new (size_of old) (stored_of old) (linked_of old)
       (slice_set (helps_of old) helper help)

@@ -47,7 +47,7 @@ pub record Prepares (old new : TableAt) (op : Op) (pending : PendingAt) : Type 0
   pub nodes : KeepsNodes old new
 
 -- The reason why an operation that takes a node is not prepared: the stamps are used up exactly if
--- 2^64 - 2 was given, the last one; else memory was refused.
+-- the last one given is 2^64 - 2; else memory was refused.
 abbrev pub IsRefused : TableAt → Op → Refusal → Type 0
 IsRefused t op refusals.StampsUsedUp = (takes_node op ≡ true) × (last_of t ≡ 2 ^ 64 - 2)
 IsRefused t op refusals.NoMemory = (takes_node op ≡ true) × (last_of t < 2 ^ 64 - 2)
@@ -164,11 +164,12 @@ pub record Applies (old new : TableAt) (op : Op) (reply : Option ℕ)
 abbrev pub Sweeps : TableAt → TableAt → SweepOutcome → Type 0
 Sweeps old new outcome = SweepsNodes old new outcome × KeepsBuckets old new
 
--- The table shows what the job names as after its change, and the job's spare is the table's.
+-- The job's key is as the change left it (`IsDue`), and the job's spare, if it has one, belongs to
+-- the table.
 abbrev pub ShowsAfter : MapJob → TableAt → Type 0
 ShowsAfter job t = IsDue (content t) job × OwnsIf t (spare_of_job job)
 
--- The table shows what the job names as before its change.
+-- The job's key has the value that it had before the change, or none.
 abbrev pub ShowsBefore : MapJob → TableAt → Type 0
 ShowsBefore job t = get (content t) (key_of_job job) ≡ value_before job
 

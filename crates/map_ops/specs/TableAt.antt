@@ -149,7 +149,7 @@ abbrev pub fits : TableAt → Cursor → Bool
 fits t cursor = cursors.fits t.list cursor
 
 -- The cursor was placed on this table for this key, at any time. It fits while the change number is
--- unchanged, below the greatest.
+-- the one that it noted, and below 2^64 - 1.
 pub record IsPlaced (t : TableAt) (cursor : Cursor) (key : ℕ) : Type 0 where
   pub list : cursors.IsPlaced t.list cursor
   pub at_is : cursors.at_of cursor ≡ regular_at key
@@ -183,7 +183,7 @@ IsSplitOrdered t = IsRising (nodes_of t)
 abbrev pub HasSoundList : TableAt → Type 0
 HasSoundList t = sound_lists.IsSound t.list
 
--- Each initialised bucket, and each helper that has one, names the linked dummy of its bucket.
+-- Each initialised bucket, and each helper that has a dummy, names the linked dummy of its bucket.
 abbrev pub NamesDummies : TableAt → Type 0
 NamesDummies t = IsHome t.buckets t.list
 

@@ -1,6 +1,6 @@
-//! The effect of an operation or an inverse on the list of a table. Each contract holds of the
-//! table with any buckets, since none of these functions touches them; so the proofs need not
-//! mention buckets.
+//! The effect of an operation or an inverse on the list of a table. Only `seek_key` reads the
+//! buckets, and no function here changes them. So each contract but that of `seek_key` holds of the
+//! table with any buckets, and the proofs of these need not mention buckets.
 ghost use Rattle.std.specs.Prelude.{◌≡◌, ◌≤◌, Option, Some, None, is_ok, nat_eq, IfOk, IfErr, OnErr};
 ghost use Rattle.std.specs.Option.{option_eq};
 ghost use Rattle.node_list.specs.Follow.{Follows};

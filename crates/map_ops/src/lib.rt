@@ -25,12 +25,13 @@
 //! `new`, `with_capacity`, `prepare`, `apply`, `init_link`, `init_store`, `content` and
 //! `regular_list` take memory, and taking a change back needs none.
 //!
-//! `place` and `place_job` walk from the nearest initialised dummy to the key's position, and so do
-//! `apply` and `take_back`, which contain them; `init_seek` walks from the dummy of the bucket's
-//! parent, and `sweep` from the nearest initialised dummy before the first marked node to that
-//! node. `content` and `regular_list` walk the whole list (`content` also sorts its pairs), and
-//! `new` takes time in proportion to `max / 64` and `callers`. Calls take constant time and no
-//! memory unless they say otherwise.
+//! `place` and `place_job` walk to the key's position from the dummy of its bucket, or of the
+//! nearest initialised ancestor, and so do `apply` and `take_back`, which contain them. `init_seek`
+//! walks from the dummy of the bucket's parent. `sweep` walks to the first marked node, from the
+//! dummy of the bucket where the marked nodes begin (`NodeList::marks_begin`), or of its nearest
+//! initialised ancestor. `content` and `regular_list` walk the whole list (`content` also sorts its
+//! pairs), and `new` takes time in proportion to `max / 64` and `callers`. Calls take constant time
+//! and no memory unless they say otherwise.
 #![tactic(auto)]
 
 mod act;

@@ -75,9 +75,9 @@ impl Table {
 
     /// A table as `new` makes it, with memory for this many nodes taken at once, so that the list
     /// need not grow while they are added. There is a node for each key, for each key that is taken
-    /// and not yet swept, and for each stored bucket. If that memory is to be written, the memory
-    /// for the entries of as many buckets is taken too, and no later node or bucket is the first to
-    /// touch a page.
+    /// and not yet swept, and for each stored bucket. If `is_written`, that memory is written, and
+    /// the memory for the entries of as many buckets is taken too: none of these nodes and buckets
+    /// is then the first to touch a page.
     ///
     /// # Errors
     ///
@@ -343,8 +343,8 @@ impl Table {
     /// Unlinks the first marked node, if one is marked, and nothing else. The answer is `Clean`
     /// exactly if none is.
     ///
-    /// The walk begins at the nearest initialised dummy before the position where the marked nodes
-    /// begin (`NodeList::marks_begin`).
+    /// The walk begins at the dummy of the bucket where the marked nodes begin
+    /// (`NodeList::marks_begin`), or of its nearest initialised ancestor.
     ///
     /// # Cost
     ///
@@ -432,7 +432,7 @@ impl Table {
     ///
     /// In this order: `NoSuchHelper`; `HelperOutOfOrder` if the helper has no dummy; `NoMemory` if
     /// memory is refused, which happens only if no bucket of the bucket's segment is initialised.
-    /// Each leaves the table unchanged, and the helper has its dummy.
+    /// Each leaves the table unchanged; after `NoMemory` the helper still has its dummy.
     ///
     /// # Cost
     ///
@@ -469,8 +469,8 @@ impl Table {
     }
 }
 
-/// The node at which a sweep may begin: the nearest initialised dummy before the position where the
-/// marked nodes begin, or the first node if none is marked.
+/// The node at which a sweep may begin: the dummy of the bucket where the marked nodes begin, or of
+/// its nearest initialised ancestor; the first node if none is marked.
 fn sweep_start(list: &NodeList, buckets: &Buckets) -> NodeRef
     requires { IsHome buckets.now list.now }
     ensures { IsBeforeMarks list.now.nodes result }

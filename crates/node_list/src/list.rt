@@ -76,8 +76,8 @@ impl NodeList {
     }
 
     /// A list as `new` makes it, with memory for this many nodes taken at once, so that it need not
-    /// grow while they are added. If that memory is to be written, no later node is the first to
-    /// touch a page of it.
+    /// grow while they are added. If `is_written`, that memory is written, so that no later node is
+    /// the first to touch a page of it.
     ///
     /// # Errors
     ///

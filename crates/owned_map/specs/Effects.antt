@@ -34,11 +34,12 @@ pub record HasBegun (c : ℕ) (old new : State) : Type 0 where
   pub same : now new.history ≡ now old.history
   pub beside : IsBeside c old new
 
--- A caller's transaction was aborted by the core, and nothing else was done.
+-- The core was told to abort a caller's transaction, and nothing else was done. It aborted the
+-- transaction, or refused.
 abbrev pub HasAborted : ℕ → State → State → Type 0
 HasAborted c old new = (answer : Answer) × Aborts old c answer new
 
--- A caller's commit was stopped, and its transaction was then aborted.
+-- A caller's commit was stopped, and then the core was told to abort the transaction.
 abbrev pub IsNotCommitted : ℕ → State → Stop → State → Type 0
 IsNotCommitted c old stop new =
     (left : State) × IsStopped old (Commit c) stop left × HasAborted c left new

@@ -1,4 +1,4 @@
--- Faults of a file: their names, and the answer of a reader that may also lack memory.
+-- Faults of a file: their texts, and the answer of a reader that may also lack memory.
 use Rattle.std.specs.Prelude.{◌≡◌, ℕ, List, ◌++◌, Option, Some, None, Result, Ok, Err, codes, decimal}
 use Rattle.piece_files.specs.declared.part.Part.TheVariants as parts
 use Rattle.piece_files.specs.declared.file_fault.FileFault.{FileFault}

@@ -10,8 +10,9 @@ use Rattle.piece_files.specs.Faults.{◌>>=◌, or_fault}
 use Rattle.piece_files.specs.Json.{json_of, number_named}
 use Rattle.piece_files.specs.Pieces.{pieces_member, old_of, in_version}
 
--- A kind of file: the names of its numbers in the written order, the name of its pieces, what a
--- piece is, whether version 1 has it too, what a fault calls one, and how many there may be.
+-- A kind of file: the names of its numbers, in the order in which `contents` gives them, the name
+-- of its pieces, what a piece is, whether version 1 has it too, what a fault calls one, and how
+-- many there may be.
 pub record FileKind (P : Type 0) : Type 0 where
   pub numbers : List (List ℕ)
   pub pieces : List ℕ

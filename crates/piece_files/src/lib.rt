@@ -1,8 +1,8 @@
 //! Files that are an object in JSON: a version, some numbers, and an array of pieces. A kind of
-//! file is a table: the names of its numbers in the written order, the name of its pieces, and what
-//! a piece is (`PieceKind`). Version 1 of a kind of file may lack some of the pieces that version 2
-//! has: in a file of version 1 these are wrong. This crate knows nothing of steps, scripts and
-//! entries but the words by which a fault names them (`Part`).
+//! file is a table: the names of its numbers, in the order in which `read_file` answers them, the
+//! name of its pieces, and what a piece is (`PieceKind`). Version 1 of a kind of file may lack some
+//! of the pieces that version 2 has: in a file of version 1 these are wrong. This crate knows
+//! nothing of steps, scripts and entries but the words by which a fault names them (`Part`).
 //!
 //! The model is a function of the bytes, `contents` of `specs/Files.antt`: the value that they are
 //! (`json_of`), the numbers in its members, and the pieces of an array or the first that is wrong
@@ -11,10 +11,10 @@
 //! say.
 //!
 //! A file in plain form, as most are written, is read straight from its bytes. Plain form has no
-//! escapes, numbers of at most 19 digits, only pieces that the kind has, and white space anywhere
-//! between. A file in any other form is read from its start by the reader of JSON, which makes an
-//! index of the text as it goes, and takes scratch memory of the text's length (`members.rt`).
-//! `specs/PlainBytes.antt` says what tokens bytes in plain form are.
+//! escapes, numbers of at most 19 digits, only pieces that the kind has, and white space wherever
+//! JSON allows it. A file in any other form is read from its start by the reader of JSON, which
+//! makes an index of the text as it goes, and takes scratch memory of the text's length
+//! (`members.rt`). `specs/PlainBytes.antt` says what tokens bytes in plain form are.
 //!
 //! Promised: `read_file` computes `contents`, or says that memory was refused. A text is read once,
 //! or twice if it has no plain form, in time proportional to its length. What is passed over is

@@ -32,7 +32,7 @@ pub(crate) const MAX_DEPTH: usize = 127;
 /// The names of a file's members, besides `version`.
 #[derive(Clone, Copy)]
 pub(crate) struct Names<'a> {
-    /// The names of the numbers, in the written order.
+    /// The names of the numbers, in the order of `Found::numbers`.
     pub(crate) numbers: &'a [&'a str],
     /// The name of the array of pieces.
     pub(crate) pieces: &'a str,

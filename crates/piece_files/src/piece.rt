@@ -29,7 +29,7 @@ pub trait PieceKind {
     /// The piece that has these elements in version 2, if some piece has them.
     ghost of: { List Data → Option Self.Piece };
 
-    /// Whether version 1 has a piece too.
+    /// Whether version 1 has this piece too.
     ghost is_old: { Self.Piece → Bool };
 
     /// The name of this kind of pieces in a fault.
@@ -45,7 +45,7 @@ pub trait PieceKind {
     fn part() -> Part
         ensures { result ≡ part };
 
-    /// Whether version 1 has a piece too.
+    /// Whether version 1 has this piece too.
     ///
     /// # Cost
     ///

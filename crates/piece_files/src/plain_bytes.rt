@@ -87,7 +87,7 @@ pub(crate) fn after_bracket(bytes: &[u8], at: usize) -> Option<usize>
     Some(bracket + 1)
 }
 
-/// Whether the closing brace of an object is next, and nothing after it.
+/// Whether the closing brace of an object is next, and only white space after it.
 #[tactic(auto, using(crate::proofs::PlainLemmas::finishing))]
 pub(crate) fn is_last_brace(bytes: &[u8], at: usize) -> bool
     requires { at ≤ length bytes.now }
@@ -134,7 +134,7 @@ fn is_plain(byte: u8) -> bool
     byte != b'"' && byte != b'\\' && byte >= b' '
 }
 
-/// The number of bytes from a place on that stand for themselves in a text.
+/// The number of bytes at the front that stand for themselves in a text.
 #[inline(always)]
 fn plain_len(bytes: &[u8]) -> usize
     ensures few { result ≤ length bytes.now }

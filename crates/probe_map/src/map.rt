@@ -24,9 +24,9 @@ const FEW: usize = 1024;
 ///
 /// # Cost
 ///
-/// An empty map takes no memory. A new array has at least 4 slots, each of 24 bytes, and at most 4
-/// for each key that is there or reserved, or 8 if these are fewer than 1,024. It shrinks only when
-/// it is rebuilt.
+/// A map takes no memory until room is made, by `with_capacity` or `reserve`. A new array has at
+/// least 4 slots, each of 24 bytes, and at most 4 for each key that is there or reserved, or 8 if
+/// these are fewer than 1,024. It shrinks only when it is rebuilt.
 #[derive(Drop)]
 pub struct ProbeMap {
     slots: Vec<Slot>,
@@ -34,7 +34,7 @@ pub struct ProbeMap {
     room: usize,
     // How many slots have a value.
     len: usize,
-    // Which bits of a product are a key's home.
+    // How far the product of a key and `SPREAD` is shifted right to give the key's home.
     shift: u32,
 }
 

@@ -1,10 +1,10 @@
 //! Workers that take turns on one map, in one thread; the next one is drawn from a seed.
 //!
 //! Each worker runs its scripts by `Worker` of `script_worker`, as the caller of its number on a
-//! `Core` of `boost_core`. Before each turn a place is drawn in the list of the workers that still
-//! have a step to take, by rising numbers, and the worker at this place takes its next turn: one
-//! step, or two after eight `Again` in a row. So a seed names one interleaving, and the same seed
-//! gives the same history.
+//! `Core` of `boost_core`. The workers that still have a step to take are listed by rising numbers.
+//! Before each turn a place in this list is drawn, and the worker at the place takes its next turn:
+//! one step, or two after eight `Again` in a row. So a seed names one interleaving, and the same
+//! seed gives the same history.
 //!
 //! Proved (`mix_scripts`): the core afterwards has the limits asked for, and its history is legal;
 //! each worker's committed transactions play its scripts, with rising numbers; and the core came

@@ -39,9 +39,9 @@ fn none_yet(alloc: Global, scripts: usize) -> Result<Vec<Outcome>, AllocError>
 /// A committed transaction is counted for the first script that it plays among its caller's scripts
 /// after those counted before. An abort is counted for a script whose actions the transaction did
 /// up to the script's own abort; of several such scripts, the attempts in the history decide. So
-/// each transaction is counted for at most one script, commits in the order of the scripts, and
-/// aborts too. If the caller's commits play its scripts in order, each of them is counted: no
-/// script that is given up hides a commit.
+/// each transaction is counted for at most one script. A caller's commits are in the order of its
+/// scripts, and so are its aborts. If the caller's commits play its scripts in order, each of them
+/// is counted, so none is missed.
 ///
 /// The history is not judged.
 ///

@@ -3,19 +3,19 @@
 //!
 //! Workers run scripts as in `script_worker`: script `i` belongs to worker `i` modulo the number of
 //! workers, a worker takes its scripts in order, and a script that found a stripe held is tried
-//! again. Only its entries show how a script ended. `outcomes` finds the transaction of each script
-//! among them; it does not judge the history.
+//! again. Only the worker's entries show how a script ended. `outcomes` finds the transaction of
+//! each script among them; it does not judge the history.
 //!
 //! The model is `AreOutcomes` of `specs/Outcomes.antt`. Proved, of any history:
 //!
-//! - A script that is called committed has a Committed entry of its worker, at that place and
-//!   index, whose transaction plays the script. In a history of the right shape that is a committed
-//!   transaction by its number (`laws::committed_plays`).
+//! - A script that is called committed has a Committed entry of its worker, with the `place` and at
+//!   the index of its outcome, whose transaction plays the script. In a history of the right shape
+//!   that is a committed transaction by its number (`laws::committed_plays`).
 //! - One that is called aborted has an Aborted entry of its worker, whose transaction did exactly
 //!   the script's actions up to its own abort.
-//! - Commits are in the order of the scripts, and so are aborts, so each transaction is counted for
-//!   at most one script.
-//! - If the caller's commits play its scripts in order, each of them is counted. So no commit is
+//! - A worker's commits are in the order of its scripts, and so are its aborts, so each transaction
+//!   is counted for at most one script.
+//! - If a worker's commits play its scripts in order, each of them is counted. So no commit is
 //!   missed in a history that `mix` prints (`laws::commits_are_counted`).
 //!
 //! Only tested: each script of a run that aborts itself is called aborted.

@@ -125,8 +125,8 @@ tolds_of (script ∷ scripts) (outcome ∷ outcomes) =
     record { script = script; outcome = outcome } ∷ tolds_of scripts outcomes
 tolds_of scripts outcomes = []
 
--- The outcomes of all scripts are true of the history. Every `callers`-th script is a caller's,
--- beginning with the one that has the caller's number.
+-- The outcomes of all scripts are true of the history. A caller has every `callers`-th script, from
+-- the one with the caller's number on.
 abbrev pub AreAllTrue : ℕ → ℕ → List (List Action) → List Outcome → List Entry → Type 0
 AreAllTrue callers tries scripts outcomes h = (c : ℕ) → c < callers
     → AreTrue c tries h (tolds_of (every callers c scripts) (every callers c outcomes))

@@ -9,20 +9,22 @@
 //! for one transaction. A history that is serializable only in another order than that of its
 //! commits is refused.
 //!
-//! No transaction is run again, and no entry is kept. The replies of a transaction fit a map
-//! exactly if each key had, before the transaction's first operation there, that operation's reply:
-//! every later reply at that key follows from the transaction's own operations, or fits no map. So
-//! the checker keeps a *footprint* of each caller: for each key the value that it must have had
-//! before, and its value now. A return to a savepoint restores a key's value now, but not the value
-//! that the key must have had before. A footprint is about every map, not only the present one, so
-//! no commit of another caller changes it. At a Committed the keys are compared with the committed
-//! map, and written only if all fit. Comparing reads with the committed state is the validation of
-//! Kung and Robinson, "On Optimistic Methods for Concurrency Control" (TODS 1981).
+//! No transaction is run again, and no entry is kept. A transaction's first reply at a key is the
+//! value that the key must have had before. Every later reply there follows from the transaction's
+//! own operations, or fits no map. If all of them follow, the replies fit exactly the maps that had
+//! these values. So the checker keeps a *footprint* of each caller: for each key the value that it
+//! must have had before, and its value now. A return to a savepoint restores a key's value now, but
+//! not the value that the key must have had before. A footprint is about every map, not only the
+//! present one, so no commit of another caller changes it. At a Committed the keys are compared
+//! with the committed map, and written only if all fit. Comparing reads with the committed state is
+//! the validation of Kung and Robinson, "On Optimistic Methods for Concurrency Control" (TODS
+//! 1981).
 //!
 //! An entry costs the logarithm of the number of its transaction's keys; a Committed costs, for
-//! each of these keys, the logarithm of the number of keys in the map. Memory is in proportion to
-//! the committed map and to the different keys, standing changes and savepoints of open
-//! transactions. Calls take constant time and no memory unless they say otherwise.
+//! each of these keys, the logarithm of the number of keys in the map; an Aborted costs a step for
+//! each of its transaction's keys. Memory is in proportion to the committed map and to the
+//! different keys, standing changes and savepoints of open transactions. Calls take constant time
+//! and no memory unless they say otherwise.
 //!
 //! Proved: `check`, `check_packed`, and a `Checker` that was fed the same entries, answer what the
 //! definition `verdict` says, with the first bad entry, and they answer legal exactly if

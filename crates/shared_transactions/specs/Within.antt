@@ -28,7 +28,7 @@ is_steady (Some s) = is_steady_in s.phase
 abbrev pub IsOver : {S : Type 0} → Token S → Type 0
 IsOver k = k.broken ≡ false → is_over (seat_after k.seen) ≡ true
 
--- Whether there is a seat, with no transaction open. There is one if all entries have rows.
+-- Whether there is a seat, with no transaction open. There is a seat if all entries have rows.
 abbrev pub is_idle : Option Seat → Bool
 is_idle None = false
 is_idle (Some s) = is_closed s.phase

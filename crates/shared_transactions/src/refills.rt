@@ -1,9 +1,9 @@
 //! Puts the pairs of a core in a map of threads, so that a new map continues from a closed one and
 //! no history grows without end.
 //!
-//! A map of threads cannot cut off its history: its name is its ledger's, and each token has a
-//! share of the ledger. So the map is closed, which returns the core with its legal history, and a
-//! new map with another ledger begins with the core's pairs.
+//! A map of threads cannot cut off its history: the map's type has the name of its ledger, and each
+//! token has a share of that ledger. So the map is closed, which returns the core with its legal
+//! history, and a new map with another ledger begins with the core's pairs.
 ghost use Rattle.std.specs.Prelude.{◌≡◌, [], IfErr, OnErr, OnOk};
 ghost use Rattle.txn_trace.specs.Now.{now};
 ghost use Rattle.txn_words.specs.Ordered.{ordered};

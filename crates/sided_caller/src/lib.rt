@@ -6,11 +6,12 @@
 //! Invariant: the side value has as many levels as the transaction, one for the beginning and one
 //! for each savepoint; outside a transaction it has one.
 //!
-//! Proved: each call does to the map what the caller's own call does, and nothing else. The side
-//! value has after `back` the words that it had at that level; after `abort`, and after an
-//! operation that was busy, it has those that it had when the transaction began. `begin`, `commit`,
-//! all refusals and all other operations leave it unchanged. No words are stored and none is
-//! copied: each change brings a job that takes it back (`Side`).
+//! Proved: each call does to the map what the caller's own call does, and nothing else. The *words*
+//! of a side value are the four numbers that `Side::words` answers. After `back` the side value has
+//! the words that it had at that level; after `abort`, and after an operation that was busy, it has
+//! those that it had when the transaction began. `begin`, `commit`, all refusals and all other
+//! operations leave it unchanged. No words are stored and none is copied: each change brings a job
+//! that takes it back (`Side`).
 //!
 //! Cost: that of the caller's call, and a step for each change of the side value that is taken back
 //! or kept.

@@ -31,7 +31,7 @@ pub record IsParent (bucket parent : ℕ) : Type 0 where
   pub splits : bucket ≡ 2 ^ bit + parent
   pub below : parent < 2 ^ bit
 
--- The bucket that a number of steps from a bucket to its parent reaches.
+-- The bucket that this many steps reach from a bucket, each step from a bucket to its parent.
 unfoldable pub ancestor_of : ℕ → ℕ → ℕ
 ancestor_of zero bucket = bucket
 ancestor_of (suc steps) bucket = parent_of (ancestor_of steps bucket)

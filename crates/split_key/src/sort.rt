@@ -92,7 +92,7 @@ impl SortKey {
         }
     }
 
-    /// The sort key of a bucket's dummy. It is behind that of bucket 0.
+    /// The sort key of a bucket's dummy. It is behind that of bucket 0, unless the bucket is 0.
     pub fn dummy(bucket: u32) -> SortKey
         ensures value { result ≡ dummy_at bucket }
         ensures behind_first { bucket ≢ 0 → IsBefore (dummy_at 0) result }

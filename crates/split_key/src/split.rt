@@ -23,7 +23,7 @@ pub fn regular(key: Key) -> u64
 }
 
 /// The split key of a bucket's dummy node: the bucket's bits in reverse order. It is even, no other
-/// bucket has it, and it is above those of the bucket's ancestors.
+/// bucket has it, and it is above those of the bucket's ancestors other than the bucket itself.
 pub fn dummy(bucket: u32) -> u64
     ensures value { result ≡ reversed bucket }
     ensures even { result % 2 ≡ 0 }

@@ -48,8 +48,8 @@ fn act(map: &mut ProbeMap, op: Op) -> Reply
     }
 }
 
-/// Does an operation, and counts it, if it is a change. First the map gets room for as many keys as
-/// changes will be owed, and for a new one.
+/// Does an operation, and counts it, if it is a change. Before an operation other than a get the
+/// map gets room for as many keys as changes will be owed, and for a new one.
 #[inline(always)]
 #[tactic(auto, using(crate::proofs::Calls::looked))]
 pub(crate) fn apply(map: &mut ProbeMap, owed: &mut usize, op: Op) -> Result<Reply, Refusal>

@@ -62,10 +62,10 @@ impl Part {
         Part { inner: None }
     }
 
-    /// An empty part, with no change to take back, that has room for this number of keys: `apply`
-    /// takes no memory while two numbers together are below `keys`: that of the keys that were put,
-    /// also those taken out since, and that of the changes that are owed. So the first `keys` keys
-    /// take none, if each is settled before the next.
+    /// An empty part, with no change to take back, that has room for this number of keys. `apply`
+    /// takes no memory while the keys that were put (also those taken out since) and the changes
+    /// that are owed are together fewer than `keys`. So the first `keys` keys take none, if each is
+    /// settled before the next.
     ///
     /// # Errors
     ///
@@ -116,8 +116,8 @@ impl Part {
     }
 
     /// Takes a change back: its key has the value before it, and all other keys what they have now.
-    /// One change fewer is owed. Needs a change (`changes`). Taken back newest first, the changes
-    /// of a transaction leave what was there before them.
+    /// One change fewer is owed; `changes` must be above 0. Taken back newest first, the changes of
+    /// a transaction leave what was there before them.
     ///
     /// # Cost
     ///

@@ -59,7 +59,7 @@ IsStopped a op b (Refused NotOpen) = (a.is_open ≡ false) × (b ≡ a)
 IsStopped a op b (Refused refusal) = (refusal ≡ NoMemory) × (a.is_open ≡ true)
     × (b.is_open ≡ true) × IsStep a [] b
 
--- A call that takes every stripe was not done: it stopped as a look at some key does.
+-- A call that takes every stripe was not done: it stopped as a get of some key stops.
 abbrev pub IsCut : Caller → Caller → Stop → Type 0
 IsCut a b stop = (key : ℕ) × IsStopped a (Get key) b stop
 

@@ -33,7 +33,7 @@ IsStopped map a op b (Busy holder) = IsAt Closed (known b.seat) × ((known b.sea
 IsStopped map a op b (Refused refusal) =
     (refusal ≡ NoMemory) × IsAt Opened (known b.seat) × Moves map a [] b
 
--- A call that takes every stripe was not done: it stopped as a look at some key does.
+-- A call that takes every stripe was not done: it stopped as a get of some key stops.
 abbrev pub IsCut : StripedMap → Hand → Hand → Stop → Type 0
 IsCut map a b stop = (key : ℕ) × IsStopped map a (Get key) b stop
 
@@ -52,8 +52,8 @@ pub record AreLeft (map : StripedMap) (a c : Hand) (pairs : List (ℕ × ℕ)) :
   pub pairs_are : pairs ≡ (now (known left.seat).seen).rows
   pub seen : (later : List Entry) × ((known c.seat).seen ≡ (known left.seat).seen ++ later)
 
--- The pairs were not read. Busy: a transaction was begun to read them, and stopped as a look at a
--- key does. Refused: memory was refused.
+-- The pairs were not read. Busy: a transaction was begun to read them, and stopped as a get of some
+-- key stops. Refused: memory was refused.
 abbrev pub IsUnread : StripedMap → Hand → Hand → Stop → Type 0
 IsUnread map a c (Busy holder) = (txn : ℕ) × (b : Hand)
     × Moves map a (Began (known a.seat).number txn ∷ []) b × IsCut map b c (Busy holder)

@@ -307,7 +307,7 @@ impl Hand {
         map.catch_up(&mut self.seat, &mut other.seat);
     }
 
-    /// Takes in another seat that holds nothing, and which acts no more.
+    /// Takes in another seat, which holds nothing, and from then on acts no more.
     pub(crate) fn take_in(&mut self, map: &StripedMap, other: MapSeat)
         requires map { IsOf self.old.seat map.now }
         requires other { IsOf other map.now }

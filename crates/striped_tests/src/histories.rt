@@ -88,7 +88,8 @@ impl Recorder {
         }
     }
 
-    /// Makes a call and notes it; whether the transaction was not lost.
+    /// Makes a call and notes it. Answers whether it was not busy: a busy call loses the
+    /// transaction.
     fn ask(&mut self, clock: &AtomicU64, what: Ask) -> Result<bool, AllocError> {
         let before = clock.fetch_add(1, Ordering::SeqCst);
         let told = answer(&mut self.caller, what);
@@ -358,7 +359,8 @@ impl Merge {
         note_commits(&mut self.commits, one)
     }
 
-    /// Notes them for all callers, and raises the stamps of the commits.
+    /// Notes the first beginning and the commits of each caller, and raises the stamps of the
+    /// commits.
     fn note_all(&mut self, all: &[Recorder]) -> Result<(), AllocError> {
         for one in all {
             self.note(one)?;
@@ -387,8 +389,8 @@ impl Merge {
     }
 }
 
-/// Feeds the entries up to the first of a caller that is not below 64; whether there is none.
-/// Transactions are numbered here.
+/// Feeds the entries up to the first of a caller that is not below 64, and answers whether there is
+/// no such entry. Transactions are numbered here.
 fn feed_all(checker: &mut Checker, lines: &[Line]) -> Result<bool, AllocError> {
     let mut begun = 0u64;
     for line in lines {

@@ -9,7 +9,7 @@ use std::process::Abort;
 use std::test::Fail;
 
 /// A key whose product with the map's multiplier is 1, modulo 2^64. So the home of a small multiple
-/// of it is the first slot, and that of the negative of one the last slot.
+/// of it is the first slot, and the home of the negative of a small multiple is the last slot.
 const APART: u64 = 0xf1de_83e1_9937_733d;
 
 /// Makes room for a key, and asks once more if memory is refused: the map is unchanged then.

@@ -131,7 +131,7 @@ fn room_for(scripts: &[Script], limits: Limits) -> Room {
     room
 }
 
-/// The entries of one attempt at a script, if none of its changes is taken back.
+/// Room for the entries of one attempt at a script, if none of its changes is taken back.
 fn entries_of(actions: &[PackedAction]) -> usize {
     let calls = actions
         .iter()

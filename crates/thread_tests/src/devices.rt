@@ -338,9 +338,9 @@ pub(crate) fn is_settled(
     Ok(matches!(verdict, Some(Verdict::Legal { running: 0, .. })))
 }
 
-/// Whether a closed core has this number of keys, each of them 1 with the value 10, and a history
-/// that is legal with no transaction open. If the list or the history is refused memory twice, it
-/// is not compared.
+/// Whether a closed core has this number of keys, and a history that is legal with no transaction
+/// open. A key that it has must be 1, with the value 10. If the list or the history is refused
+/// memory twice, it is not compared.
 pub(crate) fn has_left<R: Abort>(rt: &R, alloc: Global, core: &Core, keys: u64) -> bool {
     let trace = core.trace();
     let Ok(settled) = is_settled(alloc, trace, 8).or_else(|_| is_settled(alloc, trace, 8)) else {

@@ -49,7 +49,7 @@ struct Keeping {
     ghost sized: { stripes_of words.value ≡ stripes },
 }
 
-/// The seats of this number of stripes, the last one first.
+/// `count` seats at the words of this number of stripes, the last seat first.
 fn fresh_seats(alloc: Global, stripes: usize, count: usize) -> Result<Vec<Fresh>, Fail> {
     if stripes == 0 || count == 0 || count > 64 {
         return Err("no seats".into());

@@ -63,10 +63,10 @@ fn each_call(key: u64) -> [Line; 21] {
     ]
 }
 
-/// The answer to a call on a key that half keys do not allow.
+/// The answer to a call on a key of 2^63 or more, on a map that takes only half keys.
 const BAD: Told = Told::Stopped(Stop::Refused(Refusal::BadKey));
 
-/// Each call on a key that half keys do not allow.
+/// Each call on a key of 2^63 or more, on a map that takes only half keys.
 fn each_refused(key: u64) -> [Line; 7] {
     [
         (Call::Do(Op::Get(key)), BAD),

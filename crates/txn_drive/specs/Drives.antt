@@ -38,7 +38,7 @@ sized_in size phase = phase
 abbrev pub sized_of : ℕ → Drive → Drive
 sized_of size drive = record drive { phase = sized_in size drive.phase }
 
--- The step with which a call begins.
+-- The step of a fresh drive of a call. No drive of a help begins fresh.
 abbrev pub first_step : ℕ → Call → Step
 first_step c calls.Begin = steps.Begin c
 first_step c (calls.Op op) = steps.Ask c op

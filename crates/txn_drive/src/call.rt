@@ -1,6 +1,7 @@
 //! Calls on the map: an operation, begin, save, back, commit, abort or help. A call names no caller
 //! and has no state: the drive that turns it into steps adds both. It fixes the first phase and the
-//! first step; only a help whose key the limits refuse ends before any step.
+//! first step, but the first step of a help also names the table's size; only a help whose key the
+//! limits refuse ends before any step.
 ghost use Rattle.std.specs.Prelude.{◌≡◌};
 ghost use Rattle.txn_drive.specs.Drives.{first_phase, first_step};
 
@@ -38,7 +39,7 @@ impl Call {
         }
     }
 
-    /// The step with which the call begins.
+    /// The step of a fresh drive of the call. No drive of a help begins fresh.
     pub(crate) fn first_step(self, caller: u64) -> Step
         ensures { result ≡ first_step caller self }
     {

@@ -15,12 +15,12 @@ pub(crate) const PATIENCE: u8 = 8;
 /// The next move of a drive.
 #[derive(Clone, Copy, Debug, PartialEq, Eq)]
 pub enum Turn {
-    /// It takes this step, and is told the answer.
+    /// This step is taken, and the drive is told the answer.
     One(Step),
-    /// It takes the first step and is told the answer, and if that is `placed` it takes the
-    /// second step in the same turn and is told the answer.
+    /// The first step is taken, and the drive is told the answer; if that is `placed`, the second
+    /// step is taken in the same turn, and the drive is told its answer.
     Two(Step, Step),
-    /// It takes no step any more.
+    /// The call has ended in this way, and no step is taken any more.
     Ended(End),
 }
 

@@ -62,8 +62,7 @@ abbrev pub holder_in : ℕ → Holder
 holder_in version = if nat_le version 2 then Now else Begun
 
 -- The entry that is kept while a file is read: the entry itself, if it is small enough to be
--- packed; otherwise one that is out of range as well, and that version 1 has exactly if it has the
--- entry.
+-- packed; otherwise one that is out of range as well, and is in version 1 exactly if the entry is.
 abbrev pub kept : Entry → Entry
 kept e =
     if is_small e then e

@@ -8,7 +8,7 @@ pub mod HistoryLine
 pub mod Actions
 pub mod ScriptFile
 pub mod Reading
--- The faults of files, and the definitions of `piece_files` that these ones use.
+-- The faults of files, and the definitions of `piece_files` that the definitions here use.
 pub use Rattle.piece_files.specs.declared.part.Part
 pub use Rattle.piece_files.specs.declared.file_fault.FileFault
 pub use Rattle.piece_files.specs.Faults

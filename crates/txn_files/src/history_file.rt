@@ -44,7 +44,7 @@ fn busy_in(caller: u64, values: &[Plain<'_>]) -> Option<Entry>
 }
 
 /// The entry of this name and caller with these further elements, if it is about the course of a
-/// transaction: began, saved, leave, undone, returned, committed or aborted.
+/// transaction: began, saved, leave, returned, committed or aborted.
 #[tactic(auto, unfolding(crate::specs::Entries::transaction_entry))]
 fn transaction_entry_in(name: &str, caller: u64, values: &[Plain<'_>]) -> Option<Entry>
     ensures { result ≡ transaction_entry name.now caller (map data_of values.now) }
@@ -96,7 +96,7 @@ fn entry_in(values: &[Plain<'_>]) -> Option<Entry>
     entry_named_in(name, caller, rest)
 }
 
-/// Whether version 1 has an entry too.
+/// Whether version 1 has this entry too.
 fn is_old_entry(entry: Entry) -> bool
     ensures { result ≡ is_old_entry entry }
 {

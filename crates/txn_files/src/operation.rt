@@ -64,7 +64,7 @@ pub fn op_in(values: &[Plain<'_>]) -> Option<Op>
     if rest.is_empty() { Some(op) } else { None }
 }
 
-/// Whether version 1 has an operation too.
+/// Whether version 1 has this operation too.
 ///
 /// # Cost
 ///

@@ -1,6 +1,6 @@
 //! The line of a history in pieces, so that a long one need not be in memory as a whole, as `text`
 //! makes it. Both write entries by `set_entry`. Invariant: the text put so far, followed by the
-//! text of the entries left, is the whole line. Takes no memory.
+//! text that is left, is the whole line. Takes no memory.
 ghost use Rattle.std.specs.Prelude.{◌≡◌, ◌⊎◌, ◌↔◌, ◌+◌, ◌<◌, ◌≤◌, [], ◌∷◌, ◌++◌, false, IsTrue, length};
 ghost use Rattle.txn_files.specs.HistoryText.{text_of_history};
 ghost use Rattle.txn_files.specs.HistoryLine.{end_text, entries_text, further_text};

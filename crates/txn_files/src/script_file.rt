@@ -65,7 +65,7 @@ fn packed_action_in(values: &[Plain<'_>]) -> Option<PackedAction>
     Some(PackedAction::new(action_in(values)?))
 }
 
-/// Whether version 1 has an action too.
+/// Whether version 1 has this action too.
 fn is_old_action(action: &PackedAction) -> bool
     ensures { result ≡ is_old_action action.now }
 {

@@ -1,5 +1,6 @@
 //! Histories as compact JSON: each entry as an array, and the object around them. The text is a
-//! function of the entries, `text_of_history`. Takes time and memory in proportion to the text.
+//! function of the version, the stripes and the entries, `text_of_history`. Takes time and memory
+//! in proportion to the text.
 //!
 //! An entry is written into a `Line`, from its end to its start, and then added to the text as a
 //! whole: so each entry needs one test for room.

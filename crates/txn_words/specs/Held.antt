@@ -1,4 +1,5 @@
--- The stripes that a seat holds, as a list, and the words that name the holders of stripes.
+-- The stripes that a seat holds, as a list, and the words that name the holders of stripes. A seat
+-- is here one of the toolchain's `atomic_table`, and not a caller's `Seat`.
 use Rattle.std.specs.Prelude.{ℕ, ◌+◌, ◌==◌, cond, List, [], ◌∷◌}
 
 -- How often a stripe occurs in a list.

@@ -9,7 +9,7 @@ use crate::op::Op;
 use std::marker::Model;
 use std::mem::size_of;
 
-/// The kind of an operation, and whether a put may expect a value.
+/// The kind of an operation, and whether a `PutIf` expects a value or none.
 #[derive(Clone, Copy, Debug, PartialEq, Eq)]
 pub(crate) enum OpKind {
     Put,

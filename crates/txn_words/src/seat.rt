@@ -179,8 +179,10 @@ impl Seat {
         self.kept(level).unwrap_or(0)
     }
 
-    /// The number of entries that its caller may add without a new reservation: its reply, the
-    /// undoing of each change that stands, and the end.
+    /// The number of entries that its caller may add without a new reservation: the reply to an
+    /// operation that waits, and its undoing if it may change the map; the `Returned` of a return
+    /// to a level; and those of an abort, which are a `Leave` unless it has begun, an `Undone` for
+    /// each change that stands, and `Aborted`.
     #[inline(always)]
     pub fn owed(&self) -> u64
         requires { owed_in self.now.seat.standing self.now.seat.phase < 2 ^ 64 }

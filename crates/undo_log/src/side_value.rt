@@ -1,5 +1,5 @@
 //! A side value with the log of its changes, as one value, so that no change is made without its
-//! job. Invariant: run newest first, the jobs restore the words that the value had at each level.
+//! job. Invariant: the jobs, run newest first, restore the words that the value had at each level.
 //! So no words are stored, and going back takes no memory.
 ghost use Rattle.std.specs.Prelude.{◌≡◌, ◌+◌, ◌<◌, ◌≤◌, [], ◌∷◌, ◌++◌, length, take, slice_get, IsOk, IfOk, IfErr, OnOk, OnErr};
 
@@ -77,8 +77,8 @@ impl<S: Side> SideValue<S> {
 
     /// Changes the value, and logs the job that takes the change back.
     ///
-    /// The job must name as before the words that the value has now, and as after those of the
-    /// value that `change` answers.
+    /// The words that the job names as before its change must be those of the value now, and the
+    /// words that it names as after its change must be those of the value that `change` answers.
     ///
     /// # Errors
     ///

@@ -1,6 +1,7 @@
 //! The state of a core after memory was refused: tests that are also run with each allocation
-//! refused in turn, and with all from one on. The runs of `cores` fail if memory is refused; these
-//! go on. The numbers compared take no memory to read, and pairs are compared if there is some.
+//! refused in turn, and with all refused from one of them on. The runs of `cores` fail if memory is
+//! refused; these go on. The numbers compared take no memory to read, and pairs are compared if
+//! there is some.
 use crate::devices::{
     abort, core_if_made, limits_of, owed_by, pairs_of, sizes_of, step_is, take_step, trace_of,
 };

@@ -5,7 +5,7 @@ use super::plain::{self, Place};
 use std::alloc::{AllocError, Global};
 use txn_words::{Entry, Holder, Op};
 
-/// The callers of a history, which has one to four of them: the first of these.
+/// A history has one to four callers: the first of these.
 const CALLERS: [u64; 4] = [0, 1, 7, 63];
 
 /// Numbers that a seed determines, by Knuth's linear congruential generator (MMIX).

@@ -343,7 +343,7 @@ fn run_alone(
     run.act_all(entries)
 }
 
-/// The reply that the operation a caller waits for has if its transaction runs alone.
+/// The reply to the operation that a caller waits for, if the caller's transaction runs alone.
 pub(super) fn reply_alone(
     alloc: Global,
     history: &[Entry],

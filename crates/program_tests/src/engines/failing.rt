@@ -104,8 +104,8 @@ fn is_among(known: &[&str], text: &str) -> bool {
     known.iter().any(|one| *one == text)
 }
 
-/// Checks that one of these texts is printed, or nothing if memory, or for a run a thread, is
-/// refused.
+/// Checks that one of these texts is printed; or nothing, if memory is refused, or if a thread is
+/// refused to a run.
 fn refuse_memory<T: Abort + Threads + Wait + Sync>(
     rt: &T,
     alloc: Global,

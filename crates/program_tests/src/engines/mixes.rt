@@ -54,7 +54,8 @@ pub const FILES: &[Files] = &[
         printed: HISTORY_OF_VERSION_2,
         status: 0,
     },
-    // A key of 2^63 is refused before any step of help: the transaction aborts.
+    // A key of 2^63 is refused before any step of help. It is refused in a get too, and so is a
+    // return to a level that is not there. The transaction aborts.
     Files {
         command: Command::Mix(3),
         frame: BAD_KEY,
