@@ -66,7 +66,7 @@ abbrev pub above_after : ℕ → Option Op → ℕ → Entry → ℕ
 above_after c waiting above e = if caller_of e == c then above_by waiting above e else above
 
 -- The fate of a caller's change by the entries after it, if the caller waits for this operation and
--- `above` newer changes of it stand.
+-- has `above` newer changes that stand.
 abbrev pub fate_from : ℕ → Option Op → ℕ → List Entry → Fate
 fate_from c waiting above [] = Open
 fate_from c waiting above (e ∷ es) = elim (decided c above e) [

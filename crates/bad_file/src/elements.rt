@@ -61,7 +61,8 @@ fn push_after_op_name(stack: &mut Vec<Expected>, word: &str) -> Result<(), Alloc
     }
 }
 
-/// Pushes the elements that are expected because of this one, after it.
+/// Pushes the elements that the word of this element makes expected after it; none if it is no word
+/// of an entry or an operation.
 fn push_after(
     stack: &mut Vec<Expected>,
     is_old: bool,

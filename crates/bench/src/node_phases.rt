@@ -95,9 +95,9 @@ fn time_phases<R: Clock + Eprint>(rt: &R, table: &mut NodeTable, keys: u64) -> R
     time_phase(rt, table, Phase::Get, "unlink", keys)
 }
 
-/// Times each phase: half of the keys are swapped, and a quarter of all marked. Few of the marked
-/// nodes are swept, since each sweep walks to the first one that is left; the last look-ups unlink
-/// the others.
+/// Times each phase: half of all keys are swapped, and a quarter of all keys are marked. Few of the
+/// marked nodes are swept, since each sweep walks to the first one that is left; the last look-ups
+/// unlink the others.
 pub(crate) fn time_nodes<R: AllocGlobal + Clock + Eprint>(rt: &R, keys: u64) -> Result<()> {
     let watch = Stopwatch::start(rt)?;
     let mut table = NodeTable::new(rt.alloc()).map_err(|fault| anyhow!("{fault:?}"))?;

@@ -14,14 +14,14 @@
 //! running alone after those committed before it (`Replies`), the map and the regular list are what
 //! the history gives now (`Content`), and every step makes a move of the machine (`Machine`).
 //! `Nodes` says what a step does to the linked nodes, and which cursors it leaves fitting. The
-//! plain calls are moves of one caller in a row (`Plain`). If callers take the rights to their
-//! stripes elsewhere, as atomic words, an operation is asked for by such a right or by the word
+//! plain calls are moves of one caller in a row (`Plain`). If stripes are atomic words that others
+//! keep, an operation is asked for with the right to its stripe or with the stripe's word
 //! (`Words`). A `Drive` names the steps of a caller's call, between which others may act.
 //!
 //! A step costs the time of its work on the table. Memory is taken only to begin, to ask, to save,
-//! to go back, to link a bucket and to store the first bucket of a segment: all that an operation
-//! and its undoing need is reserved when it is asked for. Calls take constant time and no memory
-//! unless they say otherwise.
+//! to go back, to link a bucket's dummy and to store the first bucket of a segment: all that an
+//! operation and its undoing need is reserved when it is asked for. Calls take constant time and no
+//! memory unless they say otherwise.
 #![tactic(auto)]
 
 mod adding;

@@ -5,20 +5,23 @@ use Rattle.txn_words.specs.declared.answer.Answer.TheVariants.{Began, Busy, Done
 use Rattle.txn_words.specs.declared.refusal.Refusal.{Refusal}
 use Rattle.txn_words.specs.Refusals.{number_of}
 
--- The status of a call that is done; that is done at a key without a value; that finds the stripe
--- held by another caller; on a handle that owns nothing; on a handle that owns something already.
+-- The status of a call that is done.
 abbrev pub done : ℕ
 done = 0
 
+-- The status of a call that is done at a key without a value.
 abbrev pub absent : ℕ
 absent = 1
 
+-- The status of a call that finds the stripe held by another caller.
 abbrev pub busy : ℕ
 busy = 2
 
+-- The status of a call on a handle that owns nothing.
 abbrev pub empty : ℕ
 empty = 3
 
+-- The status of a call on a handle that owns something already.
 abbrev pub full : ℕ
 full = 4
 

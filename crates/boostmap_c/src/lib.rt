@@ -1,6 +1,6 @@
 //! Transactional maps for C, and the judge of their histories: `boost_core`'s `Core`,
 //! `striped_map`'s `Caller`, and the checkers of `history_check` and `serial_check`, each behind a
-//! handle that C keeps, and one export for each of their calls.
+//! handle that C keeps, and the exports by which C calls them.
 //!
 //! C cannot name a type that holds a `Vec`, so a handle is a struct of two words, all zeros at
 //! first: a tag, and a pointer whose type is erased. A ghost field says what the pointer owns: for
@@ -21,7 +21,8 @@
 //!
 //! A call takes the object out of the handle, makes the library's call and puts the object back; a
 //! call of a striped map's caller borrows the member through the pointer instead. Each call tells C
-//! the answer by a status and at most one word:
+//! the answer by a status and at most one word. Besides, the two reads write pairs into an array,
+//! and `boostmap_judge_verdict` writes a `CVerdict`. The statuses:
 //!
 //! | Status | Meaning | The transaction then |
 //! |---|---|---|

@@ -13,7 +13,7 @@ use txn_trace::{Entry, Holder};
 /// The rule of a judge.
 #[derive(Clone, Copy)]
 pub enum Way {
-    /// By locks: this rule says which callers a Busy entry may name.
+    /// By locks; the `Holder` says which callers a Busy entry may name.
     ByLocks(Holder),
     /// By the order of commits.
     ByCommits,

@@ -14,8 +14,8 @@ use Rattle.script_mix.specs.Crews.{IsMixed}
 use Rattle.boostmap_engine.specs.Report.{line}
 
 -- There is a core on which the workers took turns as this seed draws them. Its history is legal and
--- of these workers, each worker's committed transactions play its scripts, in rising order, and the
--- text is that of the history, of the version of the scripts.
+-- of these workers, and each worker's committed transactions play its scripts, in rising order. The
+-- text is that of the history, with the version of the script file.
 pub record IsMixture (work : Work) (seed : ℕ) (text : List ℕ) : Type 0 where
   pub core : State
   pub mixed : IsMixed work seed core

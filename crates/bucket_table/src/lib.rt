@@ -34,12 +34,13 @@
 //! will be linked between the keys 4 and 2.
 //!
 //! Contracts see a `Directory`: the size, the place of each stored bucket's dummy, and each
-//! helper's state. On every value the sizes are powers of two and no bucket is stored before its
-//! parent (`IsSound`). Buckets are *at home* on their list (`IsHome`) if each stored bucket and
-//! each helper names its linked dummy, and each cursor was placed; each call keeps that, and so
-//! does any change of the list (`still_home`). Each answer but `NoMemory` is a function of the
-//! state before the call (`Answers`), a refused call changes nothing, and no call changes the
-//! content of the list. A doubling changes only the size: no node moves.
+//! helper's state. For every value of `Buckets` the size and the largest size are powers of two,
+//! and no bucket is stored before its parent (`IsSound`). Buckets are *at home* on their list
+//! (`IsHome`) if each stored bucket, and each helper that has a dummy, names the linked dummy of
+//! its bucket, and each helper's cursor was placed on the list for its bucket's dummy; each call
+//! keeps that, and so does any change of the list (`still_home`). Each answer but `NoMemory` is a
+//! function of the state before the call (`Answers`), a refused call changes nothing, and no call
+//! changes the content of the list. A doubling changes only the size: no node moves.
 //!
 //! Calls take constant time and no memory unless they say otherwise. `Buckets::new` and
 //! `Buckets::with_capacity` take memory, and so may `Buckets::init_link`, for a new dummy, and

@@ -130,8 +130,8 @@ fn call_named<'a>(name: &str, found: &ArgMatches<'a>) -> Option<Call<'a>>
 ///
 /// # Errors
 ///
-/// - `Usage` exactly if the words are no call of the program, also if they ask for help.
 /// - `NoMemory` if memory is refused.
+/// - Otherwise `Usage`, exactly if the words are no call of the program, also if they ask for help.
 ///
 /// # Cost
 ///

@@ -187,7 +187,7 @@ const THREE_WORKERS: Mix = Mix {
     workers: &[(0, TWO_EMPTY), (1, TWO_EMPTY), (2, ONE_EMPTY)],
 };
 
-/// The last of four workers has nothing to do, and if the second ends first the first and the third
+/// The last of four workers has nothing to do. If the second is the first to end, workers 0 and 2
 /// are left.
 const FOUR_WORKERS: Mix = Mix {
     scripts: "{\"version\":1,\"workers\":4,\"stripes\":8,\"buckets\":8,\"tries\":0,\

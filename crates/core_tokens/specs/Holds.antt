@@ -149,8 +149,8 @@ abbrev pub MayEnd : Call → End → Type 0
 MayEnd call (ends.Refused OutOfStep) = Unit {0}
 MayEnd call outcome = is_odd call outcome ≡ false
 
--- A call with this end; the entries `base` were seen before it. It is quiet, provided that the rule
--- of shape has a row for each entry that was seen.
+-- A call with this end; the entries `base` were seen before it. If it ended out of step it has
+-- committed nothing, provided that the rule of shape has a row for each entry that was seen.
 pub record HasRun (base seen : List Entry) (c : ℕ) (call : Call) (outcome : End) : Type 0 where
   pub added : List Entry
   pub entries : seen ≡ base ++ added

@@ -18,9 +18,9 @@ use undo_log::Side;
 /// A core that callers share, and the book that counts the entries of its history. A map of threads
 /// keeps it under its lock.
 ///
-/// A contract sees the core as `core`. The type guarantees that the book's total is the length of
-/// the history, so a core with another number of entries cannot be put here without its callers'
-/// shares; and that the core's stripes are words. The ledger's name `L` says whose book it is.
+/// A contract sees the core as `core`. The type guarantees that the core's stripes are words, and
+/// that the book's total is the length of the history. So a core with another number of entries
+/// cannot be put here without the callers' shares. The ledger's name `L` says whose book it is.
 #[derive(Drop)]
 pub struct Booked<L: Ledger> {
     /// The core.

@@ -18,9 +18,9 @@ use undo_log::Side;
 ///
 /// After its first hold the call heads for the bucket that the key has at the size that the core
 /// then has (`heads`), and each further hold that does not end the call keeps to this bucket
-/// (`stays`). If core and token are in step before the hold that ends the call, the bucket is
-/// stored after it (`stored`). If the first hold ends the call, the bucket is stored in any case
-/// (`at_once`).
+/// (`stays`). If core and token are in step before the hold that ends the call well, the bucket is
+/// stored after it (`stored`). If the first hold ends the call well, the bucket is stored in any
+/// case (`at_once`).
 ///
 /// The contract is the law; the function does nothing.
 pub fn helped<S: Side>()

@@ -2,8 +2,8 @@
 //!
 //! - A *token*, `Caller`, is one caller. `Booked::new` makes a core with a `Pass` for each number,
 //!   and a pass makes the token of its number, once. A token keeps in `seen` the entries that its
-//!   calls have added to the history, and a side value, whose changes a transaction takes back with
-//!   its others.
+//!   calls have added to the history. It also has a side value: the changes that a transaction
+//!   makes to it are taken back with the transaction's other changes.
 //! - A *hold* is one turn of a call, one step of the core or two. Who calls `Caller::hold` has the
 //!   core for as long as that takes: the core makes the moves of the turn, and `seen` gains their
 //!   entries. Other callers may take their steps between any two holds.
@@ -20,7 +20,7 @@
 //! - No entry can be added without a token: a ledger counts them, `Booked` has its book, and each
 //!   token a share. So the history of the core that `Booked::into_core` takes out has as many
 //!   entries as the tokens saw. The ledger is `std`'s `sync::ledger`. Its name `L` is the first
-//!   parameter of each type, and is picked as `sync::ledger` says.
+//!   parameter of `Booked`, `Pass` and `Caller`, and is picked as `sync::ledger` says.
 //! - `laws::helped` is about the holds of a call for help: they initialise its key's bucket.
 //!
 //! It stands alone since nothing here waits: the crates above say how callers take turns at the

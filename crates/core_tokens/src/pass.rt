@@ -18,8 +18,8 @@ use undo_log::Side;
 
 /// The right to be the caller of a number. It cannot be cloned.
 ///
-/// A contract sees its number and the limits of its map. It has one part of the map's ledger, and
-/// the number's seat at the map's words.
+/// A contract sees its number, the limits of its map and which words the map has. It has one part
+/// of the map's ledger, and the number's seat at these words.
 #[derive(Drop)]
 pub struct Pass<L: Ledger> {
     number: u64,

@@ -10,9 +10,9 @@
 //!
 //! Promised: `entry_on` computes the definition of its name, or says that memory was refused;
 //! `history_lines` writes a history as `text_of_lines` says. Both take time in proportion to the
-//! text. A line in plain form, as `history_lines` writes it, is read straight from its bytes; any
-//! other by the reader of JSON. Reading a line takes no memory except that of
-//! its `Scratch`, which grows to the longest line, at most 1,000 bytes.
+//! text. A line in plain form with no white space before its array, as `history_lines` writes it,
+//! is read straight from its bytes; any other by the reader of JSON. Reading a line takes no memory
+//! except that of its `Scratch`, which grows to the longest line, at most 1,000 bytes.
 #![tactic(auto)]
 
 mod entry;

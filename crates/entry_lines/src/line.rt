@@ -112,7 +112,7 @@ fn entry_in_value(reader: &mut Reader<'_>) -> Result<Option<Entry>, Stop>
 }
 
 /// The entry that a text is: `Some(None)` if it is an array that is no entry, `None` if it is no
-/// array in plain form of 1 to 7 elements.
+/// array in plain form of 1 to 7 elements, or white space is before the array.
 fn entry_in_plain(text: &str) -> Option<Option<Entry>>
     ensures { IfSome result (λ found. (d : Data) × (read text.now ≡ Some d)
         × (found ≡ option_and_then entry_of (elements_of d))) }

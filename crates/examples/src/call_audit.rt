@@ -17,8 +17,8 @@ fn say<R: Print + AllocGlobal>(rt: &R, what: &str, history: &[Entry]) -> io::Res
     }
 }
 
-/// Prints whether a history is legal in which a caller gets what another put, and whether it is
-/// still legal if the reply to that get is another.
+/// Prints whether a history in which a caller gets what another put is legal, and whether it is
+/// still legal if that get has a different reply.
 pub(crate) fn show<R: Print + AllocGlobal>(rt: &R) -> io::Result<()> {
     let mut history = [
         Entry::Began(0, 1),

@@ -56,7 +56,8 @@ impl Transfer {
         }
     }
 
-    /// Moves the sum, if the first account has enough.
+    /// Moves the sum, if the first account has enough, the second stays below 2^64, and the two
+    /// differ.
     #[tactic(auto, using(shared_transactions::proofs::Within::keeps_stay, shared_transactions::proofs::Within::keeps_on))]
     fn make<L: Ledger, R: Wait>(self, t: &mut Transaction<'_, L, R>) -> Result<(), Stop>
         ensures { Keeps t.old.me t.new.me }

@@ -16,8 +16,8 @@ use txn_trace::{Entry, Holder, SmallEntry};
 ///
 /// The verdict is `Legal`, with the number of commits and of callers that are in a transaction at
 /// the end, exactly if the history is legal. Otherwise it is `Illegal`, with the index of the
-/// first entry that breaks a rule, from 0, and the rule: shape, or of replies and locks the first
-/// that it breaks.
+/// first entry that breaks a rule, from 0, and the first rule that it breaks, in the order shape,
+/// replies, locks.
 ///
 /// # Errors
 ///

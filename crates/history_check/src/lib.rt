@@ -10,14 +10,14 @@
 //! that has begun a transaction before.
 //!
 //! The checker runs no transaction again. While a history is legal, open transactions hold
-//! different stripes, so the map as it is now gives the right reply to each of them, as abstract
-//! locks do in Herlihy and Koskinen, "Transactional Boosting" (PPoPP 2008). So the checker keeps
-//! that map, the holder of each stripe, and of each caller its phase, its standing changes with the
-//! values before them, its savepoints and whether it has begun a transaction: it copies no map and
-//! keeps no list of the entries. An entry costs the logarithm of the number of keys, and one that
-//! ends a transaction also a step for each of its stripes and changes. Memory is in proportion to
-//! the stripes, and to the greatest numbers of keys, of changes that can be taken back and of
-//! savepoints at one time.
+//! different stripes, so the map as it is now gives the right reply to each of them: the stripes
+//! are the abstract locks of Herlihy and Koskinen, "Transactional Boosting" (PPoPP 2008). So the
+//! checker keeps that map, the holder of each stripe, and of each caller its phase, its standing
+//! changes with the values before them, its savepoints and whether it has begun a transaction: it
+//! copies no map and keeps no list of the entries. An entry costs the logarithm of the number of
+//! keys, and one that ends a transaction also a step for each of its stripes and changes. Memory is
+//! in proportion to the stripes, and to the greatest numbers of keys, of changes that can be taken
+//! back and of savepoints at one time.
 //!
 //! `Callers` judges the rule of shape. The map and its stripes judge the rules of replies and
 //! locks. `serial_check`, the judge by the order of commits, uses `Callers` too. Both judges share

@@ -79,7 +79,7 @@ lines_from workers n [] = []
 lines_from workers n (outcome ∷ more) =
     outcome_line workers n outcome ++ lines_from workers (suc n) more
 
--- The last line, which counts them.
+-- The last line: how many outcomes are of each kind.
 abbrev pub counts_line : List Outcome → List ℕ
 counts_line os =
     decimal (how_many kinds.Committed os) ++ (codes " committed "

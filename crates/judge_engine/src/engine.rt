@@ -1,5 +1,5 @@
-//! The commands of `judge` that answer a verdict, over a reader and a writer; the modules beside
-//! read, judge and write. Each makes the whole text of a verdict before it writes, so an earlier
+//! The commands of `judge` that answer a verdict, over a reader and a writer; other modules read,
+//! judge and write. Each command makes the whole text of a verdict before it writes, so an earlier
 //! fault leaves the output unchanged; only `why` then writes the flaw of a refused file. `watch`
 //! keeps a checker and a part of the input in memory, the others a file.
 ghost use Rattle.std.specs.Prelude.{IfOk, IfErr};

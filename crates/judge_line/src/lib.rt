@@ -5,10 +5,10 @@
 //! and writes the line of a failure. `Host` is the system of a process.
 //!
 //! Proved: the call is the one that the words ask for (`specs/Words.antt`); standard output has
-//! what the engine of that call promises, or the usage or the version; standard error has the line
-//! of a failure and nothing else, unless a write of it fails; and the status is that of the outcome
-//! (`specs/Runs.antt`). No contract says what `Host` reads, since the toolchain promises nothing of
-//! a process's words and files.
+//! what the engine of that call promises, or the usage or the version, and is unchanged if no call
+//! is read; standard error has the line of a failure and nothing else, unless a write of it fails;
+//! and the status is that of the outcome (`specs/Runs.antt`). No contract says what `Host` reads,
+//! since the toolchain promises nothing of a process's words and files.
 #![tactic(auto)]
 
 mod failure;

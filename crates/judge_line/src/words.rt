@@ -235,8 +235,8 @@ fn call_for<'a>(kind: ErrorKind) -> Result<Call<'a>, Failure>
 ///
 /// # Errors
 ///
-/// - `Usage` exactly for words that are no call of the program.
 /// - `NoMemory` if memory is refused.
+/// - Otherwise `Usage`, exactly for words that are no call of the program.
 ///
 /// # Cost
 ///

@@ -8,11 +8,11 @@
 //! right back and stores 0.
 //!
 //! Proved, by a rule that holds between any two atomic steps of any threads: a stripe is held by at
-//! most one seat (`held_once`), the one that its word names; its right is in its slot exactly if
-//! the word is 0, and so goes to one seat at a time; a seat is named as a holder only after it has
-//! taken the stripe, so no take can answer that an untouched stripe is held. No call waits. Nothing
-//! says that a take ever succeeds. Calls take constant time and no memory unless they say
-//! otherwise.
+//! most one seat (`held_once`), the one that its word names; its slot is at home (with no seat) and
+//! has the right exactly if the word is 0, and so the right goes to one seat at a time; a seat is
+//! named as a holder only after it has taken the stripe, so no take can answer that an untouched
+//! stripe is held. No call waits. Nothing says that a take ever succeeds. Calls take constant time
+//! and no memory unless they say otherwise.
 #![tactic(auto)]
 
 mod law;

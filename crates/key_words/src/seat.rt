@@ -1,6 +1,7 @@
 //! The state that one thread brings to an atomic step on the words: its number and its seat at the
 //! atomic table. The rights that it took are elsewhere, so a single take needs no list. Invariant:
-//! the number is below 64, and the slots that are out are those of its stripes, each empty.
+//! the number is below 64, and the slots that are out with the seat are those of its stripes,
+//! each empty.
 ghost use Rattle.std.specs.Prelude.{◌≡◌, ℕ, ◌<◌, []};
 ghost use Rattle.key_words.specs.Rule.{Holds};
 ghost use Rattle.key_words.specs.Steps.{emptied};

@@ -1,6 +1,6 @@
 //! The words of the stripes, each with a slot for its right. Invariant, between any two atomic
-//! steps: a word is 0 exactly if its right is in its slot, else it names the one seat that holds
-//! the stripe.
+//! steps: a word is 0 exactly if its slot is at home with its right, else it names the one seat
+//! that holds the stripe.
 ghost use Rattle.std.specs.Prelude.{◌≡◌, ◌<◌, ◌≤◌, [], replicate, IfErr, IfOk, vec_capacity, vec_len};
 ghost use Rattle.key_locks.specs.Rights.{AreAll};
 ghost use Rattle.key_words.specs.Rule.{Holds, view};
@@ -127,8 +127,8 @@ impl KeyWords {
     }
 
     /// Gives a stripe back by its right, and leaves the seat's other stripes unchanged: lays the
-    /// right into its slot and frees the word by one store. One load before it, which changes
-    /// nothing, puts the stripe's slot in front of the seat's others.
+    /// right into its slot and frees the word by one store. First one load, which changes no word
+    /// and no slot, puts the stripe's slot in front of the seat's other slots.
     pub fn give(&self, seat: &mut KeySeat, right: StripeRight)
         requires seat { IsOf seat.old self.now }
         requires held { Holds (known seat.old) right }

@@ -7,8 +7,8 @@
 //! the core's answer is impossible by the token's state, the call ends with `OutOfStep`: the token
 //! is broken, `seen` keeps the entries that the call had added, and `close` compares them with the
 //! history. Each of these calls has the clauses
-//! - `ok`: the entries that it has added, if it did what it was asked to do (`level` of `save`: its
-//!   answer);
+//! - `ok`: the entries that it has added, if it did what it was asked to do (`save` also has the
+//!   clause `level`, about its answer);
 //! - `side`: its effect on the side value in that case;
 //! - `claims`: the rights to stripes that it has then, and the words that it has tried: an
 //!   operation tries the word of its key's stripe, unless it has the right, and gets the right if

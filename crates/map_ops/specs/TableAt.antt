@@ -197,8 +197,8 @@ pub record Follows (old new : TableAt) : Type 0 where
   pub last : last_of old ≤ last_of new
   pub placed : (cursor : Cursor) (key : ℕ) → IsPlaced old cursor key → IsPlaced new cursor key
 
--- An empty table of two buckets, the first of them stored, and of idle helpers. Only its dummy is
--- linked, and no spare is out.
+-- An empty table of two buckets, the first of them stored, and of idle helpers. Only the dummy of
+-- bucket 0 is linked, and no spare is out.
 pub record IsNew (t : TableAt) (largest helpers : ℕ) : Type 0 where
   pub nodes_are : nodes_of t ≡ first_dummy t.list.head 0 ∷ []
   pub regular_is : regular t ≡ []

@@ -18,7 +18,8 @@
 //! - `law::either_order` says that jobs of different keys may be taken back in either order, with
 //!   the same result.
 //! - `prepare`, `place` and `act`, or `place_job` and `undo`, do the same in steps. If something
-//!   has changed at the cursor's position in between, they answer `Again`, and nothing is lost.
+//!   has changed at the cursor's position in between, `act` or `undo` answers `Again`, and nothing
+//!   is lost.
 //! - All other calls leave the content and the list of pairs unchanged.
 //!
 //! A prepared operation owns the node that it may need, and a take passes it on to its job. So only

@@ -73,8 +73,8 @@ impl NodeRef {
     }
 }
 
-/// A linked node. It takes four words: the first two have the sort key, the kind, the mark, whether
-/// it is linked, and the place of the next node.
+/// A node: a linked one, unless its place is kept for a spare. It takes four words: the first two
+/// have the sort key, the kind, the mark, whether it is linked, and the place of the next node.
 #[derive(Clone, Copy, Debug)]
 pub struct Node {
     /// Its position in the order of the list. A regular node has its key there.

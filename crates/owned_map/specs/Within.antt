@@ -19,8 +19,8 @@ use Rattle.txn_words.specs.Shape.{Seat, seat_after, own}
 use Rattle.txn_trace.specs.Legal.{IsLegal}
 use Rattle.boost_core.specs.State.{State, holder_by, seat_in}
 
--- The map after these changes are taken back, in their order. Each is a key and the value before
--- it.
+-- The map after these changes are taken back, in their order. Each change is given by its key and
+-- the value that the key had before.
 abbrev pub taken_back : List (ℕ × Option ℕ) → Map → Map
 taken_back [] m = m
 taken_back (job ∷ jobs) m = taken_back jobs (set_at m job.0 job.1)

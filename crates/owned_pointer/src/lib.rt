@@ -16,8 +16,8 @@
 //! the same value, and nothing is freed on the way. A pointer that was lost without `into_box`
 //! would leak; the type forbids this, since it is no `Drop`.
 //!
-//! Both functions take constant time and no memory: a pointer is one word, and its `Global` needs
-//! none.
+//! Both functions take constant time and no memory: a pointer is one word, and a `Global` takes no
+//! room.
 #![tactic(auto)]
 
 mod owned_pointer;

@@ -21,7 +21,7 @@ use json::{Reader, Token};
 use std::alloc::{AllocError, Global};
 
 /// A kind of pieces; a file has an array of them. Each piece is an array itself, and its elements
-/// say what it is. A kind has no value; it is named where pieces are read.
+/// say what it is. No value of a kind is made; the kind is named, as a type, where pieces are read.
 pub trait PieceKind {
     /// A piece of this kind.
     type Piece: Drop;

@@ -74,8 +74,8 @@ pub(crate) fn plain_value<'a>(
 
 /// Takes the elements of an array, whose bracket was taken from the reader, into `elements`, in
 /// place of what is there. Answers whether there are at most `MOST`, each of them null, a text, or
-/// a whole number below 2^64; else `elements` has some of them. The reader is then behind the
-/// bracket that closes the array.
+/// a whole number below 2^64; if not, `elements` has some of them. Either way the reader is then
+/// behind the bracket that closes the array.
 ///
 /// # Errors
 ///

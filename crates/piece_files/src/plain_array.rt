@@ -49,7 +49,8 @@ pub fn elements_at<'a, const MOST: usize>(
 }
 
 /// Takes the elements of an array that is all of a text into `elements`, in place of what is there,
-/// if the array has plain form and 1 to `MOST` elements. Answers whether it has.
+/// if the array has plain form and 1 to `MOST` elements, and no white space is before its opening
+/// bracket. Answers whether that is so.
 ///
 /// # Cost
 ///

@@ -17,8 +17,8 @@ abbrev pub live : List Worker → ℕ
 live [] = 0
 live (worker ∷ workers) = if is_some (step_by worker) then suc (live workers) else live workers
 
--- The numbers of the workers that have a step to take, rising, if the first of the list has this
--- number.
+-- The numbers of the workers that have a step to take, rising. The first worker of the list has the
+-- number `n`.
 abbrev pub live_from : ℕ → List Worker → List ℕ
 live_from n [] = []
 live_from n (worker ∷ workers) =

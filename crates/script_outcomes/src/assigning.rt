@@ -38,10 +38,10 @@ fn none_yet(alloc: Global, scripts: usize) -> Result<Vec<Outcome>, AllocError>
 ///
 /// A committed transaction is counted for the first script that it plays among its caller's scripts
 /// after those counted before. An abort is counted for a script whose actions the transaction did
-/// up to the script's own abort; of several such scripts, the attempts in the history decide. So
-/// each transaction is counted for at most one script. A caller's commits are in the order of its
-/// scripts, and so are its aborts. If the caller's commits play its scripts in order, each of them
-/// is counted, so none is missed.
+/// up to the script's own abort, or for none. If there are several such scripts, the caller's
+/// earlier entries decide which of them that is. So each transaction is counted for at most
+/// one script. A caller's commits are in the order of its scripts, and so are its aborts. If the
+/// caller's commits play its scripts in order, each of them is counted, so none is missed.
 ///
 /// The history is not judged.
 ///

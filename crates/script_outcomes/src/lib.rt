@@ -10,7 +10,8 @@
 //!
 //! - A script that is called committed has a Committed entry of its worker, with the `place` and at
 //!   the index of its outcome, whose transaction plays the script. In a history of the right shape
-//!   that is a committed transaction by its number (`laws::committed_plays`).
+//!   this transaction has a number under which `txn_trace` too says that it is committed and plays
+//!   the script (`laws::committed_plays`).
 //! - One that is called aborted has an Aborted entry of its worker, whose transaction did exactly
 //!   the script's actions up to its own abort.
 //! - A worker's commits are in the order of its scripts, and so are its aborts, so each transaction

@@ -1,7 +1,7 @@
 //! A worker's way through its scripts, as the entries of its caller show it. The run over a history
-//! has one way for each worker, and passes it only that worker's entries. Its two positions among
-//! the scripts never fall, and stay at scripts of that worker (`GoesOn`). How often a script is
-//! compared with transactions is not promised.
+//! has one way for each worker, and passes it only that worker's entries. The two positions of a
+//! way, `next` and `turn`, never fall, and stay numbers of that worker (`GoesOn`). How often a
+//! script is compared with transactions is not promised.
 ghost use Rattle.std.specs.Prelude.{◌≡◌, ◌⊎◌, ℕ, ◌+◌, ◌%◌, ◌^◌, ◌<◌, ◌≤◌, [], OnOk, length};
 ghost use Rattle.script_outcomes.specs.Outcomes.{grown};
 ghost use Rattle.script_outcomes.specs.Ways.{IsFirstPlayed, IsFirstLeft, MayCount, Commits, Aborts, Goes};

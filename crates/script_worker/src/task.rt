@@ -1,6 +1,6 @@
-//! The script that a worker is at, and the effect of an answer on it: the drive is told, a call
-//! that ended is followed by the next one, and a script that is over by the worker's next script. A
-//! worker without a script left has no task.
+//! The script that a worker is at, and the effect of an answer on it: the drive is told; a call
+//! that ended is followed by the next call, and a script that is over is followed by the worker's
+//! next script. A worker without a script left has no task.
 ghost use Rattle.std.specs.Prelude.{◌≡◌};
 ghost use Rattle.script_worker.specs.Workers.{started, progressed, settled, task_told};
 ghost use Rattle.script_worker.specs.Workers.{finish_at, finish_by, finish_after};

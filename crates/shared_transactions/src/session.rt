@@ -2,9 +2,9 @@
 //! map's ledger.
 //!
 //! A closure cannot be generic over the ledger's name, so a session is a trait with a generic
-//! method. The toolchain does not prove a `run` that starts threads, since the values that it sends
-//! to a thread rest on the bounds of the method. So a session is for callers that take turns in one
-//! thread; for threads there is `run_works`.
+//! method. The toolchain does not prove a `run` that starts threads: what such a method sends to a
+//! thread rests on a bound that is assumed of the calling thread only. So a session is for callers
+//! that take turns in one thread; for threads there is `run_works`.
 ghost use Rattle.std.specs.Prelude.{◌≡◌, ◌<◌, All, IfOk, IfErr, OnErr, length, map};
 ghost use Rattle.core_tokens.specs.Tokens.{AreTickets};
 ghost use Rattle.shared_transactions.specs.Works.{IsNew};

@@ -35,8 +35,8 @@ pub fn bucket_of(key: Key, size: u32) -> u32
 }
 
 /// The bucket to which a position of the split order belongs, in a table of this size, a power of
-/// two: of the table's dummies whose split keys are not above `split`, this bucket's has the
-/// greatest. The dummies of its ancestors are not above `split` either.
+/// two. Of the table's dummies whose split keys are not above `split`, the dummy of this bucket has
+/// the greatest split key. The dummies of its ancestors are not above `split` either.
 pub fn bucket_at(split: u64, size: u32) -> u32
     requires { IsPowerOfTwo size }
     ensures value { result ≡ reversed split % size }

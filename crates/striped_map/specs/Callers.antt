@@ -77,8 +77,8 @@ pub record IsWithin (a b : Caller) : Type 0 where
   pub begins : how_many is_began (own (number a) (seen b))
       ≡ how_many is_began (own (number a) (seen a))
 
--- A transaction was taken back: the caller has none and holds no stripe. If a busy operation had
--- ended it before, nothing changes.
+-- A transaction was taken back: the caller has none and holds no stripe. If a busy call had ended
+-- it before, nothing changes.
 pub record IsTakenBack (a b : Caller) : Type 0 where
   pub closed : b.is_open ≡ false
   pub given : stripes_held b ≡ []

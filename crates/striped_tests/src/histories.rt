@@ -212,7 +212,7 @@ fn raise_stamps(commits: &mut Vec<(u64, u64)>) {
 }
 
 /// An entry with its place in the history: a stamp, then an order among those of one stamp, then
-/// the line.
+/// the number of lines that were put before it.
 type Line = ((u64, u64, usize), Entry);
 
 /// Makes entries of the calls of one caller after the other.
@@ -252,7 +252,8 @@ impl Merge {
         Ok(())
     }
 
-    /// Puts a first entry, an Undone for each change above the `left` that stay, and a last entry.
+    /// Puts the entry `first`, an Undone for each change that stands except the oldest `left`, and
+    /// the entry `last`.
     fn put_undone(
         &mut self,
         stamp: u64,

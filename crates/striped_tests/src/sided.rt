@@ -415,7 +415,8 @@ fn dropped_at_every_point(rt: HostRuntime) {
     }
 }
 
-/// The caller, which is in a transaction, so `new` hands it back with the side value.
+/// Tries to give a side value to the caller, which is in a transaction: `new` must hand back both.
+/// Answers the caller.
 fn handed_back<R: Abort>(rt: &R, alloc: Global, caller: Caller) -> Caller {
     let made = SidedCaller::new(alloc, caller, a_register(of_count(7)));
     let (caller, value) = made.err().expect(rt, "a caller that is handed back");

@@ -44,8 +44,8 @@ fn set(plain: &mut Plain, key: u64, value: Option<u64>) -> Result<(), Fail> {
     Ok(())
 }
 
-/// What an operation makes of its key, which has the value `was`: a value, or none if it removes
-/// the key. `None` if it changes nothing.
+/// The value that an operation gives its key, which has the value `was`; `Some(None)` if it removes
+/// the key, and `None` if it changes nothing.
 fn setting(op: Op, was: Option<u64>) -> Option<Option<u64>> {
     match op {
         Op::Put(_, value) => Some(Some(value)),

@@ -52,7 +52,7 @@ impl Growth {
 
     /// Lets the table grow by a step, if a call has put a new key and it is time: doubles the
     /// table, if it is full, and initialises the key's bucket. If memory is refused for that, or no
-    /// stamp is left, the table stays as it is. Answers whether the caller is still in step.
+    /// stamp is left, the table stays smaller. Answers whether the caller is still in step.
     pub(crate) fn grow<L: Ledger, H: OnRelease, R: Wait>(
         &mut self,
         rt: &R,

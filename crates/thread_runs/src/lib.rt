@@ -3,7 +3,8 @@
 //! Worker `w` is caller `w`, and script `i` belongs to worker `i mod workers`. A worker runs its
 //! scripts in their order, by the rules of `script_worker`, like workers that take turns. A gate is
 //! told what the workers do, and may make them wait. After some new keys without a help a worker
-//! helps the table to grow by itself, so that scripts without a help do not become slow.
+//! helps the table to grow, though its script does not ask for it, so that scripts without a help
+//! do not become slow.
 //!
 //! A contract sees the result of a run: the history, and an outcome for each script. Proved
 //! (`run_scripts`, by `IsRunOf` of `specs/Runs.antt`): the history is legal by the rule that a Busy

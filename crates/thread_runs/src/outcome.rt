@@ -1,6 +1,7 @@
 //! The outcomes of scripts. Both the account of a worker and the contract of a run use them, so
-//! they belong to neither. Only an outcome of a commit takes memory, for the replies: the list to
-//! which the script's calls added them is moved into it, and from the worker to the run's result.
+//! they belong to neither. Only an outcome of a commit takes memory, for the replies. The list to
+//! which the script's calls added them is moved into the outcome, and the outcome is moved from the
+//! worker to the run's result.
 use txn_trace::{Refusal, Reply};
 
 /// The outcome of a script.

@@ -24,7 +24,7 @@ use txn_trace::{Action, Limits, Op, PackedAction, Refusal, Script};
 /// limits have callers: script `i` belongs to worker `i` modulo the workers, and worker `w` is
 /// caller `w`. A script that found a stripe held is tried again at most `tries` times, after other
 /// threads had a chance to run. A worker that has put seven new keys without a help in between
-/// helps the table to grow by itself, which adds no entry.
+/// helps the table to grow, though its script does not ask for it; this adds no entry.
 ///
 /// With `Ok` the history is legal by the rule that a Busy may name any other worker that has begun
 /// a transaction; each of its entries is of one of these workers; and each script has one outcome,

@@ -21,8 +21,8 @@ use Rattle.txn_drive.specs.declared.turn.Turn.TheVariants.{One, Two, Ended}
 use Rattle.txn_drive.specs.declared.way.Way.{Way}
 use Rattle.txn_drive.specs.Ways.{child_towards}
 
--- A call for help begins by doubling the table; but if only half keys are taken and its key is
--- none, it is refused. Any other call is fresh.
+-- A call for help begins by doubling the table; but if only half keys are taken and its key is no
+-- half key, it is refused. Any other call is fresh.
 abbrev pub first_phase : Bool → Call → Phase
 first_phase half (calls.Help key) = if is_bad_key half key then Refused BadKey else Doubling 0
 first_phase half call = Fresh
@@ -134,8 +134,8 @@ told_seek (Busy holder undone) again (answers.Refused NothingToSeek) =
 told_seek (Leaving undone) again (answers.Refused NothingToSeek) = Acting (Leaving undone) again
 told_seek work again answer = Lost work
 
--- The phase after one more change than `undone` is taken back: the next is sought for the work
--- `more`. If the new number does not fit in 64 bits, the call ends.
+-- The phase after `undone + 1` changes are taken back: the next change is sought, with the work
+-- `more`. If `undone + 1` does not fit in 64 bits, the call ends.
 abbrev pub counted : ℕ → Work → Work → Phase
 counted undone more work =
     if nat_lt undone (2 ^ 64 - 1) then Seeking more 0 else Last work answers.Undone
@@ -165,7 +165,8 @@ abbrev pub heading : ℕ → ℕ → Phase
 heading key size =
     if nat_lt 0 size && nat_lt size (2 ^ 32) then towards 0 (key % size) else Refused OutOfStep
 
--- The phase after a helper's step was refused, for lack of memory or of a stamp.
+-- The phase after a helper's step was refused: for lack of memory or of a stamp, or by a refusal
+-- that no rule foresees.
 abbrev pub refused_help : Refusal → Phase
 refused_help NoMemory = Refused NoMemory
 refused_help StampsUsedUp = Refused StampsUsedUp

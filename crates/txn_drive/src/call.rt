@@ -1,7 +1,7 @@
 //! Calls on the map: an operation, begin, save, back, commit, abort or help. A call names no caller
-//! and has no state: the drive that turns it into steps adds both. It fixes the first phase and the
-//! first step, but the first step of a help also names the table's size; only a help whose key the
-//! limits refuse ends before any step.
+//! and has no state: the drive that turns it into steps adds both. The call fixes the first phase
+//! and the first step, but the first step of a help also names the table's size. Only a help whose
+//! key the limits refuse ends before any step.
 ghost use Rattle.std.specs.Prelude.{◌≡◌};
 ghost use Rattle.txn_drive.specs.Drives.{first_phase, first_step};
 

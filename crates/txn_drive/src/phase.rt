@@ -29,7 +29,7 @@ pub enum Phase {
     Fresh,
     /// The next step seeks the position of a work.
     Seeking(Work, u8),
-    /// The position of a work was found.
+    /// The next step acts: the position of a work was found, or no change is left to take back.
     Acting(Work, u8),
     /// The next step doubles the table: the size at the last turn, 0 before the first.
     Doubling(u32),
@@ -47,7 +47,8 @@ pub enum Phase {
     Lost(Work),
     /// All buckets on the way are initialised.
     Helped,
-    /// A helper's step, or the call itself, was refused.
+    /// A helper's step, or the call itself, was refused; or, with `OutOfStep`, an answer that no
+    /// rule foresees has ended a help, or an answer was told after the end.
     Refused(Refusal),
 }
 

@@ -1,6 +1,7 @@
 //! History files: entries as pieces, which are kept packed, and the numbers around them. The loops
-//! over tokens are those of `piece_files`; this file says which shapes and ranges entries have. An
-//! entry whose callers are too large to be packed is replaced by one that is out of range as well.
+//! over tokens are those of `piece_files`; this module says which shapes and ranges entries have.
+//! An entry whose callers are too large to be packed is replaced by one that is out of range as
+//! well.
 ghost use Rattle.std.specs.Prelude.{◌≡◌, map, true, false, IfOk};
 ghost use Rattle.std.specs.List.{list_all};
 ghost use Rattle.piece_files.specs.Plain.{data_of};

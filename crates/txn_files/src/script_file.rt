@@ -1,6 +1,6 @@
 //! Script files: actions and scripts as pieces, and the numbers around them. The loops over tokens
-//! are those of `piece_files`; this file says which shapes and ranges actions and scripts have. All
-//! actions of a script are kept, packed, before their number is tested.
+//! are those of `piece_files`; this module says which shapes and ranges actions and scripts have.
+//! All actions of a script are kept, packed, before their number is tested.
 ghost use Rattle.std.specs.Prelude.{◌≡◌, ◌<◌, ◌^◌, List, Result, map, true, false};
 ghost use Rattle.std.specs.List.{list_all};
 ghost use Rattle.std.specs.Result.{result_ok};

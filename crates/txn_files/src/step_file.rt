@@ -1,6 +1,6 @@
 //! Step files: the thirteen steps as pieces, and the limits around them, which script files share.
-//! `piece_files` has the loops over tokens; this file says which shapes and ranges steps have.
-//! Steps are kept packed, in five sevenths of the memory; only `read_steps` unpacks them.
+//! `piece_files` has the loops over tokens; this module says which shapes and ranges steps have.
+//! Steps are kept packed, in five sevenths of the memory; only `read_steps` answers them unpacked.
 ghost use Rattle.std.specs.Prelude.{◌≡◌, IfOk, map, true, false};
 ghost use Rattle.piece_files.specs.Plain.{data_of};
 ghost use Rattle.piece_files.specs.Faults.{Gives};

@@ -70,8 +70,8 @@ abbrev pub PlayScripts : ℕ → List (List Action) → List Entry → Type 0
 PlayScripts callers scripts h =
     (c : ℕ) → c < callers → PlayRising callers scripts c h 0 (length scripts) (commits_of c h)
 
--- The entries of one caller in parts, one for each transaction, the last one first, after one more
--- entry.
+-- The parts of one caller's entries, one for each transaction and the last transaction's first,
+-- after one more entry.
 abbrev pub part_after : List (List Entry) → Entry → List (List Entry)
 part_after [] e = if is_began e then (e ∷ []) ∷ [] else []
 part_after (part ∷ parts) e =

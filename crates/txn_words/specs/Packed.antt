@@ -35,7 +35,7 @@ packed_action action_kinds.Back op n v e = actions.Back n
 packed_action action_kinds.Help op n v e = actions.Help n
 packed_action action_kinds.Abort op n v e = actions.Abort
 
--- The entry of this kind of caller `c`, with the number `n` or the operation at key `n`.
+-- The entry of this kind and of caller `c`, with the number `n` or the operation at key `n`.
 abbrev pub packed_entry : Kind → OpKind → ℕ → ℕ → ℕ → ℕ → ℕ → Entry
 packed_entry kinds.Began op c n v e x = entries.Began c n
 packed_entry kinds.Asked op c n v e x = entries.Asked c (packed_op op n v e)

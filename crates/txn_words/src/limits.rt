@@ -113,7 +113,7 @@ impl Limits {
         self.half_keys
     }
 
-    /// Whether these limits refuse a key: only half keys are taken, and it is none.
+    /// Whether these limits refuse a key: only half keys are taken, and the key is no half key.
     pub fn is_bad_key(self, key: u64) -> bool
         ensures { result ≡ is_bad_key self.half key }
     {

@@ -4,18 +4,18 @@
 //! run.
 /// The inverse of one change, which is run at most once.
 ///
-/// Its law is the contract of `run`. The world that `run` takes shows what the job names as after
-/// the change, and the world that it answers shows what the job names as before it. `takes_back`
-/// says what differs between the two, and that nothing else does. A job that is no longer needed is
-/// dropped.
+/// Its law is the contract of `run`. The world that `run` takes shows what the job names as the
+/// state after the change, and the world that it answers shows what the job names as the state
+/// before it. `takes_back` says what differs between the two, and that nothing else does. A job
+/// that is no longer needed is dropped.
 pub trait UndoJob: Drop {
     /// The world that was changed, such as a table of nodes.
     type World;
 
-    /// Whether a world shows what the job names as after its change.
+    /// Whether a world shows what the job names as the state after its change.
     ghost shows_after: { Self → Self.World → Type 0 };
 
-    /// Whether a world shows what the job names as before its change.
+    /// Whether a world shows what the job names as the state before its change.
     ghost shows_before: { Self → Self.World → Type 0 };
 
     /// Whether the second world is the first without the job's change, with everything else

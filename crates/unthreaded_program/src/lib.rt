@@ -9,9 +9,10 @@
 //! replays, mixes and judges is proved in two thirds of the time.
 //!
 //! Proved (`specs/Runs.antt`): the engine of the command that the words ask for ran on the file
-//! that they name; standard output has exactly what that engine wrote; standard error has the line
-//! of the fault, if there is one, and nothing else, unless a write of it fails; and the status is
-//! that of the outcome.
+//! that they name, and standard output has exactly what that engine wrote; or no engine ran, since
+//! the words are no call, their file was not opened or memory was refused, and standard output is
+//! unchanged. Standard error has the line of the fault, if there is one, and nothing else, unless a
+//! write of it fails; and the status is that of the outcome.
 #![tactic(auto)]
 
 mod ending;

@@ -1,6 +1,6 @@
 //! The beginning of a call: its words are read, and the file that they name is opened. Both
-//! programs begin here, before they choose an engine. Nothing is written, so a call that is refused
-//! here leaves both outputs to `end`.
+//! programs begin here, before they choose an engine. Nothing is written: if a call is refused
+//! here, only `end` writes, and only to standard error.
 ghost use Rattle.std.specs.Prelude.{◌≡◌, IfOk, IfErr};
 ghost use Rattle.std.specs.IoError.{error_kind};
 ghost use Rattle.unthreaded_program.specs.Opening.{IsOpened, IsUnopened, memory_or, of_words};

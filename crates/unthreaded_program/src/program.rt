@@ -1,6 +1,7 @@
 //! The commands on an open file, and the whole call of the program without threads: words, file,
 //! engine, the line of a fault, exit status. The system and both outputs are type parameters, so
-//! that contracts and tests reach all of it. `boostmap_program` runs all commands but `run` by it.
+//! that contracts and tests reach all of it. `boostmap_program` runs all commands but `run` by
+//! `run_command`.
 ghost use Rattle.std.specs.Prelude.{◌≡◌};
 ghost use Rattle.unthreaded_program.specs.Runs.{Does, HasEnded, Runs, StartsNone, Tells};
 
