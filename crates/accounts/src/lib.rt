@@ -24,7 +24,7 @@ use striped_map::{Caller, Stop, Transaction};
 ///
 /// # Cost
 ///
-/// A begin, two `get`s, two `put`s and a commit, and an abort for each try that fails.
+/// For each try a begin, at most two `get`s and two `put`s, and a commit, or an abort if it fails.
 pub fn transfer(caller: &mut Caller, tries: u64, from: u64, to: u64, sum: u64) -> Result<bool, Stop>
     requires { from ≢ to }
     ensures closed { caller.old.is_open ≡ false → caller.new.is_open ≡ false }

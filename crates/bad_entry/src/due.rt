@@ -1,6 +1,7 @@
 //! The questions that need a checker: the value of a key, the last commit that changed it, and the
 //! first reply of a transaction that contradicts earlier ones. Each call feeds all entries to a new
-//! checker, so it costs as much as a verdict. Contracts promise an answer only if no entry is bad.
+//! checker, so it costs as much as a verdict, or more. Contracts promise an answer only if no entry
+//! is bad.
 ghost use Rattle.std.specs.Prelude.{◌≡◌, ℕ, ◌<◌, List, Some, None, if◌then◌else◌, IfOk};
 ghost use Rattle.std.specs.List.{All};
 ghost use Rattle.std.specs.Option.{option_or};
@@ -59,7 +60,7 @@ pub(crate) fn fed_by_commits(
 ///
 /// # Cost
 ///
-/// That of `history_check`'s checker for each entry.
+/// That of making `history_check`'s checker and of feeding it each entry.
 pub fn value_now(
     alloc: Global,
     entries: &[SmallEntry],

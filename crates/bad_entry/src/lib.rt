@@ -9,9 +9,10 @@
 //! constant time an entry, or, if it feeds a checker, the checker's time. Nothing is kept between
 //! two questions.
 //!
-//! Proved: each answer is the one of the definitions. The due reply is that of the map now or of
-//! the committed map, the holder of a lock is `holder_of`, and the last change of a key, its fate,
-//! and the entry since which a lock is held are those of `specs/`.
+//! Proved, if no entry before the bad one is bad: each answer is the one of the definitions. The
+//! due reply is that of the map now or of the committed map, the holder of a lock is `holder_of`,
+//! and the last change of a key, its fate, and the entry since which a lock is held are those of
+//! `specs/`. Not proved is how many transactions began (`Reason::Shape`).
 #![tactic(auto)]
 
 mod change;

@@ -160,7 +160,8 @@ fn shape_reason(callers: &Callers, began: u64, caller: u64) -> Reason
 ///
 /// # Cost
 ///
-/// That of `history_check`'s checker for each entry, a few times.
+/// That of making `history_check`'s checker and of feeding it each entry, and a few passes over the
+/// entries.
 pub fn by_locks(
     alloc: Global,
     entries: &[SmallEntry],
@@ -222,7 +223,7 @@ fn commit_reason(alloc: Global, entries: &[SmallEntry], caller: u64) -> Result<R
 ///
 /// # Cost
 ///
-/// That of `serial_check`'s checker for each entry, twice.
+/// That of `serial_check`'s checker for each entry, twice, and two looks at a key.
 pub fn by_commits(
     alloc: Global,
     entries: &[SmallEntry],

@@ -187,9 +187,10 @@ fn flaw_in_value(alloc: Global, file: &Value) -> Result<Option<Flaw>, AllocError
 
 /// The flaw of a history file, if `read_history` of `txn_files` refuses it.
 ///
-/// The flaw is the cause of the refusal, and the first of its kind: a file that is too long or no
-/// JSON; a member that is missing or of the wrong kind; the first element at fault of the first
-/// entry with a wrong shape; a member that is out of range; the first caller that is out of range.
+/// The flaw is the cause of the refusal, and the first of its kind: a file that is too long, no
+/// JSON or no object; a member that is missing or of the wrong kind; the first entry with a wrong
+/// shape if it is no array, else its first element at fault; a member that is out of range; the
+/// first caller that is out of range.
 ///
 /// # Errors
 ///

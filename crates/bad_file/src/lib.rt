@@ -1,10 +1,10 @@
 //! The flaw of a history file that is refused: the first place at fault, the value there, and the
 //! values that are allowed instead.
 //!
-//! `txn_files` names the first element of `entries` that is no entry, or only says that some number
-//! is out of range.
-//! This crate answers the writer's next question: which element of the entry is wrong, which words
-//! and numbers are allowed there, or which member is missing.
+//! `txn_files` names the first element of `entries` that is no entry, or only says that the file is
+//! no JSON, no object or too long, that some member is missing or of the wrong kind, or that some
+//! number is out of range. This crate answers the writer's next question: which element of the
+//! entry is wrong, which words and numbers are allowed there, or which member is missing.
 //!
 //! The format is that of `txn_files`, in its own definitions. An element of an entry is at fault if
 //! some entry begins with the elements before it, but no entry begins with these and the element.

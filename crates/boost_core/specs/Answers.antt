@@ -159,7 +159,7 @@ placed_by (Seek c) answers.Placed = Some (Caller c)
 placed_by (InitSeek h b) answers.Placed = Some (Helper h)
 placed_by step answer = None
 
--- Whether an answer leaves the list unchanged.
+-- Whether the linked nodes and the change number are unchanged at each step with this answer.
 abbrev pub keeps_list : Answer → Bool
 keeps_list answers.Placed = false
 keeps_list (answers.Done reply) = false

@@ -24,9 +24,9 @@ use Rattle.boost_core.specs.Begun.{AreNoted}
 use Rattle.boost_core.specs.Spares.{IsCovered}
 use Rattle.boost_core.specs.Sessions.{Side, side_of, owed_of, Agrees, IsSought, times_kept, changes_of, AreDue}
 
--- The parts of a core, except room: the limits, the history and its counts, the table, each
--- caller's side, the stripes' holders, the owner of the cursor that the last move placed, and
--- whether stripes are words.
+-- The parts of a core, except room, the number of entries owed and the notes of who has begun: the
+-- limits, the history and its counts, the table, each caller's side, the stripes' holders, the
+-- owner of the cursor that the last move placed, and whether stripes are words.
 pub record World : Type 0 where
   pub limits : Sizes
   pub history : List Entry

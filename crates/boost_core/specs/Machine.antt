@@ -18,7 +18,8 @@ IsAllowed state step (answers.Refused refusal) =
 IsAllowed state step answer = (refusal_of state step ≡ None) × IsAnswer state step answer
 
 -- A step, its answer and the state after it; `Nodes` describes its nodes and cursors. The change
--- number never falls, and is unchanged if the list is; the last stamp rises by at most one.
+-- number never falls, and is unchanged if the answer says so (`keeps_list`); the last stamp rises
+-- by at most one.
 pub record Move (old : State) (step : Step) (answer : Answer) (new : State) : Type 0 where
   pub allowed : IsAllowed old step answer
   pub state : new

@@ -79,7 +79,7 @@ is_unmarked n = not n.marked
 
 -- A seek from the dummy of a bucket: it passes the nodes up to the first unmarked one that is not
 -- before the position sought. The marked ones that it passes are unlinked, and nothing else
--- changes. The change number grows by one for each.
+-- changes. The change number grows by one for each, up to 2^64 - 1.
 pub record SeeksFrom (old new : State) (bucket : ℕ) (at : SortKey) : Type 0 where
   pub front : List Node
   pub start : Node
@@ -99,7 +99,7 @@ pub record IsNearest (stored : List Bool) (bucket nearest : ℕ) : Type 0 where
   pub there : is_set stored nearest ≡ true
   pub nearer : (fewer : ℕ) → fewer < steps → is_set stored (ancestor_of fewer bucket) ≡ false
 
--- The key of the newest change of a log.
+-- The key of the newest change of a log, or 0 if it has none.
 abbrev pub newest_key : List (ℕ × Option ℕ) → ℕ
 newest_key [] = 0
 newest_key (change ∷ older) = change.0
@@ -119,7 +119,8 @@ pub record SeeksKey (old new : State) (key : ℕ) : Type 0 where
   pub seeks : SeeksFrom old new bucket (regular_at key)
 
 -- The effect of changing a key's value from the first to the second: a node is linked, or the key's
--- node is marked, or a value is written there, and no other node is touched.
+-- node is marked, or a value is written there, or, from none to none, nothing is done; and no other
+-- node is touched.
 abbrev pub Changes : State → State → ℕ → Option ℕ → Option ℕ → Type 0
 Changes old new key None None = Keeps old new
 Changes old new key None (Some value) = Links old new (regular_at key)

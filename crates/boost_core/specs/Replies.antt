@@ -1,5 +1,5 @@
--- The third claim, replies: each transaction has the replies of running alone, after those
--- committed before it.
+-- The third claim, replies: each transaction has the replies of running alone after the commits
+-- before its end.
 use Rattle.txn_trace.specs.Replies.{RepliesHold}
 use Rattle.boost_core.specs.State.{State}
 

@@ -213,7 +213,7 @@ pub record Drops (s : Session) (t : TableAt) (s' : Session) (t' : TableAt) : Typ
   pub table : t' ≡ t
   pub becomes : s' ≡ record s { cursor = None }
 
--- The operation that waits is done, and its job is the newest.
+-- The operation that waits is done, and its job, if it has one, is the newest.
 pub record DoesIn (s : Session) (t : TableAt) (reply : Option ℕ) (s' : Session)
     (t' : TableAt) : Type 0 where
   pub pending : PendingAt
@@ -363,7 +363,7 @@ ActsIn c s t locks answers.Aborted s' t' locks' =
     (has_job s.seat.seat ≡ false) × EndsIn c s locks s' locks' × (t' ≡ t)
 ActsIn c s t locks answer s' t' locks' = ⊥
 
--- The requirements of a step on its caller's side, if nothing refuses it.
+-- The requirements of a step on its caller's side, if no test refuses it.
 pub record Takes (stripes : ℕ) (counts : Counts) (step : Step) (s : Session) (t : TableAt)
     (locks : List (Option ℕ)) : Type 0 where
   pub goes : GoesWith s t

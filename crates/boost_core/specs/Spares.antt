@@ -14,7 +14,7 @@ times_of (Some spare) place stamp = if spare.place == place && spare.stamp == st
 abbrev pub times_in : List MapJob → ℕ → ℕ → ℕ
 times_in jobs place stamp = sum_by (λ job. times_of (spare_of_job job) place stamp) jobs
 
--- How often a table has given out the spare of this place and stamp: once or not at all.
+-- How often the spare of this place and stamp is out: once or not at all.
 abbrev pub times_out : TableAt → ℕ → ℕ → ℕ
 times_out t place stamp = if option_eq nat_eq (spare_out t place) (Some stamp) then 1 else 0
 

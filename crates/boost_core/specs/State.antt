@@ -32,7 +32,7 @@ pub record Gap : Type 0 where
 -- stored and whether its dummy is linked; the linked nodes in order; the list's change number; the
 -- last stamp given; for each caller the change number that its cursor noted and, if the cursor
 -- fits, the nodes between which it stands; the same nodes for each helper; each helper's state; and
--- the owner of the cursor that the last move placed.
+-- the owner of the cursor that the last move placed, where a refusal does not count as a move.
 pub record State : Type 0 where
   pub limits : Sizes
   pub words : Bool
@@ -109,7 +109,7 @@ is_set buckets bucket = unwrap_or (slice_get buckets bucket) false
 abbrev pub with_bucket : List Bool → ℕ → List Bool
 with_bucket buckets bucket = slice_set buckets bucket true
 
--- The bucket for which a helper has a cursor or a dummy.
+-- The bucket for which a helper has a cursor or a dummy, or 0 if it has neither.
 abbrev pub bucket_at : Help → ℕ
 bucket_at Nothing = 0
 bucket_at (Sought bucket noted) = bucket

@@ -11,8 +11,8 @@
 //! The model is a machine of thirteen steps, and the history is the main part of its state. The
 //! main theorem is five claims, each in its file of `specs/`: the history has the shape of
 //! transactions (`Shape`), stripes have one holder (`Locks`), each transaction has the replies of
-//! running alone after those committed before it (`Replies`), the map and the regular list are what
-//! the history gives now (`Content`), and every step makes a move of the machine (`Machine`).
+//! running alone after the commits before its end (`Replies`), the map and the regular list are
+//! what the history gives now (`Content`), and every step makes a move of the machine (`Machine`).
 //! `Nodes` says what a step does to the linked nodes, and which cursors it leaves fitting. The
 //! plain calls are moves of one caller in a row (`Plain`). If stripes are atomic words that others
 //! keep, an operation is asked for with the right to its stripe or with the stripe's word

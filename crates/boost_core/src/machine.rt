@@ -45,7 +45,7 @@ pub struct Core {
     // The number of entries that the callers may still add without a new reservation.
     pub(crate) owed: usize,
     pub(crate) locks: KeyLocks,
-    // The owner of the cursor that the last step placed.
+    // The owner of the cursor that the last step placed; a refused step does not count.
     pub(crate) placed: Option<Owner>,
     // Whether stripes are words.
     pub(crate) words: bool,
@@ -151,9 +151,10 @@ impl Core {
     ///
     /// A `Seek` walks to the key's position from the dummy of its bucket, or of the nearest
     /// initialised ancestor; an `InitSeek` walks from the dummy of the bucket's parent, and a
-    /// `Sweep` up to the first marked node. A `Commit` takes a step for each job and each stripe of
-    /// the transaction, the end of an abort one for each stripe; each other step takes amortized
-    /// constant time. Only the steps that may be refused with `NoMemory` take memory.
+    /// `Sweep` up to the first marked node. A `Commit` takes a step for each job, savepoint and
+    /// stripe of the transaction, the end of an abort one for each savepoint and stripe; each other
+    /// step takes amortized constant time. Only the steps that may be refused with `NoMemory` take
+    /// memory.
     pub fn step(&mut self, step: Step) -> Answer
         requires { self.old.words ≡ true → is_ask step ≡ false }
         ensures event { Event self.old step result self.new }
@@ -279,9 +280,10 @@ impl Core {
         &self.history
     }
 
-    /// Makes room in the history for this many more entries, besides those that callers owe, so
-    /// that it need not grow while they are added. If `is_written`, the room is written, so that no
-    /// later entry is the first to touch a page of memory. The core is unchanged.
+    /// Makes room in the history for this many more entries, besides those that callers owe now, so
+    /// that it need not grow before more than these are added or newly owed. If `is_written`, the
+    /// room is written, so that no later entry is the first to touch a page of it. The core is
+    /// unchanged.
     ///
     /// # Errors
     ///

@@ -177,7 +177,7 @@ impl Session {
         }
     }
 
-    /// Ends the undoing, if no change above the level is left.
+    /// Ends the undoing: no change above the level is left.
     fn arrive(&mut self, caller: usize, locks: &mut KeyLocks) -> Answer
         requires caller { caller < 64 }
         requires arrives { CanArrive self.old }

@@ -91,7 +91,8 @@ impl Core {
     ///
     /// # Cost
     ///
-    /// A seek and an act for each change that is taken back; may take memory, only for the history.
+    /// A seek and an act for each change that is taken back, and a step for each savepoint that is
+    /// dropped; may take memory, only for the history.
     pub fn back(&mut self, caller: u64, level: u64) -> Answer
         ensures returns { Returns self.old caller level result self.new }
         ensures words { self.new.words ≡ self.old.words }
@@ -110,7 +111,8 @@ impl Core {
     ///
     /// # Cost
     ///
-    /// A seek and an act for each change, and a step for each stripe; takes no memory.
+    /// A seek and an act for each change, and a step for each savepoint and each stripe; takes no
+    /// memory.
     pub fn abort(&mut self, caller: u64) -> Answer
         ensures aborts { Aborts self.old caller result self.new }
         ensures words { self.new.words ≡ self.old.words }
@@ -125,17 +127,18 @@ impl Core {
     }
 
     /// Helps the table to grow, by the steps of a drive's call `Help`, taken in a row: doubles it
-    /// if it has more than two keys for each bucket, and then initialises the bucket that the key
-    /// has at the new size, its ancestors first. It needs no transaction, and the map and the
-    /// history are unchanged. No other plain call doubles a table: without `help` beside `put`,
-    /// each seek walks one long list.
+    /// if it has more than two keys for each bucket and is not at its largest size, and then
+    /// initialises the bucket that the key has at the size now, its ancestors first. It needs no
+    /// transaction, and the map and the history are unchanged. No other plain call doubles a table:
+    /// without `help` beside `put`, each seek walks one long list.
     ///
     /// # Errors
     ///
-    /// Buckets that were initialised before the refusal stay initialised.
+    /// A doubling before the refusal stays, and buckets that were initialised stay initialised.
     /// - `NoSuchHelper` if there is no caller of this number: nothing is done.
     /// - `BadKey` if the limits have half keys and the key is 2^63 or more: nothing is done.
-    /// - `StampsUsedUp` if no stamp is left, and `NoMemory` if memory is refused.
+    /// - `StampsUsedUp` if no stamp is left, and `NoMemory` if memory is refused or the list has no
+    ///   place left.
     ///
     /// # Cost
     ///

@@ -67,7 +67,7 @@ impl Session {
         }
     }
 
-    /// Takes a step of this caller that nothing refuses. The seat is unchanged except for room: it
+    /// Takes a step of this caller that no test refuses. The seat is unchanged except for room: it
     /// enters the entry afterwards.
     #[inline(always)]
     pub(crate) fn answer(

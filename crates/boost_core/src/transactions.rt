@@ -1,6 +1,6 @@
 //! The steps that divide and end a transaction: savepoints, and the effect of a commit and of
 //! leaving on the log and the waiting operation. Unlike those in `operations.rt` they change no
-//! key. Only `save` takes memory; `settle` takes a step for each job.
+//! key. Only `save` takes memory; `settle` takes a step for each job and savepoint.
 ghost use Rattle.std.specs.Prelude.{◌≡◌, None};
 
 use crate::session::Session;

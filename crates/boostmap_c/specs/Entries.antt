@@ -28,7 +28,7 @@ abbrev pub busy_of : CEntry → Option Op → Option Entry
 busy_of e None = None
 busy_of e (Some op) = Some (Busy e.caller op e.number)
 
--- The entry, if there is a kind of its number.
+-- The entry, if there is a kind of its number and, for Asked and Busy, an operation.
 abbrev pub entry_of : CEntry → Option Entry
 entry_of e =
     if nat_eq e.kind 1 then Some (Began e.caller e.number)

@@ -31,7 +31,7 @@ Saves a (Ok level) b = (a.is_open ≡ true) × (b.is_open ≡ true) × (level �
 Saves a (Err stop) b = (stop ≡ Refused (if a.is_open then NoMemory else NotOpen))
     × (b.is_open ≡ a.is_open) × IsStep a [] b
 
--- The changes above the level are taken back; or there is no such level.
+-- The changes above the level are taken back; or there is no such level, or no transaction.
 abbrev pub Returns : ℕ → Caller → Result Unit Stop → Caller → Type 0
 Returns level a (Ok nothing) b = (a.is_open ≡ true) × (b.is_open ≡ true) × (level ≤ levels a)
     × IsStep a (Leave (number a) (Some level)

@@ -12,7 +12,7 @@ use Rattle.boostmap_c.specs.Contents.{LaysOf}
 use Rattle.boostmap_c.specs.Replies.{empty}
 use Rattle.boostmap_c.specs.Stops.{status_of_stop, word_of_stop}
 
--- The caller is in a transaction, which is unchanged, and has added no entry.
+-- The caller is in a transaction, before and after, and has added no entry.
 abbrev pub Looks : Caller → Caller → Type 0
 Looks a b = (a.is_open ≡ true) × (b.is_open ≡ true) × IsStep a [] b
 

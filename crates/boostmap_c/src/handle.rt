@@ -1,6 +1,6 @@
 //! The handle that C keeps, and the ways of a map out of it and back. No export sees the pointer:
-//! the tag says whether there is a map, so a call on an empty handle is refused and touches
-//! nothing.
+//! the tag says whether there is a map, so a call on an empty handle, except `boostmap_new`,
+//! answers 3 and touches nothing.
 ghost use Rattle.std.specs.Prelude.{◌≡◌, Some, None, IfSome, IsNone, true, false, is_some};
 ghost use Rattle.boostmap_c.specs.Held.{takes_stripes};
 

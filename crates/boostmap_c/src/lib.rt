@@ -36,8 +36,9 @@
 //! The word of a call that is done is a value; a transaction, level, commit or caller number; or a
 //! number of keys, pairs or entries. Some calls have none.
 //!
-//! After a refusal of `boostmap_striped_count` or `boostmap_striped_read` the transaction may hold
-//! more stripes than before. A `boostmap_help` that is refused may have initialised buckets.
+//! On a striped map the transaction may hold more stripes than before after a refusal with
+//! `NoMemory`, and holds every stripe after a 7. A `boostmap_help` that is refused may have
+//! initialised buckets.
 //!
 //! No export has a `requires`: a caller's number, a level or a limit that is out of range, a call
 //! out of order, and an empty handle each have a status. The rest of what C must do is in the

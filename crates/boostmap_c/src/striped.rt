@@ -152,8 +152,8 @@ pub extern "C" fn boostmap_striped_join(
 ///
 /// # Cost
 ///
-/// That of an abort; for the last caller, time in proportion to the stripes and the keys. Takes no
-/// memory.
+/// That of an abort, and a step for each caller that waits; for the last caller, time in proportion
+/// to the stripes and the keys. Takes no memory.
 #[unsafe(no_mangle)]
 pub extern "C" fn boostmap_striped_free(alloc: Global, caller: &mut CallerHandle) -> u32
     ensures { Leaves caller.old.held.member result caller.new.held.member }

@@ -58,7 +58,8 @@ pub extern "C" fn boostmap_striped_get(caller: &mut CallerHandle, key: u64, word
 ///
 /// 3 if the handle has no caller; 2 if another caller held the key's stripe: then the transaction
 /// is aborted, with all its changes taken back, and the word is the holder. A refusal leaves the
-/// transaction unchanged: 19 (`NotOpen`), 30 (`NoMemory`).
+/// transaction unchanged: 19 (`NotOpen`), 30 (`NoMemory`), after which it may hold the key's
+/// stripe.
 ///
 /// # Cost
 ///
@@ -87,7 +88,8 @@ pub extern "C" fn boostmap_striped_put(
 ///
 /// 3 if the handle has no caller; 2 if another caller held the key's stripe: then the transaction
 /// is aborted, with all its changes taken back, and the word is the holder. A refusal leaves the
-/// transaction unchanged: 19 (`NotOpen`), 30 (`NoMemory`).
+/// transaction unchanged: 19 (`NotOpen`), 30 (`NoMemory`), after which it may hold the key's
+/// stripe.
 ///
 /// # Cost
 ///
@@ -112,7 +114,8 @@ pub extern "C" fn boostmap_striped_take(caller: &mut CallerHandle, key: u64, wor
 ///
 /// 3 if the handle has no caller; 2 if another caller held the key's stripe: then the transaction
 /// is aborted, with all its changes taken back, and the word is the holder. A refusal leaves the
-/// transaction unchanged: 19 (`NotOpen`), 30 (`NoMemory`).
+/// transaction unchanged: 19 (`NotOpen`), 30 (`NoMemory`), after which it may hold the key's
+/// stripe.
 ///
 /// # Cost
 ///
@@ -142,7 +145,8 @@ pub extern "C" fn boostmap_striped_put_if_absent(
 ///
 /// 3 if the handle has no caller; 2 if another caller held the key's stripe: then the transaction
 /// is aborted, with all its changes taken back, and the word is the holder. A refusal leaves the
-/// transaction unchanged: 19 (`NotOpen`), 30 (`NoMemory`).
+/// transaction unchanged: 19 (`NotOpen`), 30 (`NoMemory`), after which it may hold the key's
+/// stripe.
 ///
 /// # Cost
 ///

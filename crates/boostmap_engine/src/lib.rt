@@ -14,9 +14,9 @@
 //! Proved: the output is exactly the report of a run of the steps that the bytes are
 //! (`specs/Report.antt`), the line of the verdict on the history that they are
 //! (`specs/Judgement.antt`), or a legal history in which the workers' committed transactions play
-//! the scripts that the bytes are (`specs/Mixture.antt`). If the file is refused, a read fails, or
-//! memory is refused outside a step, nothing is written; after a failed write, a proper beginning
-//! of the text is written (`specs/Written.antt`).
+//! the scripts that the bytes are (`specs/Mixture.antt`). At the faults `Input`, `Read` and
+//! `NoMemory` nothing is written; at `Write`, a proper beginning of the text is written
+//! (`specs/Written.antt`).
 //!
 //! No read and no write is repeated. The file and its content are in memory at the same time; then
 //! the file is dropped. A report is made as a whole before its first byte is written. A history is

@@ -98,7 +98,8 @@ fn text_of_run(alloc: Global, limits: Limits, steps: Vec<PackedStep>) -> Result<
 ///
 /// # Errors
 ///
-/// `Input` if the bytes are no step file; `NoMemory` if memory is refused outside a step.
+/// `Input` if the bytes are no step file; `NoMemory` if memory is refused outside a step, but not
+/// if it is only for the room in the history that is made beforehand.
 ///
 /// # Cost
 ///

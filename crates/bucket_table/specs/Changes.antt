@@ -20,7 +20,7 @@ use Rattle.bucket_table.specs.Links.{LinksAt}
 
 -- The helper has a cursor for the bucket's dummy, sought from the dummy of the bucket's parent: the
 -- marked nodes between there and the position are unlinked, and no others. The change number grows
--- by one for each.
+-- by one for each, up to 2^64 - 1.
 pub record Seeks (old new : Directory) (before after : Listing) (helper bucket : ℕ) : Type 0 where
   pub cursor : Cursor
   pub now : new ≡ with_helper old helper (Seeking bucket cursor)

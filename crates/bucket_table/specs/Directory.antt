@@ -40,7 +40,7 @@ beginning limit helpers head = record {
 abbrev pub with_helper : Directory → ℕ → Helper → Directory
 with_helper d helper now = record d { helpers = slice_set d.helpers helper now }
 
--- The buckets with one more stored, its dummy at this place.
+-- The buckets with this one stored, its dummy at this place.
 abbrev pub with_dummy : Directory → ℕ → ℕ → Directory
 with_dummy d bucket place = record d { entries = slice_set d.entries bucket (Some place) }
 
@@ -48,7 +48,7 @@ with_dummy d bucket place = record d { entries = slice_set d.entries bucket (Som
 abbrev pub with_size : Directory → ℕ → Directory
 with_size d size = record d { size = size }
 
--- The bucket is in the table and its parent is stored, so it may be stored too.
+-- The bucket is in the table, is not bucket 0, and its parent is stored, so it may be stored too.
 pub record IsReady (d : Directory) (bucket : ℕ) : Type 0 where
   pub within : bucket < d.size
   pub above : 0 < bucket

@@ -20,7 +20,7 @@ pub record LinksAt (before after : Listing) (pred bucket place : ℕ) : Type 0 w
       → has_dummy after.nodes other ≡ ((bucket == other) || has_dummy before.nodes other)
 
 -- The reason why no dummy is linked: the stamps are used up exactly if the last one given is
--- 2^64 - 2; else memory was refused.
+-- 2^64 - 2; else memory was refused, or the list has no place left. Nothing has changed.
 abbrev pub IsUnlinked : Listing → Listing → InitRefusal → Type 0
 IsUnlinked before after StampsUsedUp = (after ≡ before) × (before.last ≡ 2 ^ 64 - 2)
 IsUnlinked before after NoMemory = (after ≡ before) × (before.last ≢ 2 ^ 64 - 2)

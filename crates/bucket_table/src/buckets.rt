@@ -25,7 +25,8 @@ use std::marker::Model;
 
 /// The buckets of a table: its size, the dummies of the stored buckets, and its helpers.
 ///
-/// A contract sees them as a `Directory`. They belong to one list, which each call is lent.
+/// A contract sees them as a `Directory`. They belong to one list, which is lent to each call that
+/// needs it.
 #[derive(Drop)]
 pub struct Buckets {
     size: u32,
@@ -80,7 +81,8 @@ impl Buckets {
     ///
     /// # Cost
     ///
-    /// That of `new`, and 4 bytes of memory for each of these buckets, up to `max` of them.
+    /// That of `new`, and 4 bytes of memory for each of these buckets, up to `max` of them, in
+    /// whole segments.
     pub fn with_capacity(
         alloc: Global,
         max: u32,
@@ -273,8 +275,8 @@ impl Buckets {
     /// # Errors
     ///
     /// In this order: `NoSuchHelper`; `HelperOutOfOrder` if the helper has no cursor; and, if a
-    /// dummy is to be linked, `StampsUsedUp`, then `NoMemory` if memory is refused. The helper then
-    /// keeps its cursor, and the buckets and the list are unchanged.
+    /// dummy is to be linked, `StampsUsedUp`, then `NoMemory` if memory is refused or the list has
+    /// no place left. The helper then keeps its cursor, and the buckets and the list are unchanged.
     ///
     /// # Cost
     ///

@@ -1,6 +1,6 @@
 //! Helpers: the callers that initialise buckets. Between two steps a helper is idle, has a cursor
-//! for a dummy, or has a dummy that is not stored yet. `buckets.rt` reads this state only by the
-//! two methods here, so a step out of order is refused in one place.
+//! for a dummy, or has a dummy that it has not stored yet. `buckets.rt` reads this state only by
+//! the two methods here, so a step out of order is refused in one place.
 ghost use Rattle.std.specs.Prelude.{◌≡◌};
 
 use crate::answer::InitRefusal;

@@ -56,7 +56,8 @@ abbrev pub is_save : Step → Bool
 is_save (Save c) = true
 is_save step = false
 
--- There is room for the entry that a step may add, and for all that is owed after it.
+-- There is room for the entry and the savepoint that a step may add, and for all that is owed after
+-- it.
 pub record HasRoomFor (seen : Noted) (step : Step) : Type 0 where
   pub all : owed_by (seat_after seen.entries) + reserved step ≤ seen.room
   pub one : adds_entry step ≡ true → 0 < seen.room

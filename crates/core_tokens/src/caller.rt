@@ -136,8 +136,8 @@ impl<L: Ledger, S: Side> Caller<L, S> {
     ///
     /// # Cost
     ///
-    /// One allocation, and a copy of the entries if there are any; if the room is written, time in
-    /// proportion to it.
+    /// At most one allocation, with a copy of the entries if there are any; if the room is written,
+    /// time in proportion to it.
     pub fn reserve(&mut self, entries: usize, is_written: bool) -> Result<(), AllocError>
         ensures { self.new ≡ self.old }
     {
@@ -169,12 +169,12 @@ impl<L: Ledger, S: Side> Caller<L, S> {
     /// The core takes the steps of the turn and no other, and `seen` gains their entries and no
     /// other. An operation is asked for by its stripe's right, or by the word that was tried last,
     /// so call `make_ready` or `try_word` once before its first turn. Side value and rights are
-    /// unchanged: `follow` rolls the value back and returns the rights when the drive has ended.
+    /// unchanged: `follow` changes them as the end of the call requires.
     ///
     /// # Errors
     ///
     /// The end is `Refused` with
-    /// - `OutOfStep` if the token is broken: nothing is done;
+    /// - `OutOfStep` if the token is broken: no step is taken;
     /// - `OutOfStep` if the core does not have as many stripes as the map has words: no step is
     ///   taken, and the token breaks;
     /// - `NoMemory` if memory is refused for room in `seen`: no step is taken;

@@ -2,7 +2,7 @@
 //! help. Each clause is about one hold, so it also serves those who call `hold` themselves. From
 //! one hold to the next the clauses carry a key's bucket, which the contract of `Caller::hold`
 //! cannot do. They assume `Held`, which that contract ensures, and for the last hold that the core
-//! is `IsWhole`.
+//! is `IsWhole` and, unless it is also the first, that core and token are in step.
 ghost use Rattle.std.specs.Prelude.{◌≡◌, ◌%◌, ℕ, true, Some, None};
 ghost use Rattle.txn_drive.specs.declared.drive.Drive.{Drive};
 ghost use Rattle.txn_drive.specs.declared.«end».End.TheVariants.{Helped};

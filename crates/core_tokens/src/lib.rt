@@ -11,9 +11,9 @@
 //! - Unless its token has the right to the stripe of its key, an operation first tries the stripe's
 //!   *word*, an atomic word beside the core that says who holds the stripe. If the word was free,
 //!   the token has the right from then on, and asks the core by this right. If not, it asks by the
-//!   word, and the operation is busy with the caller that the word names. A token keeps its
-//!   rights until its transaction has committed or aborted, and `follow` gives all of them back. So
-//!   a Busy entry may name a caller whose transaction has just ended.
+//!   word, and unless it is refused, the operation is busy with the caller that the word names. A
+//!   token keeps its rights until its transaction has committed or aborted, and `follow` gives all
+//!   of them back. So a Busy entry may name a caller whose transaction has just ended.
 //! - Between two holds a token knows of the core only its own entries, and the seat that they give
 //!   it. If the core's answer is impossible by these, the call ends with `OutOfStep`, and so does
 //!   every later call of the token.
@@ -21,7 +21,8 @@
 //!   token a share. So the history of the core that `Booked::into_core` takes out has as many
 //!   entries as the tokens saw. The ledger is `std`'s `sync::ledger`. Its name `L` is the first
 //!   parameter of `Booked`, `Pass` and `Caller`, and is picked as `sync::ledger` says.
-//! - `laws::helped` is about the holds of a call for help: they initialise its key's bucket.
+//! - `laws::helped` is about the holds of a call for help: if it ends well, its key's bucket is
+//!   initialised.
 //!
 //! It stands alone since nothing here waits: the crates above say how callers take turns at the
 //! core. Calls take constant time and no memory unless they say otherwise.

@@ -124,7 +124,8 @@ impl<L: Ledger> Seen<L> {
         make_room(&mut self.entries, entries, is_written)
     }
 
-    /// Makes room for the entry that a step may add, and for all that is owed after it.
+    /// Makes room for the entry and the savepoint that a step may add, and for all that is owed
+    /// after it.
     ///
     /// # Errors
     ///

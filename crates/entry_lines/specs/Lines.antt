@@ -22,7 +22,7 @@ history_from number (line ∷ lines) = elim (entry_on line) [
       let rest = history_from (number + 1) lines in (entry ∷ rest.0, rest.1)
 ]
 
--- The entries that bytes are, one for each line, up to the first line that is refused; and that
--- line's number, counted from 1, with its fault.
+-- The entries that bytes are, one for each line that is not blank, up to the first line that is
+-- refused; and that line's number, counted from 1, with its fault.
 abbrev pub history_of_lines : List ℕ → List Entry × Option (ℕ × FileFault)
 history_of_lines bytes = history_from 1 (lines_of bytes)

@@ -5,8 +5,8 @@
 //!
 //! The model is two functions of bytes (`specs/`): `entry_on` is the entry that a line is, none if
 //! the line is blank, or its first fault; `history_of_lines` is the entries of all lines up to the
-//! first that is refused, and the number of that line. `txn_files` defines which array is which
-//! entry, for the newest version of history files, and `piece_files` defines JSON.
+//! first that is refused, and the number of that line with its fault. `txn_files` defines which
+//! array is which entry, for the newest version of history files, and `piece_files` defines JSON.
 //!
 //! Promised: `entry_on` computes the definition of its name, or says that memory was refused;
 //! `history_lines` writes a history as `text_of_lines` says. Both take time in proportion to the

@@ -155,8 +155,8 @@ fn entry_in_text(text: &str, scratch: &mut Scratch<Global>) -> Result<Option<Ent
 /// - `Member` if it is no entry.
 /// - `Limit` if a caller, or the holder that the entry names, is above 63.
 ///
-/// `NoMemory` if memory is refused, in place of any answer but the `Limit` of a line that is too
-/// long.
+/// `NoMemory` if memory is refused. It can replace any other answer, except for a line that is too
+/// long, blank or not UTF-8.
 ///
 /// # Cost
 ///

@@ -85,7 +85,7 @@ fn put_line(text: &mut String, entry: Entry) -> Result<(), AllocError>
 }
 
 /// A history as lines, one for each entry, such as `["began",0,1]`, each with its line feed.
-/// Reading them restores the history if the callers are below 64.
+/// Reading them restores the history if the callers and holders are below 64.
 ///
 /// # Errors
 ///

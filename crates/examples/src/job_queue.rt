@@ -1,6 +1,6 @@
 //! A queue of jobs in one map, from which four threads take jobs. A key is a job, and its value is
-//! the job's state. Each job is done once, and a caller that stops in the middle of a transaction
-//! leaves nothing behind.
+//! the job's state; only `DONE` is the key of a count. Each job is done once, and a caller that
+//! stops in the middle of a transaction leaves nothing behind.
 ghost use Rattle.shared_transactions.specs.Keeps.{Keeps};
 
 use boost_core::Core;

@@ -105,7 +105,8 @@ fn begins(entry: Entry) -> bool
     matches!(entry, Entry::Began(..))
 }
 
-/// Notes a change that an entry makes in this phase, or drops those that it takes back.
+/// Notes a change that an entry makes in this phase. An Undone drops the newest change; a Began, a
+/// Committed and an Aborted drop all.
 #[inline(always)]
 fn note(changes: &mut Vec<(u64, Reply)>, phase: Phase, entry: Entry)
     requires { is_did entry ≡ true → vec_len changes.old < vec_capacity changes.old }

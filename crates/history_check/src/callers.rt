@@ -1,6 +1,6 @@
 //! The callers of a history: the judge of the rule of shape, which both judges of replies use. It
-//! keeps each caller's seat and how many transactions began and committed; an entry takes constant
-//! time.
+//! keeps each caller's seat and changes, and how many transactions began and committed; an entry
+//! takes amortized constant time.
 ghost use Rattle.std.specs.Prelude.{◌≡◌, ℕ, ◌+◌, ◌<◌, ◌==◌, ◌++◌, [], ◌∷◌, List, length, true, slice_get, IfOk, OnOk, vec_len};
 ghost use Rattle.txn_words.specs.Kinds.{caller_of, is_began, is_commit};
 ghost use Rattle.txn_words.specs.Shape.{how_many, is_numbered, is_shaped};
@@ -160,11 +160,11 @@ impl Callers {
         self.table[caller as usize].reserve(entry)
     }
 
-    /// Enters an entry, for which there is room.
+    /// Enters an entry of the right shape, for which there is room.
     ///
     /// # Cost
     ///
-    /// Constant time; takes no memory.
+    /// Amortized constant time, since it may drop changes and savepoints; takes no memory.
     #[inline(always)]
     pub fn enter(&mut self, entry: Entry)
         requires caller { caller_of entry < 64 }

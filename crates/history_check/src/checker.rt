@@ -65,10 +65,10 @@ impl Checker {
     ///
     /// # Cost
     ///
-    /// Time in proportion to the logarithm of the number of keys; for a Committed or an Aborted
-    /// also to the stripes that it gives back and the changes that stood. Takes memory only for a
-    /// change, for one that is taken back and for a savepoint. After the first bad entry constant
-    /// time, and no memory.
+    /// Amortized time in proportion to the logarithm of the number of keys; for a Committed or an
+    /// Aborted also to the stripes that it gives back and the changes that stood. Takes memory only
+    /// for a Did, also of no change, for an Undone and for a Saved. After the first bad entry
+    /// constant time, and no memory.
     #[inline(always)]
     pub fn feed(&mut self, entry: &Entry) -> Result<(), AllocError>
         requires { caller_of entry.now < 64 }

@@ -47,7 +47,7 @@ impl LiveMap {
         })
     }
 
-    /// Whether a reply is that of the map as it is now.
+    /// Whether an entry is no reply, or the one that the map as it is now gives.
     #[inline(always)]
     pub(crate) fn is_answered(&self, callers: &Callers, entry: &Entry) -> bool
         requires { caller_of entry.now < 64 }

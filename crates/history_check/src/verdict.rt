@@ -11,7 +11,8 @@ use std::fmt;
 #[derive(Clone, Copy, Debug, PartialEq, Eq)]
 pub enum Rule {
     /// Each open transaction has the replies of running alone on the map of the committed ones, for
-    /// operations that it has taken back too.
+    /// operations that it has taken back too. By the order of commits only a transaction that
+    /// commits must have them.
     Replies = 1,
     /// A stripe of keys belongs to one open transaction at a time: an Asked finds no other holder,
     /// and a Busy names another caller that holds the stripe, or that has begun a transaction.

@@ -1,6 +1,6 @@
 //! The reasons why `check`, `watch` and `why` give no verdict, each with its message and exit
 //! status. `tell_outcomes` has a separate type, since it must say which of its files is at fault.
-//! Refused memory is always `NoMemory`; no conversion reports it as a refused file.
+//! The conversions turn refused memory into `NoMemory`, and never into a refused file.
 ghost use Rattle.std.specs.Prelude.{◌≡◌};
 ghost use Rattle.judge_engine.specs.Faults.{status_of, message_of, of_file};
 ghost use Rattle.judge_engine.specs.declared.fault.Fault.TheVariants as faults;

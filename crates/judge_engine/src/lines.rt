@@ -229,7 +229,7 @@ fn put_shape(
     }
 }
 
-/// Adds what a Busy must name.
+/// Adds why a Busy may not name the caller that it names; nothing for an entry of another kind.
 fn put_named(text: &mut String, entry: Entry, holder: Holder) -> Result<(), AllocError> {
     let Entry::Busy(caller, _, named) = entry else {
         return Ok(());

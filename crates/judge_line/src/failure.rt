@@ -37,7 +37,8 @@ Example: judge check examples/checked.json";
 pub enum Failure {
     /// The words are no call of the program.
     Usage,
-    /// There is no verdict, for a fault of the input, of memory or of an output.
+    /// There is no verdict, for a fault of the input, of memory or of an output. Or memory was
+    /// refused before an engine was called, or the usage or the version was not written.
     Fault(Fault),
     /// There are no outcomes, for a fault of one of the files, of memory or of an output.
     Outcomes(OutcomesFault),

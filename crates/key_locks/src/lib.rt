@@ -23,7 +23,7 @@
 //! constant time and no memory unless they say otherwise.
 //!
 //! `StripeRight` is for stripes that callers do not take from a `KeyLocks`. It is the right to a
-//! stripe, as a value; there is exactly one for each stripe.
+//! stripe, as a value; `StripeRight::all` makes one for each stripe.
 //!
 //! Proved: a stripe has at most one holder; a lock is granted exactly if no other caller holds the
 //! stripe, and otherwise names that holder; each call says of every stripe who holds it afterwards.

@@ -19,7 +19,7 @@ Gains r stripe q = (known q.seat ≡ gained (known r.seat) stripe)
 
 -- A take by a caller that keeps its rights. Mine: the stripe's right is at this position; if the
 -- seat held the stripe before, nothing was done, and if not, it was free and is the seat's now.
--- Another: the seat did not hold the stripe, another seat does, the word is noted, and the rights
+-- Another: the seat did not hold the stripe, another seat did, the word is noted, and the rights
 -- are unchanged.
 abbrev pub Tries : Rights → ℕ → Tried → Rights → Type 0
 Tries r stripe (Mine place) q = (slice_get q.rights.items place ≡ Some stripe)

@@ -26,7 +26,7 @@ WasTaken views stripe word =
     × Contains v.notes (stripe, 0)
 
 -- Each stripe is held by one seat, the one that its word names, or its right is at home; and each
--- note was true.
+-- note of a word other than 0 names a seat that has taken the stripe.
 pub record IsOrderly (s : State (Option ℕ) View) : Type 0 where
   pub wide : length s.homes ≡ length s.words
   -- No two views have the same number, and each number is below the count of the view of seat 0.

@@ -4,7 +4,7 @@
 //! A thread acts by a seat (`KeySeat`), which has a number. A stripe's word is 0 if the stripe is
 //! free, and `n + 1` if seat `n` holds it. Each stripe has one right, which lies in the stripe's
 //! slot while no seat holds the stripe. A take is one compare-exchange of the word from 0: it
-//! answers the right, or the word that it saw, which tells who holds the stripe. A give lays the
+//! answers the right, or the word that it saw, which tells who held the stripe. A give lays the
 //! right back and stores 0.
 //!
 //! Proved, by a rule that holds between any two atomic steps of any threads: a stripe is held by at

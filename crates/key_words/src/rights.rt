@@ -61,8 +61,8 @@ impl Rights {
     ///
     /// # Cost
     ///
-    /// Time in proportion to the rights, and one try of one word; takes memory only if there is
-    /// no room for a right.
+    /// Time in proportion to the rights, and at most one try of one word; takes memory only if
+    /// there is no room for a right.
     pub fn take(&mut self, words: &KeyWords, stripe: usize) -> Result<Tried, AllocError>
         requires seat { IsOf self.old.seat words.now }
         requires stripe { stripe < stripes_of words.now }

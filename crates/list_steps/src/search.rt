@@ -17,7 +17,7 @@ use split_key::SortKey;
 /// search of Harris, DISC 2001).
 ///
 /// The cursor fits the list as the seek leaves it. The change number grows by the number of nodes
-/// unlinked. The content and the spares that are out are unchanged.
+/// unlinked, up to 2^64 - 1. The content and the spares that are out are unchanged.
 ///
 /// # Cost
 ///

@@ -2,11 +2,11 @@
 //!
 //! Each but `side` takes the turns of its call, each turn under one hold of the lock, and adds to
 //! the token's `seen` exactly the entries that its contract states. Before such a call takes the
-//! lock, the token tests the call: `refused_by` is the refusal that the token's entries determine,
-//! in the order that each call lists. A call that the token refuses leaves the token unchanged. If
-//! the core's answer is impossible by the token's state, the call ends with `OutOfStep`: the token
-//! is broken, `seen` keeps the entries that the call had added, and `close` compares them with the
-//! history. Each of these calls has the clauses
+//! lock, the token tests the call: `refused_by` is the token's refusal, in the order that each call
+//! lists. A call that the token refuses leaves the token unchanged. If the core's answer is
+//! impossible by the token's state, the call ends with `OutOfStep`: the token is broken, what the
+//! call has done stays, `seen` keeps the entries that it had added, and `close` compares them with
+//! the history. Each of these calls has the clauses
 //! - `ok`: the entries that it has added, if it did what it was asked to do (`save` also has the
 //!   clause `level`, about its answer);
 //! - `side`: its effect on the side value in that case;
@@ -48,7 +48,8 @@ impl<L: Ledger> SharedMap<L> {
     /// `Refused`, and the transaction, if there is one, is unchanged:
     /// - `OutOfStep` if the token is broken.
     /// - `Leaving` if the caller takes changes back, `AlreadyOpen` if it has a transaction.
-    /// - Then `NoMemory` if memory is refused, and `OutOfStep`, which breaks the token.
+    /// - Then `NoMemory` if memory is refused, and `OutOfStep`, which breaks the token and keeps
+    ///   what the call did.
     ///
     /// # Cost
     ///
@@ -71,14 +72,14 @@ impl<L: Ledger> SharedMap<L> {
     ///
     /// # Errors
     ///
-    /// - `Refused`, and the transaction is unchanged:
+    /// - `Refused`, and the transaction is unchanged, but may hold the key's stripe:
     ///   - `OutOfStep` if the token is broken.
     ///   - `NotOpen`, `Leaving`, `OperationUnfinished` and `BadKey` (a key of 2^63 or more, if the
     ///     limits have half keys), the first that applies.
     ///   - Then `NoMemory` if memory is refused for one more right (then no word was tried) or for
     ///     the operation; `StampsUsedUp` if no stamp is left; `StaleWord` if by the core's record
-    ///     the word of the key's stripe does not say who holds it; and `OutOfStep`, which breaks
-    ///     the token.
+    ///     the word of the key's stripe names no caller that may hold it; and `OutOfStep`, which
+    ///     breaks the token and keeps what the call did.
     /// - `Busy` if the word of the key's stripe names another caller: the transaction is aborted,
     ///   with all its changes taken back and all its rights given back, and the side value has the
     ///   words that it had when the transaction began.
@@ -87,8 +88,9 @@ impl<L: Ledger> SharedMap<L> {
     ///
     /// One try of the word, outside the lock, unless the token has its right, and time in
     /// proportion to the rights that it has; three holds of the lock, one of which seeks the
-    /// position of the key, and at most two more for each time that the position no longer fits,
-    /// and for each change that is taken back if the key is busy; may take memory.
+    /// position of the key, and at most two more for each time that the position no longer fits; if
+    /// the key is busy, two more for each change that is taken back, and a run of each side job;
+    /// may take memory.
     pub fn put<S: Side, R: Wait>(
         &self,
         rt: &R,
@@ -111,14 +113,14 @@ impl<L: Ledger> SharedMap<L> {
     ///
     /// # Errors
     ///
-    /// - `Refused`, and the transaction is unchanged:
+    /// - `Refused`, and the transaction is unchanged, but may hold the key's stripe:
     ///   - `OutOfStep` if the token is broken.
     ///   - `NotOpen`, `Leaving`, `OperationUnfinished` and `BadKey` (a key of 2^63 or more, if the
     ///     limits have half keys), the first that applies.
     ///   - Then `NoMemory` if memory is refused for one more right (then no word was tried) or for
     ///     the operation; `StampsUsedUp` if no stamp is left; `StaleWord` if by the core's record
-    ///     the word of the key's stripe does not say who holds it; and `OutOfStep`, which breaks
-    ///     the token.
+    ///     the word of the key's stripe names no caller that may hold it; and `OutOfStep`, which
+    ///     breaks the token and keeps what the call did.
     /// - `Busy` if the word of the key's stripe names another caller: the transaction is aborted,
     ///   with all its changes taken back and all its rights given back, and the side value has the
     ///   words that it had when the transaction began.
@@ -127,8 +129,9 @@ impl<L: Ledger> SharedMap<L> {
     ///
     /// One try of the word, outside the lock, unless the token has its right, and time in
     /// proportion to the rights that it has; three holds of the lock, one of which seeks the
-    /// position of the key, and at most two more for each time that the position no longer fits,
-    /// and for each change that is taken back if the key is busy; may take memory.
+    /// position of the key, and at most two more for each time that the position no longer fits; if
+    /// the key is busy, two more for each change that is taken back, and a run of each side job;
+    /// may take memory.
     pub fn take<S: Side, R: Wait>(
         &self,
         rt: &R,
@@ -149,14 +152,14 @@ impl<L: Ledger> SharedMap<L> {
     ///
     /// # Errors
     ///
-    /// - `Refused`, and the transaction is unchanged:
+    /// - `Refused`, and the transaction is unchanged, but may hold the key's stripe:
     ///   - `OutOfStep` if the token is broken.
     ///   - `NotOpen`, `Leaving`, `OperationUnfinished` and `BadKey` (a key of 2^63 or more, if the
     ///     limits have half keys), the first that applies.
     ///   - Then `NoMemory` if memory is refused for one more right (then no word was tried) or for
     ///     the operation; `StampsUsedUp` if no stamp is left; `StaleWord` if by the core's record
-    ///     the word of the key's stripe does not say who holds it; and `OutOfStep`, which breaks
-    ///     the token.
+    ///     the word of the key's stripe names no caller that may hold it; and `OutOfStep`, which
+    ///     breaks the token and keeps what the call did.
     /// - `Busy` if the word of the key's stripe names another caller: the transaction is aborted,
     ///   with all its changes taken back and all its rights given back, and the side value has the
     ///   words that it had when the transaction began.
@@ -165,8 +168,9 @@ impl<L: Ledger> SharedMap<L> {
     ///
     /// One try of the word, outside the lock, unless the token has its right, and time in
     /// proportion to the rights that it has; three holds of the lock, one of which seeks the
-    /// position of the key, and at most two more for each time that the position no longer fits,
-    /// and for each change that is taken back if the key is busy; may take memory.
+    /// position of the key, and at most two more for each time that the position no longer fits; if
+    /// the key is busy, two more for each change that is taken back, and a run of each side job;
+    /// may take memory.
     pub fn put_if<S: Side, R: Wait>(
         &self,
         rt: &R,
@@ -191,13 +195,14 @@ impl<L: Ledger> SharedMap<L> {
     ///
     /// # Errors
     ///
-    /// - `Refused`, and the transaction is unchanged:
+    /// - `Refused`, and the transaction is unchanged, but may hold the key's stripe:
     ///   - `OutOfStep` if the token is broken.
     ///   - `NotOpen`, `Leaving`, `OperationUnfinished` and `BadKey` (a key of 2^63 or more, if the
     ///     limits have half keys), the first that applies.
     ///   - Then `NoMemory` if memory is refused for one more right (then no word was tried) or for
-    ///     the operation; `StaleWord` if by the core's record the word of the key's stripe does not
-    ///     say who holds it; and `OutOfStep`, which breaks the token.
+    ///     the operation; `StaleWord` if by the core's record the word of the key's stripe names no
+    ///     caller that may hold it; and `OutOfStep`, which breaks the token and keeps what the
+    ///     call did.
     /// - `Busy` if the word of the key's stripe names another caller: the transaction is aborted,
     ///   with all its changes taken back and all its rights given back, and the side value has the
     ///   words that it had when the transaction began.
@@ -206,8 +211,9 @@ impl<L: Ledger> SharedMap<L> {
     ///
     /// One try of the word, outside the lock, unless the token has its right, and time in
     /// proportion to the rights that it has; three holds of the lock, one of which seeks the
-    /// position of the key, and at most two more for each time that the position no longer fits,
-    /// and for each change that is taken back if the key is busy; may take memory.
+    /// position of the key, and at most two more for each time that the position no longer fits; if
+    /// the key is busy, two more for each change that is taken back, and a run of each side job;
+    /// may take memory.
     pub fn get<S: Side, R: Wait>(
         &self,
         rt: &R,
@@ -231,7 +237,8 @@ impl<L: Ledger> SharedMap<L> {
     /// `Refused`, and the transaction is unchanged:
     /// - `OutOfStep` if the token is broken.
     /// - `NotOpen`, `Leaving` and `OperationUnfinished`, the first that applies.
-    /// - Then `NoMemory` if memory is refused, and `OutOfStep`, which breaks the token.
+    /// - Then `NoMemory` if memory is refused, and `OutOfStep`, which breaks the token and keeps
+    ///   what the call did.
     ///
     /// # Cost
     ///
@@ -259,8 +266,8 @@ impl<L: Ledger> SharedMap<L> {
     /// - `OutOfStep` if the token is broken.
     /// - `NotOpen`, `Leaving`, `OperationUnfinished` and `NoSuchLevel`, the first that applies.
     /// - Then `NoMemory` if memory is refused, before anything is taken back, and `OutOfStep`,
-    ///   which breaks the token. `OutOfStep` is also the answer if the side value has no such
-    ///   level, because a save was made by `hold`.
+    ///   which breaks the token and keeps what the call did. `OutOfStep` is also the answer if the
+    ///   side value has no such level, because a save was made by `hold`.
     ///
     /// # Cost
     ///
@@ -294,7 +301,7 @@ impl<L: Ledger> SharedMap<L> {
     /// `Refused`, and the transaction is unchanged:
     /// - `OutOfStep` if the token is broken.
     /// - `NotOpen`, `Leaving` and `OperationUnfinished`, the first that applies.
-    /// - Then `OutOfStep`, which breaks the token.
+    /// - Then `OutOfStep`, which breaks the token and keeps what the call did.
     ///
     /// # Cost
     ///
@@ -323,7 +330,7 @@ impl<L: Ledger> SharedMap<L> {
     /// `Refused`, and the transaction is unchanged:
     /// - `OutOfStep` if the token is broken.
     /// - `NotOpen` and `Leaving`, the first that applies.
-    /// - Then `OutOfStep`, which breaks the token.
+    /// - Then `OutOfStep`, which breaks the token and keeps what the call did.
     ///
     /// # Cost
     ///
@@ -354,7 +361,7 @@ impl<L: Ledger> SharedMap<L> {
     /// - `OutOfStep` if the token is broken.
     /// - `BadKey` for a key of 2^63 or more, if the limits have half keys.
     /// - Then `NoMemory` if memory is refused, `StampsUsedUp` if no stamp is left, and `OutOfStep`,
-    ///   which breaks the token.
+    ///   which breaks the token and keeps what the call did.
     ///
     /// # Cost
     ///

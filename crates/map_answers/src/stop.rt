@@ -14,13 +14,13 @@ use txn_words::Refusal;
 /// it, also as an `anyhow::Error`.
 #[derive(Clone, Copy, Debug, PartialEq, Eq)]
 pub enum Stop {
-    /// Another caller held the stripe of the key. This transaction cannot go on; each map says who
-    /// takes it back.
+    /// Another caller held the stripe of the key, or one of the stripes that the call takes. This
+    /// transaction cannot go on; each map says who takes it back.
     Busy {
         /// The caller that held it.
         holder: u64,
     },
-    /// The call was refused, and the transaction is unchanged.
+    /// The call was refused. Each map says how it leaves the transaction.
     Refused(Refusal),
 }
 

@@ -107,7 +107,7 @@ pub record Seeks (old new : TableAt) (helper bucket : ℕ) : Type 0 where
 
 -- The position of a bucket's dummy was sought from the dummy of the bucket's parent: the marked
 -- nodes between there and the position are unlinked, and no others. The change number grows by one
--- for each.
+-- for each, up to 2^64 - 1.
 pub record SeeksBucket (old new : TableAt) (bucket : ℕ) : Type 0 where
   pub start : ℕ
   pub parent : dummy_of old.buckets (parent_of bucket) ≡ Some start

@@ -47,7 +47,7 @@ pub record Prepares (old new : TableAt) (op : Op) (pending : PendingAt) : Type 0
   pub nodes : KeepsNodes old new
 
 -- The reason why an operation that takes a node is not prepared: the stamps are used up exactly if
--- the last one given is 2^64 - 2; else memory was refused.
+-- the last one given is 2^64 - 2; else memory was refused, or the list has no place left.
 abbrev pub IsRefused : TableAt → Op → Refusal → Type 0
 IsRefused t op refusals.StampsUsedUp = (takes_node op ≡ true) × (last_of t ≡ 2 ^ 64 - 2)
 IsRefused t op refusals.NoMemory = (takes_node op ≡ true) × (last_of t < 2 ^ 64 - 2)
@@ -63,7 +63,7 @@ pub record Places (old new : TableAt) (key : ℕ) (cursor : Cursor) : Type 0 whe
 
 -- A key was sought from the dummy of its bucket, or of the nearest initialised ancestor: the marked
 -- nodes between there and the key's position are unlinked, and no others. The change number grows
--- by one for each.
+-- by one for each, up to 2^64 - 1.
 pub record SeeksNear (old new : TableAt) (key : ℕ) : Type 0 where
   pub start : ℕ
   pub nearest : IsStart old key start
@@ -173,8 +173,8 @@ ShowsAfter job t = IsDue (content t) job × OwnsIf t (spare_of_job job)
 abbrev pub ShowsBefore : MapJob → TableAt → Type 0
 ShowsBefore job t = get (content t) (key_of_job job) ≡ value_before job
 
--- The changes by the run of a job: its change is taken back and nothing else, and nothing older is
--- disturbed.
+-- The changes by the run of a job: its key is sought, its change is taken back there, and nothing
+-- older is disturbed.
 pub record Runs (old new : TableAt) (job : MapJob) : Type 0 where
   pub back : TakesBack old new job
   pub writes : SeeksAndUndoes old new job

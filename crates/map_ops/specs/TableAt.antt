@@ -144,7 +144,7 @@ KeepsSpares old new = (place : ℕ) → spare_out new place ≡ spare_out old pl
 abbrev pub cursor_changes : Cursor → ℕ
 cursor_changes cursor = cursors.changes_of cursor
 
--- Whether the cursor fits: nothing has changed at its position.
+-- Whether the cursor fits: its two nodes are still neighbours, and unmarked.
 abbrev pub fits : TableAt → Cursor → Bool
 fits t cursor = cursors.fits t.list cursor
 
@@ -187,7 +187,7 @@ HasSoundList t = sound_lists.IsSound t.list
 abbrev pub NamesDummies : TableAt → Type 0
 NamesDummies t = IsHome t.buckets t.list
 
--- The sizes are powers of two, and each initialised bucket has an initialised parent.
+-- The sizes are powers of two, and no bucket is initialised before its parent.
 abbrev pub HasParents : TableAt → Type 0
 HasParents t = directories.IsSound t.buckets
 

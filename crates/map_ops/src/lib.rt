@@ -4,7 +4,8 @@
 //! A contract sees a `Table` as its list of nodes and its buckets, and derives from these the
 //! `content`, a finite map, and `regular`, the list of its pairs. For every value of the type: the
 //! sort keys of the linked nodes rise strictly, the list has the pairs of the content in their
-//! order, and each initialised bucket names its linked dummy and has an initialised parent.
+//! order, each initialised bucket names its linked dummy, and none is initialised before its
+//! parent.
 //!
 //! - `apply` does an operation, with the reply and the effect of that operation on the map, and
 //!   answers a `MapJob` exactly if it was a change.
@@ -17,9 +18,9 @@
 //!   unchanged.
 //! - `law::either_order` says that jobs of different keys may be taken back in either order, with
 //!   the same result.
-//! - `prepare`, `place` and `act`, or `place_job` and `undo`, do the same in steps. If something
-//!   has changed at the cursor's position in between, `act` or `undo` answers `Again`, and nothing
-//!   is lost.
+//! - `prepare`, `place` and `act`, or `place_job` and `undo`, do the same in steps. If the cursor's
+//!   two nodes are no longer neighbours, or one is marked, `act` or `undo` answers `Again`, and
+//!   nothing is lost.
 //! - All other calls leave the content and the list of pairs unchanged.
 //!
 //! A prepared operation owns the node that it may need, and a take passes it on to its job. So only

@@ -1,6 +1,6 @@
 //! The table: list and buckets in one value, and all calls on them. Invariant: the list is sound,
-//! and each stored bucket names its linked dummy and has a stored parent. The parts that touch only
-//! the list are in `change.rt`.
+//! each node is at its position, each stored bucket names its linked dummy, and none is stored
+//! before its parent. The parts that change only the list are in `change.rt`.
 ghost use Rattle.std.specs.Prelude.{◌≡◌, ◌≢◌, ℕ, ◌<◌, ◌≤◌, ◌-◌, ◌^◌, ◌↔◌, Ok, Err, Some, length, IfOk, IfErr, OnErr};
 ghost use Rattle.std.specs.List.{slice_get};
 ghost use Rattle.std.specs.BTreeMap.{get as value_at};
@@ -74,10 +74,10 @@ impl Table {
     }
 
     /// A table as `new` makes it, with memory for this many nodes taken at once, so that the list
-    /// need not grow while they are added. There is a node for each key, for each key that is taken
-    /// and not yet swept, and for each stored bucket. If `is_written`, that memory is written, and
-    /// the memory for the entries of as many buckets is taken too: none of these nodes and buckets
-    /// is then the first to touch a page.
+    /// need not grow before it has more. Each linked node counts, also a marked one and a dummy,
+    /// and so does each spare that is out. If `is_written`, that memory is written, so that no
+    /// later node is the first to touch a page of it, and the memory for the entries of as many
+    /// buckets is taken too.
     ///
     /// # Errors
     ///
@@ -110,7 +110,8 @@ impl Table {
     /// # Errors
     ///
     /// Unless the operation is a get: `StampsUsedUp` if no stamp is left, since the last one was
-    /// 2^64 - 2; else `NoMemory` if memory is refused. Each leaves the table unchanged.
+    /// 2^64 - 2; else `NoMemory` if memory is refused or the list has no place left. Each leaves
+    /// the table unchanged.
     ///
     /// # Cost
     ///
@@ -130,7 +131,7 @@ impl Table {
     /// ancestor (Shalev and Shavit 2006, section 3.2), and unlinks the marked nodes that it passes.
     /// The content and the list of pairs are unchanged.
     ///
-    /// The cursor fits until something changes at its position.
+    /// The cursor fits as long as its two nodes stay neighbours and unmarked.
     ///
     /// # Cost
     ///
@@ -311,8 +312,8 @@ impl Table {
     ///
     /// The contract also states the invariants of every table: the sort keys of the linked nodes
     /// rise strictly, no two nodes share a place or a stamp, the list has the pairs of the content
-    /// in their order, and each initialised bucket names its linked dummy and has an initialised
-    /// parent.
+    /// in their order, each initialised bucket names its linked dummy, and none is initialised
+    /// before its parent.
     pub fn size(&self) -> u32
         ensures size { result ≡ size_of self.now }
         ensures ordered { regular self.now ≡ ordered (content self.now) }
@@ -348,8 +349,8 @@ impl Table {
     ///
     /// # Cost
     ///
-    /// Time in proportion to the nodes from there to the first marked one; constant time if none is
-    /// marked.
+    /// Time in proportion to the nodes from there to the first marked one, and to the ancestors
+    /// passed; constant time if none is marked.
     pub fn sweep(&mut self) -> SweepOutcome
         ensures clean { (result ≡ SweepOutcome.Clean) ↔ IsClean self.old }
         ensures sweeps { Sweeps self.old self.new result }
@@ -401,8 +402,8 @@ impl Table {
     /// # Errors
     ///
     /// In this order: `NoSuchHelper`; `HelperOutOfOrder` if the helper has no cursor; and, if a
-    /// dummy is to be linked, `StampsUsedUp`, then `NoMemory` if memory is refused. Each leaves the
-    /// table unchanged.
+    /// dummy is to be linked, `StampsUsedUp`, then `NoMemory` if memory is refused or the list has
+    /// no place left. Each leaves the table unchanged.
     ///
     /// # Cost
     ///

@@ -22,7 +22,8 @@ abbrev pub IsStillThere : Listing → ℕ → NodeAt → Type 0
 IsStillThere new place n = (m : NodeAt) × (node_of new.nodes place ≡ Some m) × IsSameNode n m
 
 -- A list at two times: the invariants of lists still hold, no stamp is used again, a linked dummy
--- stays linked, the change number never falls, and while it is unchanged the nodes are too.
+-- stays linked, the change number never falls, and while it is unchanged and below 2^64 - 1 the
+-- nodes are unchanged too.
 pub record Follows (old new : Listing) : Type 0 where
   pub sound : IsSound old → IsSound new
   pub last : old.last ≤ new.last

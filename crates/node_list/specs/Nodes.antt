@@ -71,7 +71,7 @@ unfilled place stamp =
 abbrev pub out_at : Listing → ℕ → Option ℕ
 out_at l place = slice_index_or l.out place None
 
--- This spare was given out by the list.
+-- The spare is out: the list keeps its place for it, with its stamp.
 abbrev pub IsOut : Listing → SpareAt → Type 0
 IsOut l spare = out_at l spare.place ≡ Some spare.stamp
 

@@ -76,8 +76,8 @@ impl NodeList {
     }
 
     /// A list as `new` makes it, with memory for this many nodes taken at once, so that it need not
-    /// grow while they are added. If `is_written`, that memory is written, so that no later node is
-    /// the first to touch a page of it.
+    /// grow before it has more, spares included. If `is_written`, that memory is written, so that
+    /// no later node is the first to touch a page of it.
     ///
     /// # Errors
     ///
@@ -289,7 +289,7 @@ impl NodeList {
     ///
     /// # Cost
     ///
-    /// Constant time: at most 64 + 64 counts are looked at.
+    /// Constant time: the total and at most 64 + 64 counts are looked at.
     pub fn marks_begin(&self) -> Option<u64>
         ensures none { (result ≡ None) ↔ AllByRecursion (λ n. n.marked ≡ false) self.now.nodes }
         ensures from { IfSome result (λ split. AreMarksFrom split self.now.nodes) }

@@ -95,7 +95,7 @@ impl Slot {
 }
 
 /// An empty slab with room for this many slots. If the room is to be written, it is filled once, so
-/// that no later slot is the first to touch a page of memory.
+/// that no later slot is the first to touch a page of it.
 ///
 /// # Errors
 ///

@@ -44,7 +44,7 @@ impl Transaction<'_> {
     ///
     /// Time in proportion to the nodes from the nearest initialised bucket to the key's position,
     /// and up to four steps of the table if the key is absent and growth is due; may take memory
-    /// for the history and for the growth.
+    /// for the history, the log and the growth.
     pub fn get(&mut self, key: u64) -> Result<Reply, Stop>
         ensures keeps { Keeps self.old self.new }
         ensures savepoints { KeepsSavepoints self.old.caller
@@ -95,7 +95,7 @@ impl Transaction<'_> {
     ///
     /// # Cost
     ///
-    /// That of `get`; may also take memory for a node and for the log.
+    /// That of `get`; may also take memory for a node.
     pub fn put(&mut self, key: u64, value: u64) -> Result<Reply, Stop>
         ensures keeps { Keeps self.old self.new }
         ensures savepoints { KeepsSavepoints self.old.caller
@@ -120,7 +120,7 @@ impl Transaction<'_> {
     ///
     /// # Cost
     ///
-    /// That of `get`; may also take memory for a node and for the log.
+    /// That of `get`; may also take memory for a node.
     pub fn take(&mut self, key: u64) -> Result<Reply, Stop>
         ensures keeps { Keeps self.old self.new }
         ensures savepoints { KeepsSavepoints self.old.caller
@@ -294,7 +294,8 @@ impl Transaction<'_> {
     ///
     /// # Cost
     ///
-    /// A step for each change and each stripe of the transaction; takes no memory.
+    /// A step for each change and each stripe of the transaction; if the commit is refused, that of
+    /// `abort`. Takes no memory.
     pub fn commit(self) -> Result<u64, Stop>
         ensures ok { IfOk result (λ place. IsCommitted self.entry.caller place
             self.entry.map.now.core self.exit.0.now.core) }

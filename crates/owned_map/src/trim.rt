@@ -32,12 +32,13 @@ impl OwnedMap {
     ///
     /// - `AlreadyOpen` if a caller has a transaction.
     /// - `NoMemory` if memory is refused.
-    /// - `StampsUsedUp` if the map has more keys than there are stamps.
+    /// - `StampsUsedUp` if no stamp is left for a key in the new core.
     ///
     /// # Cost
     ///
-    /// A put for each pair. Beside the core that is handed out, memory for a core with the same
-    /// pairs and a history of two entries a pair.
+    /// That of `new` and of a list of the pairs, and a put for each pair. Beside the core that is
+    /// handed out, memory for a core with the same pairs and a history of two entries a pair, and
+    /// for the list while it runs.
     pub fn trim(&mut self, alloc: Global) -> Result<Core, Refusal>
         ensures old { IfOk result (λ core. core ≡ self.old.core) }
         ensures trimmed { OnOk result (IsTrimmed self.old.core self.new.core) }

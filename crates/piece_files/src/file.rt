@@ -1,6 +1,7 @@
 //! A file as a whole: its numbers and its pieces, by the names of its members. The order in which
 //! faults count is decided here and nowhere else: `members` finds only what a text has, or that it
-//! is not JSON. No other module of the crate tests the length of a file or its version.
+//! is not JSON, or that memory was refused. No other module of the crate tests the length of a file
+//! or its version.
 
 ghost use Rattle.std.specs.Prelude.{◌≡◌, ◌∷◌, ◌≤◌, List, length, take, map, true, Option, Some, Result, Ok, Err, MatchResult};
 ghost use Rattle.std.specs.Str.{IsUtf8};
@@ -109,8 +110,8 @@ fn contents_found<K: PieceKind, const N: usize>(
 /// # Cost
 ///
 /// Time in proportion to the bytes, if that of `K::read`, `K::read_plain` and `K::is_old` is so;
-/// memory for the pieces. A file that is not in plain form also takes scratch memory of its whole
-/// length.
+/// memory for the pieces, for 16 at least, and what `K::read` and `K::read_plain` take. A file that
+/// is not in plain form also takes scratch memory of its whole length.
 pub fn read_file<'n, K: PieceKind, const N: usize>(
     alloc: Global,
     bytes: &[u8],

@@ -18,7 +18,8 @@ pub enum FileFault {
     Member,
     /// 21, with the index from 0: the first piece with a wrong shape.
     Piece(Part, usize),
-    /// 22: the file is too long, or a number in it or the number of its pieces is out of range.
+    /// 22: the file is too long, or a number in it, the number of its pieces or the length of a
+    /// piece is out of range.
     Limit,
     /// 14: memory was refused. It says nothing about the file.
     NoMemory,

@@ -11,10 +11,11 @@
 //! say.
 //!
 //! A file in plain form, as most are written, is read straight from its bytes. Plain form has no
-//! escapes, numbers of at most 19 digits, only pieces that the kind has, and white space wherever
-//! JSON allows it. A file in any other form is read from its start by the reader of JSON, which
-//! makes an index of the text as it goes, and takes scratch memory of the text's length
-//! (`members.rt`). `specs/PlainBytes.antt` says what tokens bytes in plain form are.
+//! escapes, numbers of at most 19 digits, an array of at least one piece, only pieces that the kind
+//! has and no more than it keeps, plain values in the other members, and white space wherever JSON
+//! allows it. A file in any other form is read from its start by the reader of JSON, which makes an
+//! index of the text as it goes, and takes scratch memory of the text's length (`members.rt`).
+//! `specs/PlainBytes.antt` says what tokens bytes in plain form are.
 //!
 //! Promised: `read_file` computes `contents`, or says that memory was refused. A text is read once,
 //! or twice if it has no plain form, in time proportional to its length. What is passed over is

@@ -65,8 +65,8 @@ pub trait PieceKind {
     /// # Errors
     ///
     /// `NotJson` if the tokens are not the rest of an array in which arrays and objects nest no
-    /// deeper than `depth`; `NoMemory` if memory is refused, and only of a kind that
-    /// `takes_memory`. The reader is then anywhere in the text.
+    /// deeper than `depth`, or a number is too large for a float; `NoMemory` if memory is refused,
+    /// and only of a kind that `takes_memory`. The reader is then anywhere in the text.
     ///
     /// # Cost
     ///
@@ -174,7 +174,8 @@ fn next_count(count: usize) -> Result<usize, Stop>
 /// # Errors
 ///
 /// `NotJson` if the tokens are not the rest of an array in which arrays and objects nest no deeper
-/// than `depth`; `NoMemory` if memory is refused. The reader is then anywhere in the text.
+/// than `depth`, or a number is too large for a float; `NoMemory` if memory is refused. The reader
+/// is then anywhere in the text.
 ///
 /// # Cost
 ///

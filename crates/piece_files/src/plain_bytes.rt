@@ -1,8 +1,7 @@
 //! JSON in plain form, read straight from its bytes: white space, commas and brackets, keys, and
 //! plain values; a text has no escapes, and a number at most 19 digits. No index is made; the
-//! reader of JSON makes one, of 4,096 bytes of the text at a time. If a function here meets any
-//! other form, it answers none, or that nothing is there; such a text is left to the reader of
-//! JSON.
+//! reader of JSON makes one, of 4,096 bytes of the text at a time. For a text in any other
+//! form some function here answers none or false; such a text is left to the reader of JSON.
 ghost use Rattle.std.specs.Prelude.{◌≡◌, ◌+◌, ◌∷◌, ◌<◌, ◌≤◌, [], ℕ, true, length, take, drop, get_or, IfSome};
 ghost use Rattle.std.specs.List.{All};
 ghost use Rattle.std.specs.Str.Parse.{AllDigits, digits_value};
@@ -163,7 +162,8 @@ fn digits_in(bytes: &[u8]) -> (u64, usize)
     (number, len)
 }
 
-/// The number at a place, and its end.
+/// The number that the first digits at a place are, at most 19, and their end. None if there is no
+/// digit, or a 0 stands before another one.
 #[inline(always)]
 fn number_at(bytes: &[u8], at: usize) -> Option<(u64, usize)>
     requires { at ≤ length bytes.now }
@@ -216,7 +216,8 @@ fn text_at(text: &str, at: usize) -> Option<(&str, usize)>
     Some((&text[start..end], end + 1))
 }
 
-/// The plain value at a place, and its end.
+/// The plain value at a place, and its end. The caller tests whether the bytes from there on may
+/// follow a value: of `1.5` this is 1.
 #[inline(always)]
 pub(crate) fn plain_at(text: &str, at: usize) -> Option<(Plain<'_>, usize)>
     requires { at ≤ length text.now }

@@ -1,6 +1,6 @@
-//! Pieces in plain form, read one after the other: one loop for all kinds of pieces. If an element
-//! is no piece, or there are more pieces than the kind keeps, this reader gives up, and the reader
-//! of JSON decides what is wrong.
+//! Pieces in plain form, read one after the other: one loop for all kinds of pieces. If there is no
+//! piece, an element is no piece in plain form, or there are more pieces than the kind keeps, this
+//! reader gives up, and the reader of JSON decides.
 ghost use Rattle.std.specs.Prelude.{◌≡◌, ◌^◌, ◌<◌, ◌≤◌, List, length, drop, Some, IfOk, IfSome, option_and_then};
 ghost use Rattle.json.specs.Lex.{after_value};
 ghost use Rattle.serde_json.specs.Data.{Data};

@@ -128,7 +128,7 @@ impl ProbeMap {
     ///
     /// # Errors
     ///
-    /// `AllocError` if memory is refused, or if the keys need more slots than a `usize` counts.
+    /// `AllocError` if memory is refused, or if no memory can have room for the keys.
     ///
     /// # Cost
     ///
@@ -223,12 +223,13 @@ impl ProbeMap {
     ///
     /// # Errors
     ///
-    /// `AllocError` if memory is refused. It leaves the map unchanged.
+    /// `AllocError` if memory is refused, or if no memory can have room for the keys. It leaves the
+    /// map unchanged.
     ///
     /// # Cost
     ///
-    /// Constant time if there is room; else the time of a walk over the slots, and memory. That is
-    /// amortized constant time for each new key.
+    /// Constant time if there is room; else the time of a walk over the slots, and time and memory
+    /// for a new array. That is amortized constant time for each new key.
     #[inline(always)]
     pub fn reserve(&mut self, keys: usize) -> Result<(), AllocError>
         ensures content { self.new.content ≡ self.old.content }

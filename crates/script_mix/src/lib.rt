@@ -6,14 +6,14 @@
 //! one step, or two after eight `Again` in a row. So a seed names one interleaving, and the same
 //! seed gives the same history.
 //!
-//! Proved (`mix_scripts`): the core afterwards has the limits asked for, and its history is legal;
-//! each worker's committed transactions play its scripts, with rising numbers; and the core came
-//! from a new one by turns, each taken by the worker drawn for it (`specs/Turns.antt`). The turns
-//! end when no worker has a step or a script left, or after 2^64 - 1 turns, which no run lives to
-//! see. Each of these turns takes a step. `draw` is the generator's next word modulo the number of
-//! live workers. Memory is taken for the workers at the beginning, and then only by the core's
-//! steps. The numbers of the live workers are a list, so that a turn costs a look at one worker,
-//! and its steps.
+//! Proved (`mix_scripts`): the core afterwards has the limits asked for; each worker's committed
+//! transactions play its scripts, with rising numbers; and the core came from a new one by turns,
+//! each taken by the worker drawn for it (`specs/Turns.antt`). Its history is legal, as that of
+//! every core (`Core::trace`). The turns end when no worker has a step or a script left, or after
+//! 2^64 - 1 turns, which no run lives to see. Each of these turns takes a step. `draw` is the
+//! generator's next word modulo the number of live workers. Memory is taken for the core and the
+//! workers at the beginning, and then only by the core's steps. The numbers of the live workers are
+//! a list, so that a turn costs a look at one worker, and its steps.
 #![tactic(auto)]
 
 mod crew;

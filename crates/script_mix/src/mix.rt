@@ -24,8 +24,8 @@ use txn_trace::Scripts;
 ///
 /// # Cost
 ///
-/// The cost of the steps; when a worker's last script is over, time in proportion to the workers.
-/// Memory for the workers, and what the steps take.
+/// That of `Core::new` and of the steps; when a worker's last script is over, time in proportion to
+/// the workers. Memory for the workers, and what core and steps take.
 pub fn mix_scripts(alloc: Global, seed: u64, work: &Scripts) -> Result<Core, AllocError>
     ensures { IfOk result (λ core. IsMixed work.now seed core) }
 {

@@ -3,8 +3,8 @@
 //!
 //! Workers run scripts as in `script_worker`: script `i` belongs to worker `i` modulo the number of
 //! workers, a worker takes its scripts in order, and a script that found a stripe held is tried
-//! again. Only the worker's entries show how a script ended. `outcomes` finds the transaction of
-//! each script among them; it does not judge the history.
+//! again at most `tries` times. Only the worker's entries show how a script ended. `outcomes` finds
+//! the transaction of each script among them; it does not judge the history.
 //!
 //! The model is `AreOutcomes` of `specs/Outcomes.antt`. Proved, of any history:
 //!
@@ -21,8 +21,9 @@
 //!
 //! Only tested: each script of a run that aborts itself is called aborted.
 //!
-//! Takes one pass over the history. A transaction that has ended is compared with scripts until one
-//! fits; no script is compared with two commits or with two aborts, but no contract promises that.
+//! Takes one pass over the history. A transaction that has ended, except after a Busy, is compared
+//! with scripts until one fits; no script is compared with two commits or with two aborts, but no
+//! contract promises that.
 #![tactic(auto)]
 
 mod assigning;

@@ -14,7 +14,7 @@ use txn_trace::{Action, Entry, PackedAction};
 pub(crate) enum Fit {
     /// It did the actions up to the script's own abort.
     Itself,
-    /// It did some or all of the actions, and the call after these was refused.
+    /// It did none, some or all of the actions, and the call after these was refused.
     Refused,
     /// It did something else.
     Other,

@@ -26,7 +26,7 @@ pub(crate) struct Work<'a> {
 pub(crate) struct Way {
     /// The entries of its transaction, without those that take changes back.
     pub(crate) part: Vec<Entry>,
-    /// Its first script after those that are committed.
+    /// Its first script for which a commit may still be counted.
     pub(crate) next: usize,
     /// Its first script that may still be tried: `next` or a later one.
     pub(crate) turn: usize,
@@ -49,7 +49,7 @@ impl Way {
         }
     }
 
-    /// Adds an entry to the transaction.
+    /// Adds an entry to the transaction: a Began starts a new one, and an Undone is left out.
     fn grow(&mut self, entry: Entry) -> Result<(), AllocError>
         ensures part { OnOk result (self.new.part.items ≡ grown self.old.part.items entry) }
         ensures next { self.new.next ≡ self.old.next }
@@ -115,7 +115,8 @@ impl Way {
         }
     }
 
-    /// The transaction has committed: it is counted for the first script that it plays.
+    /// The transaction has committed: it is counted for the first script from `next` on that it
+    /// plays. If it plays none, no later commit is counted.
     fn commit(&mut self, work: &Work<'_>, place: u64, entry: u64, outcomes: &mut [Outcome])
         requires may { MayCount work.now.workers work.now.scripts.now self.old outcomes.old }
         ensures { Commits work.now.workers work.now.scripts.now place entry self.old self.new

@@ -28,7 +28,8 @@ pub record KeepsTask (tries workers : ℕ) (scripts : List (List Action)) (w : �
   pub replies : List (Option ℕ)
   pub so_far : IsChunk w script (heard_at task.attempt txn replies) chunk
 
--- If no script is left, the entries are the accounts of the worker's scripts.
+-- If no script is left, the entries are the accounts of the worker's scripts, as far as there are
+-- outcomes.
 abbrev pub KeepsAt : ℕ → ℕ → List (List Action) → ℕ → Option Task → List Entry → Type 0
 KeepsAt tries workers scripts w None seen =
     (outcomes : List Outcome)

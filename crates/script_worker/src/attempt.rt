@@ -29,7 +29,7 @@ pub struct Attempt {
 }
 
 /// How a script is over, by the rules of its attempts. The outcome of a script, as `thread_runs`
-/// tells it, also has the transaction and the replies.
+/// tells it, also has the transaction, its commit number and the replies, if it is committed.
 #[derive(Clone, Copy, Debug, PartialEq, Eq)]
 pub enum Finish {
     /// Its transaction is committed.

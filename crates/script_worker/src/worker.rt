@@ -148,7 +148,7 @@ impl Worker {
     /// over, if this answer ended it.
     ///
     /// If the call has ended, the worker is at its next call when `told` returns, of the same
-    /// script or of the next.
+    /// script or of the next, or has no script left.
     ///
     /// # Cost
     ///

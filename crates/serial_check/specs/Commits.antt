@@ -47,7 +47,7 @@ pub record JudgesAt (h : List Entry) (e : Entry) (right : Bool) (new : Commits) 
   pub keeps : right ≡ true → Keeps (h ++ e ∷ []) new
 
 -- The entry, if its shape is right, is judged as `JudgesAt` says after each history that the
--- callers have entered.
+-- callers have entered and the old commits keep.
 abbrev pub Judges : Entry → Callers → Commits → Bool → Commits → Type 0
 Judges e callers old right new =
     (h : List Entry) → HaveEntered h callers → Keeps h old → is_shaped h e ≡ true

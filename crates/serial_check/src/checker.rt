@@ -65,9 +65,9 @@ impl Checker {
     /// For a Did or an Undone, time in proportion to the logarithm of the number of keys that its
     /// transaction asked for; for a Committed, for each of these keys, to the logarithm of the
     /// number of keys in the map; for an Aborted, to the number of keys asked for. Otherwise
-    /// constant time. Takes memory for a key that the transaction asks for the first time, for a
-    /// change, for a savepoint, and at a Committed for new keys. After the first bad entry constant
-    /// time, and no memory.
+    /// constant time. All times are amortized, since an entry may drop changes and savepoints.
+    /// Takes memory for a Did, also of no change, for a Saved, and at a Committed for new keys.
+    /// After the first bad entry constant time, and no memory.
     pub fn feed(&mut self, entry: &Entry) -> Result<(), AllocError>
         requires { caller_of entry.now < 64 }
         ensures ok { OnOk result ((h : List Entry) →
@@ -127,8 +127,9 @@ impl Checker {
     }
 
     /// A key at which the open transaction of a caller read a value that is not the committed one.
-    /// If the transaction's Committed were next, that entry would be bad for this reason. The
-    /// caller is below 64; nothing is said if an entry is bad.
+    /// If the transaction's Committed were next, of the right shape, it would be bad for this
+    /// reason. The caller is below 64; nothing is said if an entry is bad, or if the caller has no
+    /// open transaction.
     ///
     /// `None` if the transaction could commit; or if its replies contradict one another, so that it
     /// could commit on no map.
@@ -148,7 +149,7 @@ impl Checker {
 
     /// Whether the replies of the open transaction of a caller contradict one another. If so, no
     /// map gives it all of them, and it may only abort. The caller is below 64; nothing is said if
-    /// an entry is bad.
+    /// an entry is bad, or if the caller has no open transaction.
     ///
     /// # Cost
     ///

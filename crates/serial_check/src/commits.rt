@@ -96,8 +96,8 @@ impl Commits {
     }
 
     /// A key at which the caller's transaction got a first reply that the committed map does not
-    /// give. `None` if there is no such key, or if the transaction's replies fit no map. A step for
-    /// each key.
+    /// give. `None` if there is no such key, or if the transaction's replies fit no map. A look-up
+    /// for each key.
     pub(crate) fn misread(&self, caller: u64) -> Option<Misread>
         requires { caller < 64 }
         ensures some { (h : List Entry) (t : ℕ) → Keeps h self.now → txn_in h caller ≡ Some t →

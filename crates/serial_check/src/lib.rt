@@ -23,8 +23,8 @@
 //! An entry costs the logarithm of the number of its transaction's keys; a Committed costs, for
 //! each of these keys, the logarithm of the number of keys in the map; an Aborted costs a step for
 //! each of its transaction's keys. Memory is in proportion to the committed map and to the
-//! different keys, standing changes and savepoints of open transactions. Calls take constant time
-//! and no memory unless they say otherwise.
+//! different keys, standing changes and savepoints of the transactions that are open at one time.
+//! Calls take constant time and no memory unless they say otherwise.
 //!
 //! Proved: `check`, `check_packed`, and a `Checker` that was fed the same entries, answer what the
 //! definition `verdict` says, with the first bad entry, and they answer legal exactly if

@@ -62,7 +62,7 @@ pub record GoesOn {S : Type 0} (k l : Token S) : Type 0 where
 
 -- A transaction was taken back, and no other was begun. If nothing was unfinished before, no
 -- transaction is open now; and if stripes were held only within a transaction, all rights to
--- stripes are given back, as long as all entries have rows.
+-- stripes are given back, as long as all entries have rows and the token is not broken.
 pub record IsTakenBack {S : Type 0} (k l : Token S) : Type 0 where
   pub goes_on : GoesOn k l
   pub over : (base : Token S) → IsSince base k → IsOver l

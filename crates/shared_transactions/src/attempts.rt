@@ -1,8 +1,8 @@
 //! Work that is run in a transaction, and begun again if another caller holds a stripe.
 //!
-//! The toolchain refuses a bound that names `Transaction`, such as `Fn(&mut Transaction<'_, L>)`,
-//! since its parameter `L` is owned by a ghost member of a bound. So `transact` is generic over the
-//! trait `Attempts`, which `Transaction` implements.
+//! The toolchain refuses a bound that names `Transaction`, such as
+//! `Fn(&mut Transaction<'_, L, R>)`, since its parameter `L` is owned by a ghost member of a bound.
+//! So `transact` is generic over the trait `Attempts`, which `Transaction` implements.
 ghost use Rattle.std.specs.Prelude.{◌≡◌, true, false, IfOk, IfErr, OnErr, Ok};
 ghost use Rattle.std.specs.Borrow.{MutBor};
 ghost use Rattle.core_tokens.specs.Tokens.{Token};

@@ -49,6 +49,8 @@
 //! - Each work in a thread keeps its promise (`Work::promises`), about a token with exactly the
 //!   entries that its caller has in the history of the closed map. Work `i` has caller `i`. The
 //!   history is legal, and has no entries but those of these callers (`AreDone`).
+//! - Of a broken token it is not promised that no transaction is open, nor, if one of its entries
+//!   has no row, that nothing was committed.
 //!
 //! What a map holds is known when it is closed, as `locked_map` says, and not after a call, since
 //! other callers may take steps at once. No clause is about time: none says that a call returns, or

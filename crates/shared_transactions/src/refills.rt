@@ -34,13 +34,13 @@ use undo_log::Side;
 /// No transaction is open, and none was committed.
 /// - `Refused` with `NoMemory` if memory is refused. If it is refused for the list of pairs,
 ///   nothing was done.
-/// - `Refused` with `StampsUsedUp` if the map has more keys than there are stamps.
-/// - Any other error of the begin, a put or the commit: `Refused` with `BadKey` for a key of 2^63
-///   or more if the map takes only half keys, and `Busy` if another caller held a stripe.
+/// - `Refused` with `StampsUsedUp` if no stamp is left for a put.
+/// - Any other error of the begin, a put or the commit, such as `Refused` with `BadKey` for a key
+///   of 2^63 or more if the map takes only half keys, and `Busy` if another caller held a stripe.
 ///
 /// # Cost
 ///
-/// That of `Core::regular_list`, and a put for each pair.
+/// That of `Core::regular_list`, a begin, a put for each pair, and a commit or an abort.
 pub fn refill<L: Ledger, R: Wait>(
     rt: &R,
     alloc: Global,

@@ -33,8 +33,9 @@ impl OnRelease for Unheard {
 }
 
 /// A caller on a map of threads, in a transaction or about to begin one. If a transaction is still
-/// open when this is dropped, it is aborted: at every `?` and every early return its changes are
-/// taken back, and no stripe stays held. If none is open, a drop leaves the token unchanged.
+/// open when this is dropped, it is aborted, unless the token is broken: at every `?` and every
+/// early return its changes are taken back, and no stripe stays held. If none is open, a drop
+/// leaves the token unchanged.
 pub struct Transaction<'a, L: Ledger, R: Wait> {
     rt: &'a R,
     map: &'a SharedMap<L>,
@@ -171,7 +172,7 @@ impl<'a, L: Ledger, R: Wait> Transaction<'a, L, R> {
     ///
     /// # Cost
     ///
-    /// That of the map's `put_if`, and for a new key of its `help`.
+    /// That of the map's `put_if`, and of its `help` if the key was absent.
     pub fn put_if(&mut self, key: u64, expected: Option<u64>, value: u64) -> Result<Reply, Stop>
         ensures keeps { Keeps self.old.me self.new.me }
         ensures ok { IfOk result (λ reply. self.new.me.now.seen ≡ self.old.me.now.seen
@@ -211,7 +212,7 @@ impl<'a, L: Ledger, R: Wait> Transaction<'a, L, R> {
     ///
     /// # Errors
     ///
-    /// Each `Refused` of the map's `save`: the transaction is unchanged.
+    /// Each `Refused` of the map's `save`, which leaves the transaction as that call says.
     ///
     /// # Cost
     ///
@@ -233,7 +234,7 @@ impl<'a, L: Ledger, R: Wait> Transaction<'a, L, R> {
     ///
     /// # Errors
     ///
-    /// Each `Refused` of the map's `back`: the transaction is unchanged.
+    /// Each `Refused` of the map's `back`, which leaves the transaction as that call says.
     ///
     /// # Cost
     ///
@@ -254,7 +255,8 @@ impl<'a, L: Ledger, R: Wait> Transaction<'a, L, R> {
     ///
     /// # Errors
     ///
-    /// Each `Refused` of the map's `commit`: the transaction is then aborted.
+    /// Each `Refused` of the map's `commit`: the transaction is then aborted, unless the token is
+    /// broken.
     ///
     /// # Cost
     ///

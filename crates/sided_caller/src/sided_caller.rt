@@ -376,7 +376,7 @@ impl<S: Side> SidedCaller<S> {
     ///
     /// # Cost
     ///
-    /// Constant time beside the side value's drop.
+    /// Constant time beside the drop of the side value and of the jobs that it still has.
     pub fn into_caller(self) -> Caller
         ensures { result ≡ self.caller }
     {

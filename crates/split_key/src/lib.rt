@@ -29,8 +29,8 @@
 //!
 //! A table that doubles moves no node. At size 8 the dummy of bucket 4, `0010 .. 0000`, is put
 //! right before key 4, which splits bucket 0: the keys 0, 8, 16 and so on stay before it. The
-//! dummies of 6, 5 and 7 are put right before the keys 6, 5 and 7. The parent of a bucket, which is
-//! the bucket without its highest 1 bit, is the bucket that it was split off from.
+//! dummies of 6, 5 and 7 are put right before the keys 6, 5 and 7. The parent of a bucket other
+//! than 0 is the bucket without its highest 1 bit: the bucket that it was split off from.
 //!
 //! A key may be any number of 64 bits. The top bit of a key is set before it is reversed, so two
 //! keys that differ only in that bit, as 1 and 2^63 + 1, share a split key. The list is therefore
@@ -39,9 +39,9 @@
 //! A contract sees a key as its number; the definitions are in `specs/Split.antt` and
 //! `specs/Sort.antt`. Proved: each call answers what its definition says; two keys share a split
 //! key exactly if they agree below the top bit; different keys have different sort keys, and
-//! different buckets different split keys; the dummies of a bucket's ancestors precede its own, and
-//! all of these precede each of the bucket's keys; and a `BadKey` prints its text. Each call takes
-//! constant time and no memory.
+//! different buckets different split keys; the dummies of a bucket's ancestors other than itself
+//! precede its own, and all of these precede each of the bucket's keys; and a `BadKey` prints its
+//! text. Each call takes constant time and no memory.
 #![tactic(auto)]
 
 mod bucket;

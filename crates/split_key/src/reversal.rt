@@ -6,8 +6,8 @@ ghost use Rattle.std.specs.Int.{bit_at};
 ghost use Rattle.split_key.specs.Split.{reversed};
 ghost use Rattle.split_key.specs.Swap.{swapped_place};
 
-/// The word with neighbouring groups of `width` bits swapped. `low` has a 1 at each bit of the
-/// lower group of each pair.
+/// The word with neighbouring groups of `width` bits swapped. `low` has a 1 exactly at the bits of
+/// the lower group of each pair.
 fn swap_groups(word: u64, width: u32, low: u64) -> u64
     requires some { 0 < width }
     requires fits { width < 64 }

@@ -1,6 +1,6 @@
 //! Sort keys: the order of the nodes of a list, by split key and then by key. A split key by itself
 //! does not order them, since two keys may share one; no two keys have the same sort key.
-//! `is_before` is the only test of this order in the repository, and takes constant time.
+//! The map tests this order by `is_before` alone, which takes constant time.
 ghost use Rattle.std.specs.Prelude.{◌≡◌, ◌≢◌, ℕ};
 ghost use Rattle.std.proofs.Common.{rules};
 ghost use Rattle.std.specs.Cmp.Rules.{comparing};
@@ -110,7 +110,7 @@ impl SortKey {
         word(self.split)
     }
 
-    /// The key of a regular node, and 0 for a dummy. Reverses the split key.
+    /// The key of a regular node, by reversing its split key; 0 for a dummy.
     pub fn key(self) -> u64
         ensures { result ≡ self.key }
     {

@@ -18,14 +18,14 @@
 //! - `len`, `changes` and `pairs` read the part.
 //!
 //! A part is one word. The map and its count of changes are in a box that is made at the first
-//! change. So an empty part takes no memory, unless it is made with room (`with_capacity`). The
+//! change. So a part takes no memory before, unless it is made with room (`with_capacity`). The
 //! invariant: the map has room for as many keys as changes are owed. So a key that was taken out
-//! can be put back without memory: each operation that may be a change reserves that room, and a
-//! place for a new key, before it changes anything.
+//! can be put back without memory: each change first reserves that room, and a place for a new key.
 //!
 //! A part grows by itself. `apply` and `take_back` take amortized constant time, except for keys
-//! whose hashes collide; `settle` and `len` take constant time; `pairs` takes the time of a sort of
-//! the keys. Only `with_capacity`, `apply` and `pairs` take memory.
+//! whose hashes collide; `settle`, `len` and `changes` take constant time; `pairs` takes the time
+//! of a walk over the map's slots and of a sort of the keys. Only `with_capacity`, `apply` and
+//! `pairs` take memory.
 #![tactic(auto)]
 
 mod change;

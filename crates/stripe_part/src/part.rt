@@ -19,8 +19,8 @@ use txn_words::{Op, Refusal, Reply};
 ///
 /// # Cost
 ///
-/// An empty part takes no memory, unless it has room from the start (`with_capacity`). It takes
-/// some at the first change: a box, and the map's array.
+/// A part takes no memory before its first change, which takes a box and the map's array. One that
+/// has room from the start (`with_capacity`) takes both at the start.
 #[derive(Drop)]
 pub struct Part {
     inner: Option<Box<CountedMap>>,
@@ -174,7 +174,8 @@ impl Part {
     ///
     /// # Cost
     ///
-    /// Memory in proportion to the keys, and the time of a sort of them.
+    /// Memory in proportion to the keys, and the time of a walk over the map's slots and of a sort
+    /// of the keys.
     pub fn pairs(&self, alloc: Global) -> Result<Vec<(u64, u64)>, AllocError>
         ensures { IfOk result (λ pairs. pairs.items ≡ self.now.content.rows) }
     {

@@ -50,7 +50,7 @@ pub record IsStep (a : Caller) (es : List Entry) (b : Caller) : Type 0 where
 
 -- An operation was not done. Busy: another caller, which has begun a transaction before, held the
 -- stripe, and the transaction is aborted. NotOpen: there is no transaction. NoMemory: memory was
--- refused, and the transaction is unchanged.
+-- refused, and the transaction is unchanged, but may hold more stripes.
 abbrev pub IsStopped : Caller → Op → Caller → Stop → Type 0
 IsStopped a op b (Busy holder) = (a.is_open ≡ true) × (b.is_open ≡ false)
     × IsStep a (BusyEntry (number a) op holder

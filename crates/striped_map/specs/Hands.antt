@@ -25,7 +25,7 @@ pub record Moves (map : StripedMap) (a : Hand) (es : List Entry) (b : Hand) : Ty
 
 -- An operation was not done. Busy: another caller, which has begun a transaction before, held the
 -- stripe, and the transaction is aborted. Refused: memory was refused, and the transaction is
--- unchanged.
+-- unchanged, but may hold more stripes.
 abbrev pub IsStopped : StripedMap → Hand → Op → Hand → Stop → Type 0
 IsStopped map a op b (Busy holder) = IsAt Closed (known b.seat) × ((known b.seat).held ≡ [])
     × Moves map a (BusyEntry (known a.seat).number op holder

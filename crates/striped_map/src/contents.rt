@@ -2,7 +2,8 @@
 //! pairs under their whole keys.
 //!
 //! A part has the pairs of its stripe under sub-keys. The two functions read parts and change
-//! nothing; each takes time in proportion to the parts and what it answers.
+//! nothing. `count_of` takes constant time for each part, and `pairs_of` the time and memory of
+//! `Part::pairs` for each part, and memory for all pairs.
 ghost use Rattle.std.specs.Prelude.{◌≡◌, ◌+◌, ◌*◌, ◌++◌, sum_by, IfOk, IfSome, OnOk};
 ghost use Rattle.striped_map.specs.Contents.{count_at, pairs_at, pairs_in};
 ghost use Rattle.striped_map.specs.Rule.{Holds};

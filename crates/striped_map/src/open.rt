@@ -45,8 +45,8 @@ pub fn open_map(
 
 /// Opens a map as `open_map` does, whose stripes have room for their shares of `keys` keys, rounded
 /// up. So the stripes take no memory for the first `keys` keys, on two conditions: the keys are
-/// spread evenly over the stripes, as keys that rise by one are; and each transaction puts at most
-/// one key of a stripe.
+/// spread evenly over the stripes, as keys that rise by one are; and each transaction does at most
+/// one operation in a stripe, beside gets.
 ///
 /// # Errors
 ///

@@ -150,7 +150,7 @@ fn give_way(end: End) {
 }
 
 /// Runs a script to its outcome, by at most `tries` attempts after the first. The entries that it
-/// has added to the caller's are the account of that outcome.
+/// has added to the caller's are the account of that outcome, if all of the caller's have rows.
 pub(crate) fn run_script<L: Ledger, G: Gate, R: Wait>(
     rt: &R,
     alloc: Global,

@@ -1,7 +1,8 @@
 //! A run of scripts, from a new map to the outcomes in the scripts' order; its parts are in the
 //! modules beside. It picks the names of ledger and terms itself, so that its callers need none.
-//! Before a thread starts, the map takes room for what the scripts add if no attempt is repeated,
-//! so that it need not grow under its lock; if that room is refused, it grows as it is used.
+//! Before a thread starts, the map takes room for what the scripts add if no attempt is repeated
+//! and no change is taken back, so that history and table need not grow under its lock; if that
+//! room is refused, they grow as they are used.
 ghost use Rattle.std.specs.Prelude.{◌≡◌, ◌≤◌, IfOk, IfErr, map, reverse};
 ghost use Rattle.thread_runs.specs.Runs.{IsRunOf, IsRunRefusal};
 
@@ -23,8 +24,9 @@ use txn_trace::{Action, Limits, Op, PackedAction, Refusal, Script};
 /// Runs each script in the thread of its worker, on a new map. There are as many workers as the
 /// limits have callers: script `i` belongs to worker `i` modulo the workers, and worker `w` is
 /// caller `w`. A script that found a stripe held is tried again at most `tries` times, after other
-/// threads had a chance to run. A worker that has put seven new keys without a help in between
-/// helps the table to grow, though its script does not ask for it; this adds no entry.
+/// threads had a chance to run. After seven puts or put-ifs at absent keys, without a help between
+/// them, a worker helps the table to grow, though its script does not ask for it; this adds no
+/// entry.
 ///
 /// With `Ok` the history is legal by the rule that a Busy may name any other worker that has begun
 /// a transaction; each of its entries is of one of these workers; and each script has one outcome,
@@ -41,14 +43,16 @@ use txn_trace::{Action, Limits, Op, PackedAction, Refusal, Script};
 ///
 /// # Errors
 ///
-/// - `NoMemory` if memory is refused, before the threads start or for their results.
+/// - `NoMemory` if memory is refused, before the threads start, for the list of them or for their
+///   results.
 /// - `NoThread` if a thread was not started; the workers that were started finish.
 /// - `OutOfStep` if what the workers saw is not the history.
 ///
 /// # Cost
 ///
-/// That of the calls, and time in proportion to the history for each worker; memory in proportion
-/// to the history, besides that of the calls.
+/// That of `SharedMap::new` and of the calls; a thread for each worker; time in proportion to the
+/// scripts, and for each worker to the history; memory in proportion to scripts and history,
+/// besides that of the calls.
 pub fn run_scripts<G: Gate, R: Threads + Wait + Sync>(
     rt: &R,
     alloc: Global,
@@ -112,10 +116,10 @@ fn run_under<L: Ledger + Send + Sync, T: Terms + Send + Sync, G: Gate, R: Thread
     Ok(Ran { outcomes, trace })
 }
 
-/// Room for what scripts add if no attempt is repeated: two entries for each action but a help, and
-/// a begin and an end for each script; a node for each put, and as many again for the dummies of
-/// buckets, up to the largest number of buckets. With several workers it is written before they
-/// start.
+/// Room for what scripts add if no attempt is repeated and no change is taken back: two entries for
+/// each action but a help, and a begin and an end for each script; a node for each put, and as many
+/// again for the dummies of buckets, up to the largest number of buckets. With several workers it
+/// is written before they start.
 fn room_for(scripts: &[Script], limits: Limits) -> Room {
     let mut room = Room {
         is_written: limits.callers() > 1,

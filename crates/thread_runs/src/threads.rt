@@ -25,7 +25,8 @@ use txn_trace::{Limits, Refusal};
 /// address space is limited.
 const STACK: usize = 256 * 1024;
 
-/// The promise of the thread of a pass: it returns the caller of the pass, with its scripts run.
+/// The promise of the thread of a pass: unless memory is refused, it returns the caller of the
+/// pass, with its scripts run.
 #[derive(Drop)]
 struct Runs<L: Ledger, T: Terms> {
     pass: Snapshot<Pass<L>>,

@@ -126,7 +126,7 @@ told_first calls.Abort answers.Leaving = Seeking (Leaving 0) 0
 told_first call answer = First answer
 
 -- The phase after a seek: the position is found; or no change is left to take back, in which case
--- the act ends the call.
+-- the act ends the call; any other answer ends it at once.
 abbrev pub told_seek : Work → ℕ → Answer → Phase
 told_seek work again answers.Placed = Acting work again
 told_seek (Busy holder undone) again (answers.Refused NothingToSeek) =
@@ -140,7 +140,8 @@ abbrev pub counted : ℕ → Work → Work → Phase
 counted undone more work =
     if nat_lt undone (2 ^ 64 - 1) then Seeking more 0 else Last work answers.Undone
 
--- The phase after one more change was taken back: the next one is sought.
+-- The phase after one more change was taken back: the next one is sought, as `counted` says; but if
+-- the work is an operation, the call ends.
 abbrev pub undone_more : Work → Phase
 undone_more Operation = Last Operation answers.Undone
 undone_more (Busy holder undone) = counted undone (Busy holder (undone + 1)) (Busy holder undone)

@@ -46,7 +46,7 @@ impl Drive {
     /// The next turn, for a table that has this size in buckets now.
     ///
     /// Only a helper that is about to double the table notes the size. A drive whose turn is
-    /// `Ended` answers the same at each later turn.
+    /// `Ended` answers the same at each later turn, unless it is told a further answer.
     #[inline(always)]
     pub fn turn(&mut self, size: u32) -> Turn
         ensures drive { self.new ≡ sized_of size self.old }

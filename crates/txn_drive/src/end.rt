@@ -14,7 +14,8 @@ pub enum End {
     Helped,
     /// The key's stripe was held by this caller, and the transaction is aborted.
     Busy(u64),
-    /// The call was refused. `OutOfStep` means that a step got an answer that no rule foresees;
-    /// after any other refusal the call has added no entry to the history.
+    /// The call was refused. `OutOfStep` means that a step got an answer that no rule foresees, or
+    /// that an answer was told after the end; after any other refusal the call has added no entry
+    /// to the history.
     Refused(Refusal),
 }

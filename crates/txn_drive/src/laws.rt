@@ -6,8 +6,8 @@ ghost use Rattle.std.specs.Prelude.{◌≡◌, ◌≢◌, ℕ, ◌^◌, ◌<◌,
 ghost use Rattle.split_key.specs.Split.{parent_of, IsAncestor};
 ghost use Rattle.txn_drive.specs.Ways.{child_towards};
 
-/// A helper's way to a bucket begins at bucket 0, goes from each bucket to a child of it, and stays
-/// on the bucket's ancestors. So each bucket on the way follows its parent.
+/// A helper's way to a bucket below 2^32 begins at bucket 0, goes from each bucket to a child of
+/// it, and stays on the bucket's ancestors. So each bucket on the way follows its parent.
 ///
 /// The contract is the law; the function does nothing.
 pub fn ways()

@@ -99,7 +99,7 @@ fn told_first(call: Call, answer: Answer) -> Phase
 }
 
 /// After a seek: the position is found, or no change is left to take back, in which case the act
-/// ends the call.
+/// ends the call. Any other answer ends it at once.
 #[inline(always)]
 fn told_seek(work: Work, again: u8, answer: Answer) -> Phase
     ensures { result ≡ told_seek work again answer }
@@ -126,7 +126,8 @@ fn told_act(work: Work, again: u8, answer: Answer) -> Phase
     }
 }
 
-/// After one more change was taken back: the next step seeks the position of the next one.
+/// After one more change was taken back: the next step seeks the position of the next one. The call
+/// ends if its work is an operation, or if the count does not fit in 64 bits.
 fn undone_more(work: Work) -> Phase
     ensures { result ≡ undone_more work }
 {

@@ -1,5 +1,5 @@
--- A history is a list of entries. Each belongs to a transaction, and each transaction is committed,
--- aborted or open.
+-- A history is a list of entries. Each belongs to a transaction, if its caller has begun one, and
+-- each transaction is committed, aborted or open.
 use Rattle.std.specs.Prelude.{ℕ, ◌==◌, Bool, false, not, ◌||◌, Option, Some, None, List, [], ◌∷◌, map, nat_eq, if◌then◌else◌}
 use Rattle.std.specs.Option.{option_eq}
 use Rattle.std.specs.List.{filter, filter_map, fold}

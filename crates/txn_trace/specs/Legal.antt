@@ -51,7 +51,7 @@ abbrev pub is_running : Option Seat → Bool
 is_running None = false
 is_running (Some s) = runs s.phase
 
--- One more than the greatest caller of a history.
+-- One more than the greatest caller of a history, or 0 if it has no entries.
 abbrev pub callers_in : List Entry → ℕ
 callers_in h = fold (λ n e. max n (caller_of e + 1)) 0 h
 

@@ -1,4 +1,5 @@
--- The rule of locks: a stripe of keys belongs to one open transaction at a time.
+-- The rule of locks: a stripe of keys belongs to at most one open transaction at a time, and a Busy
+-- names another caller, by one of two rules.
 use Rattle.std.specs.Prelude.{ℕ, ◌%◌, ◌==◌, Bool, true, false, not, ◌&&◌, Option, Some, None, slice_get, IsTrue, List, [], ◌∷◌, ◌++◌, map}
 use Rattle.std.specs.List.{filter, list_any, list_all}
 use mathlib.Core.List.{IsPrefix}
@@ -44,7 +45,7 @@ may_name Now stripes s g x = list_any (λ y. y == x) (holders stripes s g)
 may_name Begun stripes s g x = has_begun x g
 
 -- Whether the rule of locks allows an entry after g: an Asked if no other caller holds the stripe,
--- a Busy if the caller that it names is another one and may be named.
+-- a Busy if the caller that it names is another one and may be named, and every other entry.
 abbrev pub is_locked : Holder → ℕ → List Entry → Entry → Bool
 is_locked holder stripes g (Asked c op) =
     list_all (λ x. x == c) (holders stripes (stripe_of stripes (key_of op)) g)

@@ -8,7 +8,8 @@
 //! - which map the committed transactions leave in commit order (`serial`), and which map there is
 //!   with the changes of the open ones (`now`);
 //! - which histories are legal: each transaction has the replies of running alone, each stripe of
-//!   keys belongs to one open transaction at a time, and each entry has the right shape.
+//!   keys belongs to at most one open transaction at a time, each Busy names another caller, by one
+//!   of the two rules of `Holder`, and each entry has the right shape.
 //!
 //! Legal is the meaning of "serialisable" after Herlihy and Koskinen, "Transactional Boosting: A
 //! Methodology for Highly-Concurrent Transactional Objects" (PPoPP 2008), whose rules 2 (abstract

@@ -68,7 +68,7 @@ after m (Get k) = m
 after m (PutIf k expected v) = if option_eq nat_eq (get m k) expected then insert m k v else m
 
 -- Whether an operation is a change: a Put, a Take of a key that is there, or a PutIf whose key has
--- the expected value.
+-- the expected value, or none if none is expected.
 abbrev pub is_change : Map → Op → Bool
 is_change m (Put k v) = true
 is_change m (Take k) = is_some (get m k)

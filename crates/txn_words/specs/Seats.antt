@@ -25,7 +25,7 @@ is_leaving (LeavingTo n) = true
 is_leaving LeavingToEnd = true
 is_leaving _ = false
 
--- Whether more changes stand than at the level to which the caller takes changes back.
+-- Whether the caller takes changes back, and one is left to take back.
 abbrev pub has_job : Seat → Bool
 has_job seat = elim seat.phase [
   | LeavingTo n ↦ nat_lt (slice_index seat.kept n) seat.standing

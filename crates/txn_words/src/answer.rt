@@ -16,7 +16,7 @@ pub enum Answer {
     Began(u64),
     /// The operation is asked for.
     Asked,
-    /// The stripe is held by this caller; the transaction aborts.
+    /// The stripe was found held by this caller; the transaction aborts.
     Busy(u64),
     /// There is a cursor now.
     Placed,
@@ -56,7 +56,8 @@ pub enum Answer {
     Light,
     /// The size is doubled to this one.
     Doubled(u64),
-    /// The step was refused and changed nothing.
+    /// The step was refused, and the core's state is unchanged, except that `StaleWord` may use up
+    /// a stamp.
     Refused(Refusal),
 }
 

@@ -1,6 +1,6 @@
 //! The limits of a map: its callers, stripes and buckets, and whether keys of the upper half are
-//! taken. Files, cores and the C library share the type, so all have the same ranges. It keeps the
-//! numbers in range, so no call tests them again.
+//! taken. Files, cores and the C library share the type, so all have the same ranges; only a
+//! striped map has ranges of its own. It keeps the numbers in range, so no call tests them again.
 ghost use Rattle.std.specs.Prelude.{◌≡◌, true, IsTrue};
 ghost use Rattle.txn_words.specs.Sizes.{Sizes, are_limits, is_bad_key, limits_of};
 

@@ -1,6 +1,7 @@
 //! The refusals of calls, each with a number and a sentence. One list serves all calls, so a number
-//! means the same in files, in reports and in the statuses of the C library. The numbers are 1 to
-//! 22, one for each refusal; numbers and sentences are constants, which take no memory.
+//! means the same in files, in reports and, with 16 added, in the statuses of the C library. The
+//! numbers are 1 to 22, one for each refusal; numbers and sentences are constants, which take no
+//! memory.
 ghost use Rattle.std.specs.Prelude.{◌≡◌};
 ghost use Rattle.txn_words.specs.Refusals.{number_of, words_of};
 ghost use Rattle.txn_words.specs.Sentences.{sentence_of};
@@ -15,7 +16,8 @@ use std::fmt;
 pub enum Refusal {
     /// 1: the key is 2^63 or more, and the limits take only half keys.
     BadKey,
-    /// 2: the caller's number is not below the number of callers.
+    /// 2: the caller's number is not below the number of callers; or, at a join in C, no caller of
+    /// the striped map waits.
     NoSuchCaller,
     /// 3: the caller has no transaction.
     NotOpen,
@@ -41,21 +43,24 @@ pub enum Refusal {
     HelperOutOfOrder,
     /// 14: memory was refused.
     NoMemory,
-    /// 15: the core's answer is impossible in the state of the caller's token.
+    /// 15: a caller's token does not agree with the core or with its own side value, or did not
+    /// before; or the map does not close.
     OutOfStep,
     /// 16: no stamp below 2^64 - 1 is left.
     StampsUsedUp,
-    /// 17: the map was closed without one caller of each number.
+    /// 17: the map has too few callers for the works that it is to run.
     CallersMissing,
     /// 18: a worker could not be started.
     NoThread,
-    /// 19: the word of a stripe tells something that no longer holds.
+    /// 19: by the core's record another caller holds the stripe whose right is shown, or the word
+    /// names the caller itself or one that has never begun a transaction.
     StaleWord,
     /// 20: a file is not JSON.
     NotJson,
     /// 21: a file, or a part of it, does not have the shape that it should have.
     WrongShape,
-    /// 22: a file, or one of its numbers, is out of range.
+    /// 22: a file, one of its numbers, or a number that a map or a judge is made with is out of
+    /// range.
     Limit,
 }
 

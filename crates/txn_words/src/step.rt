@@ -22,7 +22,8 @@ pub enum Step {
     /// Asks for an operation: locks its stripe, and reserves all that it and its undoing need.
     ///
     /// Refused, in this order: `NoSuchCaller`, `NotOpen`, `Leaving`, `OperationUnfinished`,
-    /// `BadKey`; then `NoMemory` or, if the operation takes a node, `StampsUsedUp`.
+    /// `BadKey`; then `NoMemory` or, if the operation takes a node, `StampsUsedUp`; and at last, if
+    /// stripes are words, `StaleWord`.
     Ask(u64, Op),
     /// Seeks the position of the operation that was asked for, or of the newest change to take
     /// back.
@@ -70,7 +71,8 @@ pub enum Step {
     /// Refused, in this order: `NoSuchHelper`, `HelperOutOfOrder`; then, if no bucket of the
     /// bucket's segment of 64 is stored, `NoMemory`: the helper keeps its dummy.
     InitStore(u64),
-    /// Doubles the size, if it is still the one named.
+    /// Doubles the size, if it is still the one named, is not the largest one allowed, and there
+    /// are more than twice as many keys as buckets.
     ///
     /// Never refused.
     Double(u64),

@@ -77,8 +77,9 @@ impl<S: Side> SideValue<S> {
 
     /// Changes the value, and logs the job that takes the change back.
     ///
-    /// The words that the job names as before its change must be those of the value now, and the
-    /// words that it names as after its change must be those of the value that `change` answers.
+    /// The value now must meet what `change` requires. The words that the job names as before its
+    /// change must be those of the value now, and the words that it names as after its change must
+    /// be those of the value that `change` answers.
     ///
     /// # Errors
     ///
@@ -182,7 +183,7 @@ impl<S: Side> SideValue<S> {
     /// # Cost
     ///
     /// Time in proportion to the changes and savepoints above the level, with one run of a job for
-    /// each change; takes no memory.
+    /// each change; takes no memory but what these runs take.
     pub fn back(&mut self, level: usize)
         requires { level < length self.old.levels }
         ensures words { slice_get self.old.levels level ≡ Some (S.words_of self.new.value) }
