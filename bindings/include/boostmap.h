@@ -266,7 +266,7 @@ boostmap_status boostmap_striped_commit(boostmap_caller *caller, uint64_t *word)
 boostmap_status boostmap_striped_abort(boostmap_caller *caller);
 
 /* Operations; *word: the value that the key had. Each may return 0; 1; 2, after which the transaction
- * has been aborted; 3; 19; 30. */
+ * has been aborted; 3; 19; 30, after which the transaction may hold the key's stripe. */
 boostmap_status boostmap_striped_get(boostmap_caller *caller, uint64_t key, uint64_t *word);
 boostmap_status boostmap_striped_take(boostmap_caller *caller, uint64_t key, uint64_t *word);
 boostmap_status boostmap_striped_put(boostmap_caller *caller, uint64_t key, uint64_t value, uint64_t *word);

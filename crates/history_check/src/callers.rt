@@ -83,8 +83,8 @@ impl Callers {
             .count() as u64
     }
 
-    /// Whether the entry has the right shape: the rule of shape (`row` of `txn_words`) has a row for
-    /// it after its caller's entries, and its number is right.
+    /// Whether the entry has the right shape: the rule of shape (`row` of `txn_words`) has a row
+    /// for it after its caller's entries, and its number is right.
     ///
     /// # Cost
     ///
