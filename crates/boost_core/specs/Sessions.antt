@@ -58,10 +58,9 @@ abbrev pub owed_of : Session → ℕ
 owed_of s = owed_in s.seat.seat.standing s.seat.seat.phase
 
 -- No transaction, no waiting operation, no cursor, and an empty log with room for eight jobs.
-pub record IsIdle (s : Session) : Type 0 where
-  pub side : side_of s
-      ≡ record { seat = closed_seat; pending = None; cursor = None; jobs = []; kept = [] }
-  pub room : s.log.room ≡ 8
+abbrev pub IsIdle : Session → Type 0
+IsIdle s =
+    side_of s ≡ record { seat = closed_seat; pending = None; cursor = None; jobs = []; kept = [] }
 
 -- An operation waits exactly in the phase that says so; it has room for its job, and a spare if it
 -- takes a node.

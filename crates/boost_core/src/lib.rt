@@ -34,6 +34,7 @@ mod machine;
 mod operations;
 mod owner;
 mod plain;
+mod room;
 mod session;
 mod sessions;
 mod transactions;
@@ -41,4 +42,5 @@ mod words;
 
 pub use machine::Core;
 pub use owner::Owner;
+pub use room::Room;
 pub use txn_drive::{Call, Drive, End, Turn};

@@ -17,6 +17,7 @@ use crate::buckets::serve;
 use crate::claim::Claim;
 use crate::counts::Counts;
 use crate::owner::{Owner, placed_after};
+use crate::room::Room;
 use crate::session::Session;
 use crate::sessions::idle_sessions;
 use key_locks::KeyLocks;
@@ -95,29 +96,29 @@ impl Core {
         ensures ok { IfOk result (λ core. core ≡ start limits) }
         ensures err { IfErr result (λ refusal. refusal ≡ Refusal.NoMemory) }
     {
-        Core::make(alloc, limits, false, 0, false)
+        Core::make(alloc, limits, false, Room::default())
     }
 
-    /// A new core. `words` says whether its stripes are words. The memory for `nodes` nodes is
-    /// taken at once, and is written if `is_written`.
+    /// A new core with this room. `words` says whether its stripes are words.
     pub(crate) fn make(
         alloc: Global,
         limits: Limits,
         words: bool,
-        nodes: usize,
-        is_written: bool,
+        room: Room<'_>,
     ) -> Result<Core, Refusal>
         ensures ok { IfOk result (λ core. core ≡ record (start limits) { words = words }) }
         ensures err { IfErr result (λ refusal. refusal ≡ Refusal.NoMemory) }
     {
         let (max, callers) = (limits.buckets(), limits.callers());
-        let table = Table::with_capacity(alloc, max, callers, nodes, is_written)?;
-        let sessions = idle_sessions(alloc, callers as usize)?;
+        let table = Table::with_capacity(alloc, max, callers, room.nodes, room.is_written)?;
+        let sessions = idle_sessions(alloc, callers as usize, room)?;
         let locks = KeyLocks::new(alloc, limits.stripes() as usize)?;
         let begun = none_begun(alloc, callers as usize)?;
+        let mut history = Vec::new(alloc);
+        make_room(&mut history, room.entries, room.is_written)?;
         Ok(Core {
             limits,
-            history: Vec::new(alloc),
+            history,
             counts: Counts {
                 began: 0,
                 committed: 0,

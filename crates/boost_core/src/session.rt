@@ -1,13 +1,13 @@
 //! A caller's side of the core: seat, waiting operation, cursor and log. A cursor belongs to the
 //! waiting operation or to the newest change, so one field serves both. The steps on it are in
 //! `operations.rt` and `transactions.rt`.
-ghost use Rattle.std.specs.Prelude.{◌≡◌, ◌+◌, ◌≤◌, ◌<◌, true, None, is_some, length};
+ghost use Rattle.std.specs.Prelude.{◌≡◌, ◌+◌, ◌≤◌, ◌<◌, true, None, IfOk, is_some, length};
 
 use crate::claim::Claim;
 use crate::counts::Counts;
 use key_locks::KeyLocks;
 use map_ops::{Cursor, MapJob, Pending, Table};
-use std::alloc::Global;
+use std::alloc::{AllocError, Global};
 use txn_trace::{Answer, Phase, Seat, Step};
 use undo_log::UndoLog;
 
@@ -27,16 +27,21 @@ impl Session {
     ghost use Rattle.boost_core.specs.Refusals.{lacks_in};
     ghost use Rattle.map_ops.specs.TableAt.{table_changes};
 
-    /// A caller without a transaction.
-    pub(crate) fn new(alloc: Global) -> Session
-        ensures { IsIdle result }
+    /// A caller without a transaction, with room in its log for this many changes, which is written
+    /// if `is_written`.
+    pub(crate) fn new(
+        alloc: Global,
+        changes: usize,
+        is_written: bool,
+    ) -> Result<Session, AllocError>
+        ensures { IfOk result IsIdle }
     {
-        Session {
+        Ok(Session {
             seat: Seat::new(alloc),
             pending: None,
             cursor: None,
-            log: UndoLog::new(alloc),
-        }
+            log: UndoLog::with_capacity(alloc, changes, is_written)?,
+        })
     }
 
     /// Whether a step of this caller lacks the cursor that it acts on.

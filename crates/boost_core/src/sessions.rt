@@ -1,21 +1,27 @@
 //! The sides of all callers, idle. A core makes them at once, so no step makes one later. They are
 //! in one vector, in the order of the callers' numbers; a `Session` itself knows no other. The
-//! vector takes one allocation, and an idle side takes no more memory.
+//! vector takes one allocation, and an idle side takes more memory only for the room in its log.
 ghost use Rattle.std.specs.Prelude.{◌≡◌, IfOk, length};
 ghost use Rattle.std.specs.List.{All};
 ghost use Rattle.boost_core.specs.Sessions.{IsIdle};
 
+use crate::room::Room;
 use crate::session::Session;
 use std::alloc::{AllocError, Global};
 
-/// This number of callers without a transaction.
-pub(crate) fn idle_sessions(alloc: Global, count: usize) -> Result<Vec<Session>, AllocError>
+/// This number of callers without a transaction, each with its room.
+pub(crate) fn idle_sessions(
+    alloc: Global,
+    count: usize,
+    room: Room<'_>,
+) -> Result<Vec<Session>, AllocError>
     ensures length { IfOk result (λ sessions. length sessions.items ≡ count) }
     ensures idle { IfOk result (λ sessions. All IsIdle sessions.items) }
 {
     let mut sessions = Vec::with_capacity(alloc, count)?;
-    for _ in 0..count {
-        sessions.push_reserved(Session::new(alloc));
+    for caller in 0..count {
+        let changes = room.changes.get(caller).copied().unwrap_or(0);
+        sessions.push_reserved(Session::new(alloc, changes, room.is_written)?);
     }
     Ok(sessions)
 }

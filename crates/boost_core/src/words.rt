@@ -8,6 +8,7 @@ ghost use Rattle.boost_core.specs.Machine.{start_with_words};
 
 use crate::claim::Claim;
 use crate::machine::Core;
+use crate::room::Room;
 use key_locks::StripeRight;
 use std::alloc::Global;
 use txn_trace::{Answer, Limits, Op, Refusal, Step};
@@ -32,14 +33,12 @@ impl Core {
         ensures ok { IfOk result (λ core. core ≡ start_with_words limits) }
         ensures err { IfErr result (λ refusal. refusal ≡ Refusal.NoMemory) }
     {
-        Core::with_capacity(alloc, limits, 0, false)
+        Core::with_room(alloc, limits, Room::default())
     }
 
-    /// A new core like that of `with_words`. Takes the memory for this many nodes of the table at
-    /// once, so that the list need not grow before it has more, spares included. If `is_written`,
-    /// that memory is written, so that no later node is the first to touch a page of it, and the
-    /// memory for the entries of as many buckets is taken too. `reserve` makes room for the
-    /// history.
+    /// A new core like that of `with_words`, with this room: history, list and logs need not grow
+    /// before there is more than the room is for. Spares count as nodes. A room that is written
+    /// also has the entries of buckets: as many as it has nodes, or all if these are fewer.
     ///
     /// # Errors
     ///
@@ -47,18 +46,14 @@ impl Core {
     ///
     /// # Cost
     ///
-    /// That of `with_words`, and 40 bytes of memory for each node; if it is written, time in
-    /// proportion to it, and 4 bytes more for each node, up to the largest number of buckets.
-    pub fn with_capacity(
-        alloc: Global,
-        limits: Limits,
-        nodes: usize,
-        is_written: bool,
-    ) -> Result<Core, Refusal>
+    /// That of `with_words`, and the memory for the room: 32 bytes for an entry of the history, 40
+    /// for a node, 48 for a change of a caller with more than eight, and 4 for the entry of a
+    /// bucket. If the room is written, time in proportion to it.
+    pub fn with_room(alloc: Global, limits: Limits, room: Room<'_>) -> Result<Core, Refusal>
         ensures ok { IfOk result (λ core. core ≡ start_with_words limits) }
         ensures err { IfErr result (λ refusal. refusal ≡ Refusal.NoMemory) }
     {
-        Core::make(alloc, limits, true, nodes, is_written)
+        Core::make(alloc, limits, true, room)
     }
 
     /// Whether stripes are words: no step changes it.

@@ -8,7 +8,6 @@ ghost use Rattle.core_tokens.specs.Tokens.{AreCounted, AreTickets};
 
 use crate::caller::Caller;
 use crate::pass::{Pass, passes_of, words_of};
-use crate::room::Room;
 use boost_core::Core;
 use std::alloc::Global;
 use std::sync::ledger::{Blank, Book, Ledger, Share};
@@ -61,7 +60,7 @@ impl<L: Ledger> Booked<L> {
     }
 
     /// Makes what `new` makes, and takes this room at once. If the memory for the room is refused,
-    /// history and table grow as they are used.
+    /// none of it is taken: history, table and logs grow as they are used.
     ///
     /// # Errors
     ///
@@ -69,14 +68,12 @@ impl<L: Ledger> Booked<L> {
     ///
     /// # Cost
     ///
-    /// That of `new`, and the memory for the room: 32 bytes for an entry, 40 for a node. If the
-    /// room is written, time in proportion to it, and 4 bytes more for a node, up to the largest
-    /// number of buckets.
+    /// That of `new`, and what `Core::with_room` says of the room.
     pub fn with_room(
         alloc: Global,
         blank: Blank,
         limits: Limits,
-        room: Room,
+        room: Room<'_>,
     ) -> Result<(Booked<L>, Vec<Pass<L>>), Refusal>
         requires name { blank.name ≡ L.name }
         requires parts { blank.parts ≡ L.parts }
@@ -87,11 +84,10 @@ impl<L: Ledger> Booked<L> {
     {
         let (book, mut all) = blank.open::<L>();
         let none = all.empty();
-        let mut core = match Core::with_capacity(alloc, limits, room.nodes, room.is_written) {
+        let core = match Core::with_room(alloc, limits, room) {
             Ok(core) => core,
             Err(_) => Core::with_words(alloc, limits)?,
         };
-        let _entries = core.reserve(room.entries, room.is_written);
         let booked = Booked { core, book, none };
         let (words, seats) = words_of(alloc, limits)?;
         let passes = passes_of(alloc, limits, words, seats, &mut all)?;

@@ -35,7 +35,6 @@ mod ends;
 pub mod laws;
 mod no_side;
 mod pass;
-mod room;
 mod seen;
 mod turns;
 
@@ -43,4 +42,4 @@ pub use booked::Booked;
 pub use caller::Caller;
 pub use no_side::{NoJob, NoSide};
 pub use pass::Pass;
-pub use room::Room;
+pub use boost_core::Room;

@@ -72,7 +72,7 @@ impl<L: Ledger> SharedMap<L> {
     }
 
     /// Makes what `new` makes, and takes this room at once. If the memory for the room is refused,
-    /// history and table grow as they are used.
+    /// none of it is taken: history, table and logs grow as they are used.
     ///
     /// # Errors
     ///
@@ -80,14 +80,12 @@ impl<L: Ledger> SharedMap<L> {
     ///
     /// # Cost
     ///
-    /// That of `new`, and the memory for the room: 32 bytes for an entry, 40 for a node. If the
-    /// room is written, time in proportion to it, and 4 bytes more for a node, up to the largest
-    /// number of buckets.
+    /// That of `new`, and what `Core::with_room` says of the room.
     pub fn with_room(
         alloc: Global,
         blank: Blank,
         limits: Limits,
-        room: Room,
+        room: Room<'_>,
     ) -> Result<(SharedMap<L>, Vec<Pass<L>>), Refusal>
         requires name { blank.name ≡ L.name }
         requires parts { blank.parts ≡ L.parts }

@@ -1,9 +1,9 @@
 //! A run of scripts, from a new map to the outcomes in the scripts' order; its parts are in the
 //! modules beside. It picks the names of ledger and terms itself, so that its callers need none.
-//! Before a thread starts, the map takes room for what the scripts add if no attempt is repeated
-//! and no change is taken back, so that history and table need not grow under its lock; if that
-//! room is refused, they grow as they are used.
-ghost use Rattle.std.specs.Prelude.{◌≡◌, ◌≤◌, IfOk, IfErr, map, reverse};
+//! Before a thread starts, the map takes room for what the scripts add, so that history, table and
+//! logs need not grow under its lock; if that room is refused, or many attempts are repeated, they
+//! grow as they are used.
+ghost use Rattle.std.specs.Prelude.{◌≡◌, ◌<◌, ◌≤◌, IfOk, IfErr, map, reverse};
 ghost use Rattle.thread_runs.specs.Runs.{IsRunOf, IsRunRefusal};
 
 use crate::gate::Gate;
@@ -92,13 +92,14 @@ fn run_under<L: Ledger + Send + Sync, T: Terms + Send + Sync, G: Gate, R: Thread
     ensures ran { IfOk result (IsRunOf limits workers tries scripts.now) }
     ensures err { IfErr result IsRunRefusal }
 {
-    let room = room_for(scripts, limits);
+    let changes = most_changes(alloc, scripts, workers)?;
+    let room = room_for(scripts, limits, &changes);
     let (map, passes) = SharedMap::<L>::with_room(alloc, blank, limits, room)?;
     let orders = Orders::<L, G, T> {
         map: &map,
         scripts,
         workers,
-        room,
+        entries: room.entries / workers,
         tries,
         gate,
         terms: PhantomData,
@@ -116,19 +117,42 @@ fn run_under<L: Ledger + Send + Sync, T: Terms + Send + Sync, G: Gate, R: Thread
     Ok(Ran { outcomes, trace })
 }
 
-/// Room for what scripts add if no attempt is repeated and no change is taken back: two entries for
-/// each action but a help, and a begin and an end for each script; a node for each put, and as many
-/// again for the dummies of buckets, up to the largest number of buckets. With several workers it
-/// is written before they start.
-fn room_for(scripts: &[Script], limits: Limits) -> Room {
+/// For each worker, the most changes of one of its scripts.
+fn most_changes(
+    alloc: Global,
+    scripts: &[Script],
+    workers: usize,
+) -> Result<Vec<usize>, AllocError>
+    requires { 0 < workers }
+{
+    let mut most = vec![in alloc; 0; workers]?;
+    for (number, script) in scripts.iter().enumerate() {
+        let changes = changes_in(script.actions());
+        let worker = number % workers;
+        most[worker] = changes.max(most[worker]);
+    }
+    Ok(most)
+}
+
+/// Room for what scripts add if no change is taken back: two entries for each action but a help,
+/// and a begin and an end for each script; a node for each put, and as many again for the dummies
+/// of buckets, up to the largest number of buckets; and these changes for each worker. With several
+/// workers the room is written before they start, and has a quarter more entries, for attempts that
+/// are repeated.
+fn room_for(scripts: &[Script], limits: Limits, changes: &[usize]) -> Room<'_> {
     let mut room = Room {
+        entries: 0,
+        nodes: 0,
+        changes,
         is_written: limits.callers() > 1,
-        ..Room::default()
     };
     for script in scripts {
         let actions = script.actions();
         room.entries = room.entries.saturating_add(entries_of(actions));
         room.nodes = room.nodes.saturating_add(puts_in(actions));
+    }
+    if room.is_written {
+        room.entries = room.entries.saturating_add(room.entries / 4);
     }
     let buckets = room.nodes.min(limits.buckets() as usize);
     room.nodes = room.nodes.saturating_add(buckets);
@@ -142,6 +166,14 @@ fn entries_of(actions: &[PackedAction]) -> usize {
         .filter(|packed| !matches!(packed.action(), Action::Help(_)))
         .count();
     calls.saturating_mul(2).saturating_add(2)
+}
+
+/// The number of actions that may change a key.
+fn changes_in(actions: &[PackedAction]) -> usize {
+    actions
+        .iter()
+        .filter(|packed| matches!(packed.action(), Action::Op(Op::Put(..) | Op::PutIf(..) | Op::Take(_))))
+        .count()
 }
 
 /// The number of actions that may put a key.

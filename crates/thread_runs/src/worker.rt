@@ -11,7 +11,7 @@ use crate::growth::Growth;
 use crate::outcome::Outcome;
 use crate::run_script::run_script;
 use crate::terms::Terms;
-use locked_map::{Caller, NoSide, Pass, Room, SharedMap};
+use locked_map::{Caller, NoSide, Pass, SharedMap};
 use std::alloc::{AllocError, Global};
 use std::marker::PhantomData;
 use std::sync::Wait;
@@ -36,8 +36,8 @@ pub(crate) struct Orders<'a, L: Ledger, G: Gate, T: Terms> {
     pub(crate) scripts: &'a [Script],
     /// The number of workers.
     pub(crate) workers: usize,
-    /// The room for what all workers add.
-    pub(crate) room: Room,
+    /// For how many entries each worker makes room before its first script.
+    pub(crate) entries: usize,
     /// How often a script that found a stripe held is tried again.
     pub(crate) tries: u64,
     /// The observer of the run.
@@ -65,7 +65,7 @@ impl<L: Ledger, G: Gate, T: Terms> Orders<'_, L, G, T> {
     {
         let mut caller = pass.caller(alloc, NoSide);
         // If room for all entries is refused, each call makes its own.
-        let _room = caller.reserve(self.room.entries / self.workers, self.room.is_written);
+        let _room = caller.reserve(self.entries, self.workers > 1);
         let outcomes = self.outcomes(rt, alloc, &mut caller)?;
         Ok(WorkerReport { caller, outcomes })
     }

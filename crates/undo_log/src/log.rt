@@ -46,6 +46,36 @@ impl<S: JobStore> Model for JobLog<S> {
     } };
 }
 
+impl<J: UndoJob, const INLINE: usize> JobLog<InlineJobs<J, INLINE>> {
+    /// An empty log at level 0, with room for this many jobs. If `is_written`, the room is written,
+    /// so that no later job is the first to touch a page of it.
+    ///
+    /// # Errors
+    ///
+    /// `AllocError` if memory is refused, so never if there are at most `INLINE` jobs.
+    ///
+    /// # Cost
+    ///
+    /// One allocation if there are more than `INLINE` jobs, none otherwise; if the room is written,
+    /// time in proportion to it.
+    pub fn with_capacity(
+        alloc: Global,
+        jobs: usize,
+        is_written: bool,
+    ) -> Result<JobLog<InlineJobs<J, INLINE>>, AllocError>
+        ensures jobs { IfOk result (λ log. log.jobs ≡ []) }
+        ensures kept { IfOk result (λ log. log.kept ≡ []) }
+        ensures room { IfOk result (λ log. jobs ≤ log.room) }
+        ensures save_room { IfOk result (λ log. log.save_room ≡ 0) }
+        ensures inline { jobs ≤ INLINE → IsOk result }
+    {
+        Ok(JobLog {
+            jobs: InlineJobs::with_capacity(alloc, jobs, is_written)?,
+            kept: Vec::new(alloc),
+        })
+    }
+}
+
 impl<S: JobStore> JobLog<S> {
     /// An empty log at level 0, with room for `S.inline` jobs.
     pub fn new(alloc: Global) -> JobLog<S>

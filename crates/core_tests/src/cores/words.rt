@@ -1,8 +1,8 @@
 //! Operations that are asked for when stripes are words, on cores made by `Core::with_words` and
-//! `Core::with_capacity`. A step cannot ask there, so this module asks with the right to a stripe
+//! `Core::with_room`. A step cannot ask there, so this module asks with the right to a stripe
 //! or with its word. The answers and the history were worked out by hand.
 use crate::devices::{core_of, is_history, limits_of, take_step};
-use boost_core::Core;
+use boost_core::{Core, Room};
 use key_locks::StripeRight;
 use std::alloc::{AllocError, Global};
 use std::process::Abort;
@@ -14,14 +14,24 @@ fn core_with_words(rt: &impl Abort, alloc: Global) -> Core {
     Core::with_words(alloc, limits_of(rt, 3, 8, 8)).expect(rt, "a core")
 }
 
-/// The same core, made with the memory for this many nodes, written or not.
-fn core_with_nodes(rt: &impl Abort, alloc: Global, nodes: usize, is_written: bool) -> Core {
-    Core::with_capacity(alloc, limits_of(rt, 3, 8, 8), nodes, is_written).expect(rt, "a core")
+/// Room for this many entries, for this many nodes, and for these changes of the callers.
+fn room_for(entries: usize, nodes: usize, changes: &[usize], is_written: bool) -> Room<'_> {
+    Room {
+        entries,
+        nodes,
+        changes,
+        is_written,
+    }
 }
 
-/// Whether the memory for more nodes than there can be is refused.
-fn refuses_nodes(rt: &impl Abort, alloc: Global) -> bool {
-    Core::with_capacity(alloc, limits_of(rt, 3, 8, 8), usize::MAX, true).is_err()
+/// The same core, made with room.
+fn core_with_room(rt: &impl Abort, alloc: Global, room: Room<'_>) -> Core {
+    Core::with_room(alloc, limits_of(rt, 3, 8, 8), room).expect(rt, "a core")
+}
+
+/// Whether this room is refused.
+fn refuses(rt: &impl Abort, alloc: Global, room: Room<'_>) -> bool {
+    Core::with_room(alloc, limits_of(rt, 3, 8, 8), room).is_err()
 }
 
 /// Whether stripes are words.
@@ -147,14 +157,27 @@ fn rights_and_words(rt: HostRuntime) -> Result<(), Fail> {
     play(&rt, alloc, &mut core_with_words(&rt, alloc))
 }
 
-/// A core that was made with the memory for fewer nodes than it needs, or for more, written or not,
-/// answers the same.
+/// A core that was made with room for less than it needs, or for more, written or not, answers the
+/// same.
 #[test]
-fn room_for_nodes(rt: HostRuntime) -> Result<(), Fail> {
+fn cores_with_room(rt: HostRuntime) -> Result<(), Fail> {
     let alloc = rt.alloc();
-    play(&rt, alloc, &mut core_with_nodes(&rt, alloc, 1, false))?;
-    play(&rt, alloc, &mut core_with_nodes(&rt, alloc, 1, true))?;
-    play(&rt, alloc, &mut core_with_nodes(&rt, alloc, 1_000, true))?;
-    assert!(rt; refuses_nodes(&rt, alloc));
+    for is_written in [false, true] {
+        let little = room_for(1, 1, &[1], is_written);
+        play(&rt, alloc, &mut core_with_room(&rt, alloc, little))?;
+        let much = room_for(1_000, 1_000, &[8, 9, 1_000, 5], is_written);
+        play(&rt, alloc, &mut core_with_room(&rt, alloc, much))?;
+    }
     Ok(())
+}
+
+/// Room for more entries, nodes or changes than memory can hold is refused.
+#[test]
+fn refused_room(rt: HostRuntime) {
+    let alloc = rt.alloc();
+    let max = usize::MAX;
+    assert!(rt; refuses(&rt, alloc, room_for(max, 0, &[], true)));
+    assert!(rt; refuses(&rt, alloc, room_for(0, max, &[], true)));
+    assert!(rt; refuses(&rt, alloc, room_for(0, 0, &[0, 0, max], true)));
+    assert!(rt; !refuses(&rt, alloc, room_for(0, 0, &[0, 0, 0, max], true)));
 }

@@ -1,16 +1,19 @@
 //! Room that a core is made with, stated by those who know what is to come: a core that grows while
 //! its lock is held keeps the other callers waiting, since each growth copies what is there. It is
-//! a wish and not a limit: if its memory is refused, history and table grow as they are used.
+//! no limit: with more entries, nodes or changes than that, the core grows as it is used.
 
 /// How much memory a core takes at once when it is made, so that it need not grow under the lock.
 /// With the default it takes none.
 #[derive(Clone, Copy, Debug, Default)]
-pub struct Room {
+pub struct Room<'a> {
     /// The entries of the history.
     pub entries: usize,
     /// The nodes of the table: one for each key, for each key that is taken and not yet swept, and
     /// for each stored bucket.
     pub nodes: usize,
+    /// For each caller, the most changes of one of its transactions; none for the callers after the
+    /// last of the slice.
+    pub changes: &'a [usize],
     /// Whether all of it is written once, so that under the lock no page of it is touched for the
     /// first time. With one caller nobody waits for the lock, and writing it only costs time.
     pub is_written: bool,
