@@ -38,8 +38,7 @@ impl Core {
     /// A new core like that of `with_words`. Takes the memory for this many nodes of the table at
     /// once, so that the list need not grow before it has more, spares included. If `is_written`,
     /// that memory is written, so that no later node is the first to touch a page of it, and the
-    /// memory for the entries of as many buckets is taken too. `reserve` makes room for the
-    /// history.
+    /// memory for as many buckets is taken too. `reserve` makes room for the history.
     ///
     /// # Errors
     ///

@@ -81,8 +81,8 @@ impl<L: Ledger> SharedMap<L> {
     /// # Cost
     ///
     /// That of `new`, and the memory for the room: 32 bytes for an entry, 40 for a node. If the
-    /// room is written, time in proportion to it, and 4 bytes more for a node, up to the largest
-    /// number of buckets.
+    /// room is written, time in proportion to it, and memory for as many buckets as nodes, 4 bytes
+    /// each, up to the largest number of buckets.
     pub fn with_room(
         alloc: Global,
         blank: Blank,
