@@ -38,7 +38,7 @@ replied run c op reply es some =
     let (is, goes) = tested (option_eq nat_eq reply (reply_of run.last op)) (did run op) es some in
     (same_option reply (reply_of run.last op) is, goes)
 
--- Both reads were of the map, which they leave.
+-- Both reads were of the map, and leave it unchanged.
 read : (m : Map) (c txn from to : ℕ) (had has : Option ℕ) (es : List Entry) → IsSome (alone m (Began c txn ∷ reading c from to had has ++ es))
     → (had ≡ get m from) × (has ≡ get m to) × (alone m (Began c txn ∷ reading c from to had has ++ es) ≡ going (Some (start m)) es)
 read m c txn from to had has es some =

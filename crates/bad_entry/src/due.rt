@@ -51,8 +51,8 @@ pub(crate) fn fed_by_commits(
     Ok(checker)
 }
 
-/// The value of a key after a legal history, in the map with what open transactions changed: the
-/// reply that is due to an operation on it.
+/// The value of a key after a legal history, including the changes of open transactions: the reply
+/// that is due to an operation on it.
 ///
 /// # Errors
 ///
@@ -86,7 +86,7 @@ pub fn value_now(
 ///
 /// # Cost
 ///
-/// That of `serial_check`'s checker for each entry, and two looks at the key.
+/// For each entry, that of `serial_check`'s checker and two looks at the key.
 pub fn last_commit(
     alloc: Global,
     entries: &[SmallEntry],

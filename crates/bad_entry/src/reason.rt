@@ -223,7 +223,7 @@ fn commit_reason(alloc: Global, entries: &[SmallEntry], caller: u64) -> Result<R
 ///
 /// # Cost
 ///
-/// That of `serial_check`'s checker for each entry, twice, and two looks at a key.
+/// For each entry, at most twice that of `serial_check`'s checker and two looks at a key.
 pub fn by_commits(
     alloc: Global,
     entries: &[SmallEntry],

@@ -61,8 +61,8 @@ fn push_after_op_name(stack: &mut Vec<Expected>, word: &str) -> Result<(), Alloc
     }
 }
 
-/// Pushes the elements that the word of this element makes expected after it; none if it is no word
-/// of an entry or an operation.
+/// Pushes the elements that are expected after this element, by its word; none if it is no word of
+/// an entry or an operation.
 fn push_after(
     stack: &mut Vec<Expected>,
     is_old: bool,

@@ -70,7 +70,7 @@ fn is_op_name(word: &str) -> bool
     matches!(word, "put" | "take" | "get" | "put_if")
 }
 
-/// Whether an array has at most this many elements, if that is asked for.
+/// Whether a value is an array, and if its length is asked for, no longer than this.
 fn is_array(ranged: bool, most: usize, value: &Value) -> bool
     ensures { result ≡ is_array ranged most (view value.now) }
 {

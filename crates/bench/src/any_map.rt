@@ -14,7 +14,7 @@ pub(crate) trait AnyMap {
 }
 
 /// Stores a bucket by its three steps, as helper 0. If one is refused the bucket is not stored, and
-/// its keys are sought from its parent's dummy.
+/// its keys are sought from the dummy of its nearest stored ancestor.
 pub(crate) fn store_bucket(table: &mut Table, bucket: u32) {
     let sought = table.init_seek(0, u64::from(bucket));
     let linked = table.init_link(0);

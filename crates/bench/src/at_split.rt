@@ -33,7 +33,8 @@ fn regular_there(list: &NodeList, cursor: &Cursor) -> Option<NodeRef>
     None
 }
 
-/// Links a new node, sought from a dummy. `None` if its sort key is there.
+/// Links a new node, sought from a dummy. `None` if its sort key is there, or if no dummy before it
+/// is at `from`; in the second case the spare's place stays in use.
 pub(crate) fn put(
     list: &mut NodeList,
     from: NodeRef,

@@ -200,7 +200,7 @@ limits_stay old new step answer move = at answer move
     at (answers.Refused refusal) move = ap (λ (s : State). s.limits) move.state
     at _ move = ap (λ (s : State). s.limits) move.state
 
--- The tests by the call of its caller's number and of the limits.
+-- The caller's number and the limits are in range, as the call has tested.
 pub within_there : (inside here : Sizes) (c n m : ℕ) → inside ≡ here → c < n → n ≡ m → m ≡ inside.callers → nat_le here.callers c ≡ false
 within_there inside here c n m same less is callers = ap (λ (l : Sizes). nat_le l.callers c) (sym same) ∙ le_false inside.callers c (omega arith)
 

@@ -31,7 +31,7 @@ due_same P m m' (job ∷ jobs) same all due = (
   due_same P (set_at m (key_of_job job) (value_before job)) (set_at m' (key_of_job job) (value_before job)) jobs (λ k passes. set_at_same m m' (key_of_job job) (value_before job) k (same k passes)) all.1 due.1,
 )
 
--- To set the key of an operation to its value before restores the map before it.
+-- The map before an operation is restored if the operation's key is set to the value that it had.
 pub set_at-after : (m : Map) (op : Op) → set_at (after m op) (key_of op) (reply_of m op) ≡ m
 set_at-after m op = same_map (set_at (after m op) (key_of op) (reply_of m op)) m (λ q. get-set_at (after m op) (key_of op) (reply_of m op) q ∙ elim (cases_eq q (key_of op)) [
   | inl same ↦ ap (λ b. cond b (reply_of m op) (get (after m op) q)) (eq-eqb q (key_of op) same) ∙ ap (get m) (sym same)

@@ -68,7 +68,7 @@ no_helper_gap t h is = helper_gap_is t h ∙ at (helper_cursor t h) (sym (fits_b
     at None stale = refl
     at (Some cursor) stale = no_gap t cursor stale
 
--- If all helpers but one keep their cursors, or all do.
+-- A helper still has its cursor if all helpers but another one keep theirs, or all do.
 pub kept_cursor : (t t' : TableAt) (k h : ℕ) → KeepsCursors t t' k → h ≢ k → helper_cursor t' h ≡ helper_cursor t h
 unfolding KeepsCursors
 kept_cursor t t' k h keeps other = keeps h other

@@ -28,8 +28,8 @@ served w t' placed' = record { limits = w.limits; history = w.history; counts = 
 pub same_content : (t t' : TableAt) → regular t' ≡ regular t → content t' ≡ content t
 same_content t t' same = ap map_of same
 
--- The invariants of a core hold if the pairs and the spares are unchanged, and the numbers of
--- buckets and helpers.
+-- The invariants of a core still hold if the pairs, the spares, the largest size and the number of
+-- helpers are unchanged.
 pub tells_table : (w : World) → Tells w
     → (t' : TableAt) (placed' : Option Owner) → regular t' ≡ regular w.table → Follows w.table t' → KeepsSpares w.table t' → largest_of t' ≡ largest_of w.table → length (helps_of t') ≡ length (helps_of w.table) → IsFresh t' w.sessions placed'
     → Tells (served w t' placed')

@@ -34,7 +34,8 @@ lists_of state old new step answer is lists = subst (λ s. Lists s step answer n
 pub lists_by_of : (claim : Claim) (state old new : State) (step : Step) (answer : Answer) → state ≡ old → ListsBy claim state step answer new → ListsBy claim old step answer new
 lists_by_of claim state old new step answer is lists = subst (λ s. ListsBy claim s step answer new) is lists
 
--- Nothing has changed if the list, the table, or the nodes are unchanged.
+-- The machine's nodes and change number are unchanged if the list, the table, or the table's nodes
+-- and change number are.
 pub kept : (w w' : World) → KeepsList w.table w'.table → Keeps (state_of w) (state_of w')
 kept w w' same = record { nodes = ap (λ l. seen l.nodes) same; changes = ap (λ l. l.changes) same }
 
@@ -209,7 +210,7 @@ module _ (w : World) (tells : Tells w) (c : ℕ) (x : Session) (at : slice_get w
     not_stale op (inl is) = cc (is)
     not_stale op (inr is) = is
 
-    -- A stale right has used up a stamp; a word uses none.
+    -- A stale right has used up a stamp if the operation takes a node; a word uses none.
     asked_with : (op : Op) (stripe : ℕ) (own : Answer) → IsAsked c stripe op x w.table w.locks own y w'.table locks' → ListsAsk Right (state_of w) (steps.Ask c op) (unless_busy own) (state_of w')
     asked_with op stripe answers.Asked is = let lists = asked op stripe answers.Asked is in record { nodes = lists.nodes; stamp = lists.stamp }
     asked_with op stripe (answers.Busy holder) is = let lists = asked op stripe (answers.Busy holder) is in record { nodes = lists.nodes; stamp = lists.stamp }

@@ -123,7 +123,7 @@ goes_early : (claim : Claim) (state : State) (step : Step) (refusal : Refusal) �
 goes_early Lock state step refusal early move = move
 goes_early claim state step refusal early move = inr (may_refuse claim refusal early, move)
 
--- Memory is refused only if the claim reserves something.
+-- If a claim reserves something, memory may be refused.
 pub goes_lacking : (claim : Claim) (state : State) (step : Step) → 0 < reserved_by claim step → Move state step (answers.Refused NoMemory) state → Goes claim state step (answers.Refused NoMemory) state
 goes_lacking Lock state step some move = move
 goes_lacking Right state step some move = inr (refl, move)
@@ -134,7 +134,8 @@ pub reserved_least : (claim : Claim) (step : Step) → reserved_by claim step �
 reserved_least Lock step = omega arith
 reserved_least _ step = omega arith
 
--- If a test of a step refuses it, nothing else is required of a claim.
+-- A refusal by a test may be the answer with every claim: the claim is a lock, or the refusal is
+-- not a late one.
 early_or_lock : (claim : Claim) (state : State) (step : Step) (refusal : Refusal) → IsClaim claim state step → refusal_of state step ≡ Some refusal → (claim ≡ Lock) ⊎ (is_late refusal ≡ false)
 early_or_lock Lock state step refusal claims is = inl refl
 early_or_lock _ state (steps.Ask c op) refusal claims is = inr (ask_early state c op refusal is)
@@ -162,7 +163,7 @@ reserved_few (steps.Ask c (Put k v)) = omega arith
 reserved_few (steps.Ask c _) = omega arith
 reserved_few _ = omega arith
 
--- If a step that reserves nothing has its room, memory is not refused.
+-- A step that reserves something may be refused memory, if no test refuses it.
 pub no_memory : (state : State) (step : Step) → refusal_of state step ≡ None → (0 < reserved step) → Move state step (answers.Refused NoMemory) state
 no_memory state (steps.Begin c) none some = lacks state (steps.Begin c) NoMemory none tt
 no_memory state (steps.Ask c op) none some = lacks state (steps.Ask c op) NoMemory none tt

@@ -78,7 +78,7 @@ begin_closed half s c none =
     let second = first_none (not (is_closed s.phase)) _ _ first.1 in
     closed_is s.phase (not-false (is_closed s.phase) second.0)
 
--- A step that these three tests pass finds a transaction with nothing under way.
+-- A step that passes these three tests finds a transaction with nothing under way.
 pub three_tests : (s : Seat) (a b c : Refusal) (rest : Option Refusal) → cond (is_closed s.phase) (Some a) (cond (is_leaving s.phase) (Some b) (cond (is_waiting s.phase) (Some c) rest)) ≡ None → (s.phase ≡ Opened) × (rest ≡ None)
 three_tests s a b c rest none =
     let first = first_none (is_closed s.phase) a _ none in

@@ -237,8 +237,8 @@ impl Core {
         answer
     }
 
-    /// Takes these steps in a row, and answers their answers. Room for all answers is made first.
-    /// If stripes are words, none of the steps may be an `Ask`.
+    /// Takes these steps in a row, and gives the answer to each. Room for all answers is made
+    /// first. If stripes are words, none of the steps may be an `Ask`.
     ///
     /// # Errors
     ///

@@ -7,7 +7,7 @@ ghost use Rattle.boost_core.specs.Placed.{placed_then};
 
 use txn_trace::{Answer, Step};
 
-/// The owner of a cursor, as the state of the machine names the one that the last step placed.
+/// The owner of a cursor. By it the state of the machine names the cursor that was placed last.
 #[derive(Clone, Copy, Debug, PartialEq, Eq)]
 pub enum Owner {
     /// The caller of this number.

@@ -37,8 +37,8 @@
 //! number of keys, pairs or entries. Some calls have none.
 //!
 //! On a striped map the transaction may hold more stripes than before after a refusal with
-//! `NoMemory`, and holds every stripe after a 7. A `boostmap_help` that is refused may have
-//! initialised buckets.
+//! `NoMemory`, and holds every stripe after a 7. A `boostmap_help` that is refused may have doubled
+//! the table and initialised buckets.
 //!
 //! No export has a `requires`: a caller's number, a level or a limit that is out of range, a call
 //! out of order, and an empty handle each have a status. The rest of what C must do is in the
@@ -53,8 +53,9 @@
 //! call except a `free`. The judge's verdict is that of the checker's definition on the entries
 //! that it was fed, which are those that C's numbers stand for.
 //!
-//! Crossing from C to Rattle and back takes no memory: `boostmap_count`, with its caller's loop, is
-//! 23 instructions. Calls take constant time and no memory unless they say otherwise.
+//! Crossing from C to Rattle and back takes no memory and little time: `boostmap_count`, with its
+//! caller's loop, is 23 instructions. Calls take constant time and no memory unless they say
+//! otherwise.
 #![tactic(auto)]
 
 mod c_entry;

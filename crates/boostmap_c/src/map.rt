@@ -12,8 +12,8 @@ use boost_core::Core;
 use std::alloc::Global;
 use txn_trace::{Limits, Refusal};
 
-/// Makes a map without keys, for 1 to 64 callers, 1 to 4096 stripes and at most a number of buckets
-/// that is a power of two from 2 to 65536.
+/// Makes a map without keys, for 1 to 64 callers, with 1 to 4096 stripes and at most `buckets`
+/// buckets, a power of two from 2 to 65536.
 ///
 /// # Errors
 ///
@@ -59,7 +59,7 @@ pub extern "C" fn boostmap_new(
 ///
 /// # Cost
 ///
-/// Time in proportion to the nodes and the callers; takes no memory.
+/// Time in proportion to the nodes, the callers and the largest number of buckets; takes no memory.
 #[unsafe(no_mangle)]
 pub extern "C" fn boostmap_free(alloc: Global, map: &mut Handle) -> u32
     ensures { Frees map.old.held.core result map.new.held.core }
@@ -87,13 +87,15 @@ pub extern "C" fn boostmap_count(alloc: Global, map: &mut Handle, word: &mut u64
     DONE
 }
 
-/// Doubles the table if it has more than two keys for each bucket, then initialises the bucket of a
-/// key. Nothing else doubles the table: call it now and then beside puts.
+/// Doubles the table if it has more than two keys for each bucket and is not at its largest size,
+/// then initialises the bucket of a key. Nothing else doubles the table: call it now and then
+/// beside puts.
 ///
 /// # Errors
 ///
 /// 3 if the handle has no map, else as `Core::help`: 28 (`NoSuchHelper`), 32 (`StampsUsedUp`), 30
-/// (`NoMemory`). Buckets that were initialised before the refusal stay initialised.
+/// (`NoMemory`). A doubling before the refusal stays, and buckets that were initialised stay
+/// initialised.
 ///
 /// # Cost
 ///

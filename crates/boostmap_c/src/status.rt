@@ -12,7 +12,8 @@ pub(crate) const DONE: u32 = 0;
 /// Done, at a key without a value.
 pub(crate) const ABSENT: u32 = 1;
 
-/// Another caller, the word, holds the key's stripe, or one of those that the call takes.
+/// Another caller holds the key's stripe, or one of those that the call takes; the word is its
+/// number.
 pub(crate) const BUSY: u32 = 2;
 
 /// The handle owns nothing.

@@ -1,7 +1,7 @@
 //! The content of a striped map, in a transaction that takes every stripe. These are the only calls
-//! that look at the whole map. Each takes time in proportion to the stripes, and the read also to
-//! the pairs, which it sorts. After one that is done, and after a 7, no operation of another caller
-//! is done until the transaction ends.
+//! that look at the whole map. Each takes time in proportion to the stripes; the read also walks
+//! over each stripe's hash map, and sorts the pairs. After one that is done, and after a 7, no
+//! operation of another caller is done until the transaction ends.
 ghost use Rattle.boostmap_c.specs.Members.{Numbers};
 ghost use Rattle.boostmap_c.specs.StripedContents.{Counts, ReadsMap};
 

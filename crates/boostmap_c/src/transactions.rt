@@ -71,7 +71,8 @@ pub extern "C" fn boostmap_save(alloc: Global, map: &mut Handle, caller: u64, wo
 ///
 /// # Cost
 ///
-/// That of an operation for each change; may take memory, only for the history.
+/// That of an operation for each change that is taken back, and a step for each savepoint that is
+/// dropped; may take memory, only for the history.
 #[unsafe(no_mangle)]
 pub extern "C" fn boostmap_back(
     alloc: Global,
@@ -100,7 +101,7 @@ pub extern "C" fn boostmap_back(
 ///
 /// # Cost
 ///
-/// A step for each change and each stripe; takes no memory.
+/// A step for each change, each savepoint and each stripe; takes no memory.
 #[unsafe(no_mangle)]
 pub extern "C" fn boostmap_commit(
     alloc: Global,
@@ -127,7 +128,8 @@ pub extern "C" fn boostmap_commit(
 ///
 /// # Cost
 ///
-/// That of an operation for each change, and a step for each stripe; takes no memory.
+/// That of an operation for each change, and a step for each savepoint and each stripe; takes no
+/// memory.
 #[unsafe(no_mangle)]
 pub extern "C" fn boostmap_abort(
     alloc: Global,

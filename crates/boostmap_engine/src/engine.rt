@@ -37,7 +37,8 @@ use std::io::{Read, Write};
 ///
 /// # Cost
 ///
-/// That of the steps, and time and memory in proportion to the file and the report.
+/// That of `Core::new` and of the steps, and time and memory in proportion to the file and the
+/// report.
 pub fn replay<R: Read, W: Write>(alloc: Global, input: &mut R, output: &mut W) -> Result<(), Fault>
     ensures reports { OnOk result (Writes IsReportOf (R.remaining input.old)
         (W.contents output.old) (W.contents output.new)) }

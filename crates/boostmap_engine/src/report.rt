@@ -103,7 +103,8 @@ fn text_of_run(alloc: Global, limits: Limits, steps: Vec<PackedStep>) -> Result<
 ///
 /// # Cost
 ///
-/// That of the steps, and time and memory in proportion to the bytes and the report.
+/// That of `Core::new` and of the steps, and time and memory in proportion to the bytes and the
+/// report.
 pub fn report(alloc: Global, bytes: Vec<u8>) -> Result<String, Fault>
     ensures ok { IfOk result (λ text. IsReportOf bytes.items (string_bytes text)) }
     ensures err { IfErr result (HasNone IsNoStepFile bytes.items) }

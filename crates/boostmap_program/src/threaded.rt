@@ -37,8 +37,7 @@ struct ThreadedHistory {
 ///
 /// # Cost
 ///
-/// That of the calls, and time in proportion to the bytes and, for each worker, to the history;
-/// memory in proportion to the bytes, besides that of the calls.
+/// That of `run_scripts`, and time and memory in proportion to the bytes.
 fn run_in_threads<R: Threads + Wait + Sync>(
     rt: &R,
     alloc: Global,
@@ -104,8 +103,8 @@ fn fault_of(refusal: Refusal) -> Fault
 ///
 /// # Cost
 ///
-/// That of the calls, and time in proportion to the file and, for each worker, to the history;
-/// memory in proportion to the file and the history, besides that of the calls.
+/// That of `thread_runs::run_scripts`, and time and memory in proportion to the file and the
+/// history.
 pub fn run<T: Threads + Wait + Sync, R: Read, W: Write>(
     rt: &T,
     alloc: Global,

@@ -68,7 +68,7 @@ is_dummy_regular bucket n regular = go n.kind refl
     go Dummy is = absurd (regular is)
     go Regular is = rw is refl
 
--- A linked dummy is found by the search for its bucket's.
+-- If the dummy of a bucket is linked, `has_dummy` is true of the bucket.
 pub dummy_had : (nodes : List NodeAt) (place bucket : ℕ) (n : NodeAt) → node_of nodes place ≡ Some n → n.kind ≡ Dummy → n.at ≡ dummy_at bucket → has_dummy nodes bucket ≡ true
 unfolding has_dummy node_of
 dummy_had [] place bucket n is dummy same = absurd (some-none (sym is))
@@ -156,7 +156,7 @@ dummy_there n bucket fits keyed same = go n.kind refl
 pub keyed_dummy : (n : NodeAt) → n.kind ≡ Dummy → IsKeyedNode n
 keyed_dummy n dummy regular = absurd (cc (sym dummy ∙ regular))
 
--- A change that leaves the kind and the split key of a node unlinks no dummy.
+-- A change of a node leaves `has_dummy` unchanged if it leaves `is_dummy_of` unchanged.
 pub has_dummy-changed_at : (nodes : List NodeAt) (place : ℕ) (change : NodeAt → NodeAt) (bucket : ℕ) → ((n : NodeAt) → is_dummy_of bucket (change n) ≡ is_dummy_of bucket n) → has_dummy (changed_at nodes place change) bucket ≡ has_dummy nodes bucket
 unfolding has_dummy changed_at
 has_dummy-changed_at [] place change bucket same = refl

@@ -135,8 +135,8 @@ impl Segments {
         }
     }
 
-    /// Stores a bucket with its dummy. Takes memory for the bucket's segment only if no bucket of
-    /// it is stored and none is left that was taken before.
+    /// Stores a bucket with its dummy. Takes memory only if no bucket of the bucket's segment is
+    /// stored and all memory that was taken before is used.
     ///
     /// # Errors
     ///

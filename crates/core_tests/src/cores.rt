@@ -82,7 +82,7 @@ fn has_pairs(
     has_map(rt, alloc, core, wanted)
 }
 
-/// Returns to savepoints, to one of them twice, and to the beginning.
+/// Returns to a savepoint twice, to one that is gone, which is refused, and to the beginning.
 const SAVEPOINTS: [(Call, Answer); 14] = [
     (Call::Run(Step::Begin(0)), Answer::Began(1)),
     (Call::Op(0, Op::Put(1, 10)), Answer::Done(None)),
@@ -478,8 +478,8 @@ fn put_and_undo_nine(rt: &impl Abort, alloc: Global, core: &mut Core) -> Result<
     has_pairs(rt, alloc, core, &[])
 }
 
-/// Nine changes of one transaction; eight of their jobs are in the caller's log itself. Each step
-/// back takes the newest key out, and leaves those before it.
+/// Nine changes of one transaction, one more than the caller's log has places for in itself. Each
+/// step back takes the newest key out, and leaves those before it.
 #[test]
 fn nine_undone_newest_first(rt: HostRuntime) -> Result<(), Fail> {
     let alloc = rt.alloc();

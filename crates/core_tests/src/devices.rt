@@ -1,6 +1,6 @@
 //! The calls of a core, each in a function without a contract, so that a test has only its own
 //! safety to prove. All modules that run a core share them, so each call is proved once. A call
-//! that requires stripes that are no words tests this first, and fails the test if it is not so.
+//! whose contract excludes stripes that are words checks this first: if they are, the test fails.
 use boost_core::Core;
 use std::alloc::{AllocError, Global};
 use std::process::Abort;
@@ -30,7 +30,7 @@ pub(crate) fn core_if_made(alloc: Global, limits: Limits) -> Option<Core> {
     }
 }
 
-/// Takes a step; if stripes are words, none that asks for an operation.
+/// Takes a step. If stripes are words, a step that asks for an operation fails the test.
 pub(crate) fn take_step(core: &mut Core, step: Step) -> Result<Answer, Fail> {
     if core.words() && matches!(step, Step::Ask(..)) {
         return Err("stripes are words".into());

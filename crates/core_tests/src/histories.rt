@@ -522,7 +522,7 @@ fn judge_rows(
     Ok(())
 }
 
-/// The history with savepoints up to the return to the first.
+/// The history with savepoints without its last entry, the return to the second.
 fn back_at_1() -> &'static [Entry] {
     &WITH_SAVEPOINTS[..15]
 }

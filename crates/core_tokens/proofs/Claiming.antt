@@ -116,7 +116,7 @@ tried_next k d has = tried_in k.claims.tried k.limits.stripes d.caller d.call d.
 pub tried_step : (tried : Option Trial) (stripes : ℕ) (d : Drive) (step : Step) → step_of d ≡ Some step → HasTriedIf tried stripes (step_of d) → HasTriedStep tried stripes step
 tried_step tried stripes d step is = subst (HasTriedIf tried stripes) is
 
--- The size does not matter to that.
+-- This still holds after the drive has noted a size.
 tried_sized_in : (tried : Option Trial) (stripes c size : ℕ) (call : Call) (phase : Phase) → HasTriedIf tried stripes (step_in c call phase) → HasTriedIf tried stripes (step_in c call (sized_in size phase))
 tried_sized_in tried stripes c size call (Doubling seen) has = tt
 tried_sized_in tried stripes c size call phase has = has

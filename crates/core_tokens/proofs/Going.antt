@@ -87,7 +87,7 @@ pub no_second : (tried : Option Trial) (m : State) (seen : List Entry) (d : Driv
 no_second tried m seen d next answers.Placed not_so = absurd (not_so refl)
 no_second tried m seen d next a not_so = (refl, refl, refl)
 
--- The size is noted.
+-- A call stays in progress, and in step, after its drive has noted the size.
 pub goes_sized : (base seen : List Entry) (d : Drive) (size : ℕ) → GoesOn base seen d → GoesOn base seen (sized_of size d)
 goes_sized base seen d size goes = record {
   entries = goes.entries ∙ ap (λ h. base ++ h) (sym (made-sized size d.caller d.call d.phase));

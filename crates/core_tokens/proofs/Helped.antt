@@ -78,7 +78,7 @@ second_reaches known tried m n seen seen' c key bucket way again answers.Placed 
 second_reaches known tried m n seen seen' c key bucket way again a half e to is reaches second =
     told_is known n c key bucket (told_init_seek way again a) e (second.2 ∙ is) (subst (λ x. Reaches known x bucket (told_init_seek way again a)) (sym second.0) reaches)
 
--- After a turn of a call that keeps to a bucket, and after its first turn.
+-- The call keeps to its bucket over each turn; its first turn gives it the bucket.
 keeps : (known : Type 0) (tried : Option Trial) (m n : State) (seen seen' : List Entry) (c key bucket : ℕ) (phase : Phase) (e : Drive) → (known → IsWhole m × HelpSuits m c phase) → IsTo bucket phase → Turned tried m seen (helping c key phase) n seen' e → Told known n key bucket e
 keeps known tried m n seen seen' c key bucket (Initialising way again) e suits to turned = at (nat_lt again 8) turned
   where

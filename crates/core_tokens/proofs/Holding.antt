@@ -186,7 +186,7 @@ held_in_step n limits number seen b e end r whole ins shape whole_is end_is brok
     let ended = ends_in_step n limits number seen e b whole end r ins (whole_is ∙ seat) end_is broken ends_is in
     ((ended.sound, ins), ended.plain)
 
--- A token breaks exactly if its hold has the end that it is out of step.
+-- A token breaks exactly if its hold ends with `OutOfStep`.
 plain_in : (call : Call) (outcome : End) → is_odd call outcome ≡ false → false ≡ is_out outcome
 plain_in call (ends.Refused OutOfStep) plain = absurd (false≢true (sym plain ∙ no_out call))
 plain_in call (ends.Refused r) plain = refl

@@ -57,7 +57,7 @@ saves_none step is = (refl, refl)
 pub room_for_none : (n : Noted) (step : Step) → adds_entry step ≡ false → owed_by (seat_after n.entries) ≤ n.room → HasRoomFor n step
 room_for_none n step adds owes = let none = saves_none step adds in room_free n step none.0 adds none.1 owes
 
--- A step needs no more room either if something is owed.
+-- Nor does a step that reserves nothing, if something is owed.
 room_owed : (n : Noted) (s : Seat) (step : Step) → seat_after n.entries ≡ Some s → 0 < owed_in s.standing s.phase → reserved step ≡ 0 → is_save step ≡ false → owed_by (seat_after n.entries) ≤ n.room → HasRoomFor n step
 room_owed n s step at some free save owes =
     let owed_is : owed_by (seat_after n.entries) ≡ owed_in s.standing s.phase = ap owed_by at in record {

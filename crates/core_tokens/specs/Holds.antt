@@ -33,7 +33,7 @@ pub data How : Type 0 where
   HadNoRoom : How
   TookTurn : How
 
--- Whether a call has ended, in a way that it may not.
+-- Whether a call has ended with an end that it may not have.
 abbrev pub odd_if : Call → Option End → Bool
 odd_if call None = false
 odd_if call (Some outcome) = is_odd call outcome

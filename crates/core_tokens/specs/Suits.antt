@@ -86,8 +86,8 @@ Suits m s c call (Last work answer) = is_odd call (end_last call work answer) �
 Suits m s c call (Refused refusal) = is_odd call (ends.Refused refusal) ≡ false
 Suits m s c call phase = (is_help call ≡ true) × HelpSuits m c phase
 
--- The core has the limits, the caller's entries are those that were seen, and the drive is as it
--- was told last.
+-- The core has the limits, the caller's entries are those that were seen, and the caller's seat,
+-- cursor and helper are as the drive was told last.
 pub record IsInStep (m : State) (limits : Sizes) (c : ℕ) (seen : List Entry) (d : Drive) : Type 0
   where
     pub same_limits : m.limits ≡ limits

@@ -241,8 +241,8 @@ impl<L: Ledger, S: Side> Caller<L, S> {
         self.seen.txn()
     }
 
-    /// The number of savepoints of its transaction. For a broken token, which may do nothing, the
-    /// answer tells only what the entries say that have a row.
+    /// The number of savepoints of its transaction. For a broken token, which may do nothing,
+    /// entries without a row do not change the answer.
     pub fn levels(&self) -> u64
         ensures { (s : Seat) → seat_after self.now.seen ≡ Some s → length s.kept ≡ result + 1 }
     {
@@ -264,8 +264,8 @@ impl<L: Ledger, S: Side> Caller<L, S> {
     ///
     /// # Cost
     ///
-    /// Time in proportion to the rights that it holds, and one try of one word; takes memory only
-    /// if there is no room for one more right.
+    /// Time in proportion to the rights that it holds, and at most one try of one word; takes
+    /// memory only if there is no room for one more right.
     pub fn try_word(&mut self, op: Op) -> Result<(), Refusal>
         ensures same { IsSameSeen self.old self.new }
         ensures side { self.new.side ≡ self.old.side }
@@ -312,8 +312,8 @@ impl<L: Ledger, S: Side> Caller<L, S> {
     ///
     /// # Cost
     ///
-    /// That of `try_word` for an operation, and else constant time; takes memory only if there is
-    /// no room for one more right, or for the level of a save.
+    /// That of `try_word` for an operation, and else amortized constant time; takes memory only if
+    /// there is no room for one more right, or for the level of a save.
     pub fn make_ready(&mut self, call: Call) -> Result<(), Refusal>
         ensures free { OnOk result (refused_by self.old call ≡ None) }
         ensures same { OnOk result (IsSameSeen self.old self.new) }
@@ -352,8 +352,9 @@ impl<L: Ledger, S: Side> Caller<L, S> {
     ///
     /// # Cost
     ///
-    /// A step for each right that is given back, and a step or a run for each side job that is
-    /// dropped or taken back; takes no memory.
+    /// A step for each right that is given back and for each savepoint and side job that is
+    /// dropped, and a run of each side job that takes a change back; takes no memory but what these
+    /// runs take.
     pub fn follow(&mut self, end: End)
         requires { CanFollow end self.old.side }
         ensures same { IsSameSeen self.old self.new }

@@ -48,7 +48,7 @@ impl Model for Claims {
 impl Claims {
     ghost use Rattle.key_words.specs.Seats.{IsOf, known, stripes_of};
 
-    /// A seat that has tried nothing. Takes no memory.
+    /// The claims by this seat, which has tried nothing. Takes no memory.
     pub(crate) fn new(alloc: Global, words: Arc<KeyWords, Global>, seat: KeySeat) -> Claims
         requires seat { IsOf seat words.value }
         requires held { (known seat).held ≡ [] }

@@ -26,7 +26,7 @@ pub(crate) fn end_in(is_broken: bool, end: Option<End>) -> Option<End>
     end
 }
 
-/// Whether a call has ended, in a way that it may not.
+/// Whether a call has ended with an end that it may not have.
 fn odd_if(call: Call, end: Option<End>) -> bool
     ensures { result ≡ odd_if call end }
 {

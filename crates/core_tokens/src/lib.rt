@@ -4,8 +4,8 @@
 //!   and a pass makes the token of its number, once. A token keeps in `seen` the entries that its
 //!   calls have added to the history. It also has a side value: the changes that a transaction
 //!   makes to it are taken back with the transaction's other changes.
-//! - A *hold* is one turn of a call, one step of the core or two. Who calls `Caller::hold` has the
-//!   core for as long as that takes: the core makes the moves of the turn, and `seen` gains their
+//! - A *hold* is one turn of a call, one step of the core or two. Whoever calls `Caller::hold` has
+//!   the core until it answers: the core makes the moves of the turn, and `seen` gains their
 //!   entries. Other callers may take their steps between any two holds.
 //! - A call is `make_ready`, its holds until one answers the end, and `follow` with this end.
 //! - Unless its token has the right to the stripe of its key, an operation first tries the stripe's

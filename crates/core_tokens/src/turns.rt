@@ -70,8 +70,8 @@ fn take_one<L: Ledger>(
     true
 }
 
-/// Takes the turn of two steps that the drive shows. The steps are no parameters, since the calling
-/// function would then keep room for both of them in each hold.
+/// Takes the turn of two steps that the drive shows. The steps are not passed, since the calling
+/// function would then keep both of them on its stack in each hold.
 #[inline(never)]
 fn take_pair<L: Ledger>(
     seen: &mut Seen<L>,

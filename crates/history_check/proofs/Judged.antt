@@ -7,7 +7,7 @@ use Rattle.txn_words.specs.Shape.{is_shaped}
 use Rattle.txn_trace.specs.Legal.{IsLegal, replies_hold}
 use Rattle.txn_trace.proofs.Breaking.{is_right, replies_hold-push}
 
--- No other entry has a wrong reply.
+-- Only a Did can have a wrong reply.
 right_other : (g : List Entry) (e : Entry) → ((c : ℕ) (x : Option ℕ) → e ≡ Did c x → ⊥) → is_right g e ≡ true
 right_other g (Did c x) not_did = absurd (not_did c x refl)
 right_other g _ not_did = refl

@@ -25,7 +25,7 @@ has_of-set_at : (m : Map) (r : ℕ) (old new : BTreeMap ℕ ℕ) (k : ℕ) (v : 
 has_of-set_at m r old new k v has updates q at =
     updates q ∙ (λ i. cond (is_at-nat k q i) v (has q at i)) ∙ sym (get-set_at m k v q)
 
--- A key of another remainder has another value.
+-- If a key gets another value, or is gone, the sorted maps of other remainders stay right.
 has_of-other : (m : Map) (r : ℕ) (values : BTreeMap ℕ ℕ) (k : ℕ) (v : Option ℕ) → r ≢ k % 1021 → HasOf m r values → HasOf (set_at m k v) r values
 has_of-other m r values k v other has q at =
     has q at ∙ sym (get-set_at m k v q ∙ ap (λ b. cond b v (get m q)) (ne_eqb q k (λ is. other (sym at ∙ ap (λ x. x % 1021) is))))

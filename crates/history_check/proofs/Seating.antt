@@ -138,7 +138,7 @@ entered-push h e old new before after entered shaped below sits enters table_is 
     goes : Enters e before after
     goes = enters there
 
--- One entry more is entered if the caller's fields stay the same.
+-- The table has entered the same entries if the caller's seat, log and `has_begun` stay the same.
 pub entered-same : (h : List Entry) (old new : Callers) (c : ℕ) (before after : Caller) → HaveEntered h old → Sits h c before → seat_of after ≡ seat_of before → log_in after ≡ log_in before → after.has_begun ≡ before.has_begun
     → new.table.items ≡ set old.table.items c after → new.began ≡ old.began → new.committed ≡ old.committed → HaveEntered h new
 entered-same h old new c before after entered sits seat log begun table_is begins commits = record {

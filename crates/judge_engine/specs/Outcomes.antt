@@ -146,8 +146,8 @@ WritesOutcomes scripts history old new well =
     (text : List ℕ) × Tells scripts history text well × Appends old new text
 
 -- The output at a fault. If a write failed, there is a text as `Tells` says, and nothing is stated
--- of the output. At any other fault nothing is written; the fault is that of a file or lack of
--- memory.
+-- of the output. At any other fault nothing is written; if a file is refused, the fault is the one
+-- that it has.
 abbrev pub LeavesOutcomes : Option (List ℕ) → Option (List ℕ) → Option (List ℕ)
     → Option (List ℕ) → OutcomesFault → Type 0
 LeavesOutcomes scripts history old new (Scripts fault) =

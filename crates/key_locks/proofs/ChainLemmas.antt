@@ -85,7 +85,7 @@ IsChain-elsewhere holders older caller stripe first next holder chain is not_bef
           (λ differs. is.held other);
     }
 
--- A chain by its first stripe.
+-- A chain whose first stripe is this one is this stripe and a rest.
 chain_from : (holders older : Holders) (caller stripe : ℕ) (first : Option ℕ) (chain : List ℕ) → IsChain holders older caller first chain → first ≡ Some stripe → (rest : List ℕ) × IsChain holders older caller (Some stripe) (stripe ∷ rest)
 chain_from holders older caller stripe first [] is begins = absurd (none_is_not_some first stripe is.leads begins)
 chain_from holders older caller stripe first (other ∷ rest) is begins =

@@ -46,7 +46,7 @@ pairs_cons : (n : NodeAt) (rest : List NodeAt) → pairs (n ∷ rest) ≡ pair_o
 unfolding pairs
 pairs_cons n rest = refl
 
--- The content changes exactly as that of the nodes behind a front does.
+-- Two lists that begin with the same nodes have the same content if their other nodes have.
 pairs_same_rest : (front : List NodeAt) (n : NodeAt) (rest other : List NodeAt) → pairs rest ≡ pairs other → pairs (front ++ n ∷ rest) ≡ pairs (front ++ n ∷ other)
 pairs_same_rest front n rest other same =
     pairs-append front (n ∷ rest)

@@ -8,7 +8,8 @@
 //! call has done stays, `seen` keeps the entries that it had added, and `close` compares them with
 //! the history. Each of these calls has the clauses
 //! - `ok`: the entries that it has added, if it did what it was asked to do (`save` also has the
-//!   clause `level`, about its answer);
+//!   clause `level`, about its answer; `help` has `helped` and `bad_key`, about its holds and its
+//!   refusal);
 //! - `side`: its effect on the side value in that case;
 //! - `claims`: the rights to stripes that it has then, and the words that it has tried: an
 //!   operation tries the word of its key's stripe, unless it has the right, and gets the right if
@@ -88,9 +89,9 @@ impl<L: Ledger> SharedMap<L> {
     ///
     /// One try of the word, outside the lock, unless the token has its right, and time in
     /// proportion to the rights that it has; three holds of the lock, one of which seeks the
-    /// position of the key, and at most two more for each time that the position no longer fits; if
-    /// the key is busy, two more for each change that is taken back, and a run of each side job;
-    /// may take memory.
+    /// position of the key, and at most two more for each time that a position no longer fits; if
+    /// the key is busy, two more for each change that is taken back, a step for each savepoint, and
+    /// a run of each side job; may take memory.
     pub fn put<S: Side, R: Wait>(
         &self,
         rt: &R,
@@ -129,9 +130,9 @@ impl<L: Ledger> SharedMap<L> {
     ///
     /// One try of the word, outside the lock, unless the token has its right, and time in
     /// proportion to the rights that it has; three holds of the lock, one of which seeks the
-    /// position of the key, and at most two more for each time that the position no longer fits; if
-    /// the key is busy, two more for each change that is taken back, and a run of each side job;
-    /// may take memory.
+    /// position of the key, and at most two more for each time that a position no longer fits; if
+    /// the key is busy, two more for each change that is taken back, a step for each savepoint, and
+    /// a run of each side job; may take memory.
     pub fn take<S: Side, R: Wait>(
         &self,
         rt: &R,
@@ -168,9 +169,9 @@ impl<L: Ledger> SharedMap<L> {
     ///
     /// One try of the word, outside the lock, unless the token has its right, and time in
     /// proportion to the rights that it has; three holds of the lock, one of which seeks the
-    /// position of the key, and at most two more for each time that the position no longer fits; if
-    /// the key is busy, two more for each change that is taken back, and a run of each side job;
-    /// may take memory.
+    /// position of the key, and at most two more for each time that a position no longer fits; if
+    /// the key is busy, two more for each change that is taken back, a step for each savepoint, and
+    /// a run of each side job; may take memory.
     pub fn put_if<S: Side, R: Wait>(
         &self,
         rt: &R,
@@ -211,9 +212,9 @@ impl<L: Ledger> SharedMap<L> {
     ///
     /// One try of the word, outside the lock, unless the token has its right, and time in
     /// proportion to the rights that it has; three holds of the lock, one of which seeks the
-    /// position of the key, and at most two more for each time that the position no longer fits; if
-    /// the key is busy, two more for each change that is taken back, and a run of each side job;
-    /// may take memory.
+    /// position of the key, and at most two more for each time that a position no longer fits; if
+    /// the key is busy, two more for each change that is taken back, a step for each savepoint, and
+    /// a run of each side job; may take memory.
     pub fn get<S: Side, R: Wait>(
         &self,
         rt: &R,
@@ -272,8 +273,8 @@ impl<L: Ledger> SharedMap<L> {
     /// # Cost
     ///
     /// Three holds of the lock, at most two more for each change that is taken back and for each
-    /// time that a position no longer fits, and a run of each side job above the level; may take
-    /// memory, before anything is taken back.
+    /// time that a position no longer fits, and above the level a run of each side job and a step
+    /// for each savepoint; may take memory, before anything is taken back.
     pub fn back<S: Side, R: Wait>(
         &self,
         rt: &R,
@@ -305,8 +306,8 @@ impl<L: Ledger> SharedMap<L> {
     ///
     /// # Cost
     ///
-    /// One hold of the lock, with time in proportion to the changes and the stripes, and a step for
-    /// each right and each side job; takes no memory.
+    /// One hold of the lock, with time in proportion to the changes, the savepoints and the stripes
+    /// of the transaction, and a step for each right and each side job; takes no memory.
     pub fn commit<S: Side, R: Wait>(&self, rt: &R, me: &mut Caller<L, S>) -> Result<Receipt, Stop>
         ensures ok { IfOk result (λ receipt. (receipt.txn ≡ last_txn me.old.seen) × (me.new.seen
             ≡ me.old.seen ++ entries.Committed me.old.number receipt.place ∷ [])) }
@@ -335,8 +336,8 @@ impl<L: Ledger> SharedMap<L> {
     /// # Cost
     ///
     /// Three holds of the lock, at most two more for each change that is taken back and for each
-    /// time that a position no longer fits, a run of each side job, and a step for each right;
-    /// takes no memory.
+    /// time that a position no longer fits, a run of each side job, and a step for each savepoint
+    /// and each right; takes no memory.
     pub fn abort<S: Side, R: Wait>(&self, rt: &R, me: &mut Caller<L, S>) -> Result<(), Stop>
         ensures ok { OnOk result ((undone : ℕ) × (me.new.seen ≡ me.old.seen
             ++ (entries.Leave me.old.number None ∷ undone_by me.old.number undone
@@ -365,9 +366,9 @@ impl<L: Ledger> SharedMap<L> {
     ///
     /// # Cost
     ///
-    /// One hold of the lock to double; for each bucket on the way one if it is initialised, and
-    /// else three, and at most two more for each time that its position no longer fits; may take
-    /// memory.
+    /// One hold of the lock to double; for each bucket on the way, except bucket 0, one if it is
+    /// initialised, and else three, and at most two more for each time that its position no longer
+    /// fits; may take memory.
     #[tactic(auto, using(crate::proofs::Refusing::help_bad_key))]
     pub fn help<S: Side, R: Wait>(
         &self,

@@ -37,7 +37,7 @@ impl<L: Ledger> SharedMap<L> {
     ///
     /// # Cost
     ///
-    /// Time in proportion to the history for each caller; takes no memory.
+    /// For each caller, time in proportion to the history and to the callers; takes no memory.
     pub fn close<S: Side>(self, callers: Vec<Caller<L, S>>) -> Result<Closed<L, S>, Unclosed<L, S>>
         requires { self.limits.callers ≡ L.parts }
         ensures callers { IfOk result (λ c. c.callers.items ≡ callers.items) }

@@ -13,7 +13,8 @@
 //! - `SharedMap::close` takes all tokens back and compares: the history is legal, each caller's own
 //!   entries in it are its `seen`, and there are no others, since a ledger counts them. The lock's
 //!   value, `Booked`, holds the ledger's book, each token a share.
-//! - `laws::helped`, of `core_tokens`: a `help` that ends well has initialised its key's bucket.
+//! - `laws::helped`, of `core_tokens`: if core and token are in step, a `help` that ends well has
+//!   initialised its key's bucket.
 //!
 //! No clause is about time: none says that a call returns, or that two threads ran at once.
 //!

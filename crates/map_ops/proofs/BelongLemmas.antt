@@ -79,6 +79,6 @@ has_dummy-swept (n ∷ rest) bucket plain = elim (either n.marked) [
     marked_no_dummy Dummy is marked = absurd (cc (plain.0 is))
     marked_no_dummy Regular is marked = regular_no_dummy n bucket is
 
--- If the same dummies are linked, each bucket has the same linked dummy.
+-- If the same buckets have linked dummies, `linked_of` is unchanged.
 pub linked_same : (old new : Listing) (buckets : Directory) → ((bucket : ℕ) → has_dummy new.nodes bucket ≡ has_dummy old.nodes bucket) → linked_of (table_of new buckets) ≡ linked_of (table_of old buckets)
 linked_same old new buckets same = ap (λ (f : ℕ → Bool). map f (range_with_len 0 (limit_of buckets))) (λ i bucket. same bucket i)

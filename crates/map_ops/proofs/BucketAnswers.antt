@@ -61,7 +61,7 @@ link_answers l d helper sound =
         let within : bucket < limit_of d = within_limit d helper bucket (Seeking bucket cursor) sound is (λ order. order.within) in
         ap (λ (there : Bool). answer_for (buckets.link_answer (cursor_fits l (helper_of d helper)) (λ b. there) l.last (Some (Sought bucket (changes_of cursor))))) (sym (linked_at l.nodes (limit_of d) bucket within))
 
--- A cursor of a helper fits while the change number is unchanged, below the greatest.
+-- A helper's cursor fits while the change number is the one that it noted, and below 2^64 - 1.
 pub helper_still_fits : (l : Listing) (d : Directory) (helper bucket : ℕ) → IsHome d l → slice_get (map help_of d.helpers) helper ≡ Some (Sought bucket l.changes) → l.changes < 2 ^ 64 - 1 → helper_fits (table_of l d) helper ≡ true
 helper_still_fits l d helper bucket home had below = go (helper_of d helper) refl (sym (slice_get-map help_of d.helpers helper) ∙ had)
   where
@@ -86,7 +86,7 @@ fits_not_again fitting linked last bucket changes help is fit again =
     not_again (slice_index_or linked bucket false) (last == 2 ^ 64 - 2)
     (ap (λ (b : Bool). link_answer b linked last (Some (Sought bucket changes))) (sym fit) ∙ ap (λ (o : Option Help). link_answer fitting linked last o) (sym is) ∙ again)
 
--- Only the refusal of memory is answered as that of memory.
+-- If the answer of a step is `NoMemory`, so is that of the call on buckets.
 pub no_memory_alone : {A : Type 0} (result : Result A InitRefusal) → answer_for result ≡ Err refusals.NoMemory → result ≡ Err NoMemory
 no_memory_alone (Ok done) is = absurd (cc is)
 no_memory_alone (Err NoMemory) is = refl

@@ -117,7 +117,7 @@ after-no_job m (PutIf k expected v) spare given is = go (option_eq nat_eq (get m
     go true none = put_no_job m k v (get m k) none
     go false none = refl
 
--- After an operation done by `apply`, the table shows what its job names as after.
+-- After a change done by `apply`, `ShowsAfter` holds of its job.
 pub shows_after : (old new : TableAt) (op : Op) (reply : Option ℕ) (job : MapJob) → Applies old new op reply (Some job) → ShowsAfter job new
 shows_after old new op reply job applies =
     (subst (λ (m : Map). IsDue m job) (sym applies.content_is) (job_is_due (content old) op applies.spare job (sym applies.job_is)), owned job applies.spares)
@@ -162,8 +162,7 @@ put_keeps old new k v reply job applies = go (get (content old) k) (subst (JobSp
 pub get_keeps : (old new : TableAt) (k : ℕ) (reply : Option ℕ) (job : Option MapJob) → Applies old new (Get k) reply job → KeepsSpares old new
 get_keeps old new k reply job applies = subst (JobSpare old new) applies.job_is applies.spares
 
--- After an operation done by `apply` that was a change, the table shows what its job names as
--- after.
+-- After an operation done by `apply`, `ShowsAfter` holds of its job, if it has one.
 pub applied_shows_after : (old new : TableAt) (op : Op) (reply : Option ℕ) (job : Option MapJob) → Applies old new op reply job → IfSome job (λ j. ShowsAfter j new)
 applied_shows_after old new op reply None applies = tt
 applied_shows_after old new op reply (Some job) applies = shows_after old new op reply job applies

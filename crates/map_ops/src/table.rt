@@ -86,7 +86,7 @@ impl Table {
     /// # Cost
     ///
     /// That of `new`, and 40 bytes of memory for each node; if it is written, time in proportion to
-    /// it, and 4 bytes more for each node, up to `max` times.
+    /// it, and 4 bytes more for each of up to `max` nodes.
     pub fn with_capacity(
         alloc: Global,
         max: u32,

@@ -93,7 +93,7 @@ absent_unlinked (n ∷ (m ∷ rest)) pred place apart is = elim (eqb_tells n.pla
       rw later.0 (absent_linked (m ∷ rest) n.place place apart.0 (linked_more (m ∷ rest) place there.1), absent_unlinked (m ∷ rest) pred place apart.1 is_later)
 ]
 
--- A node that is found after a change was there before.
+-- A node that is found after a change was there before, unless it is the one that was linked.
 pub found_linked_after : (nodes : List NodeAt) (pred place : ℕ) (x n : NodeAt) → node_of (linked_after nodes pred x) place ≡ Some n → (node_of nodes place ≡ Some n) ⊎ ((x ≡ n) × (x.place ≡ place))
 unfolding node_of linked_after
 found_linked_after [] pred place x n is = inl is
@@ -170,7 +170,7 @@ found_unlinked (m ∷ (k ∷ rest)) pred place n spread is = elim (eqb_tells m.p
   ]
 ]
 
--- A node that was found before a change is there after it.
+-- A node that was found before a change is there after it, unless it is the one that was unlinked.
 pub still_found_linked : (nodes : List NodeAt) (pred place : ℕ) (x n : NodeAt) → AbsentFrom x.place nodes → node_of nodes place ≡ Some n → node_of (linked_after nodes pred x) place ≡ Some n
 unfolding node_of linked_after
 still_found_linked [] pred place x n absent is = is

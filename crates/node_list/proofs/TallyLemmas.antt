@@ -81,7 +81,7 @@ none_below low (n ∷ rest) none = (
   none_below low rest (λ region less. let both = none region less in omega (arith, both)),
 )
 
--- A node that is marked in a region has a split key of the region.
+-- A marked node of a region has a split key below the region's end.
 gain_near : (region : ℕ) (n : NodeAt) → gain (is_marked_in region) n ≢ 0 → n.at.split < (region + 1) * 2 ^ 52
 gain_near region n some = elim (eqb_tells (region_of n.at.split) region) [
   | inl here ↦ omega (arith, here.1)
@@ -92,7 +92,8 @@ gain_near region n some = elim (eqb_tells (region_of n.at.split) region) [
     none true other = rw other refl
     none false other = refl
 
--- A node before all that are marked in a region has no higher split key than any of them.
+-- If one of the nodes behind a node is marked in a region, the node's split key is below the
+-- region's end.
 before_near : (region : ℕ) (n : NodeAt) (rest : List NodeAt) → AllByRecursion (IsNodeBefore n) rest → count_where (is_marked_in region) rest ≢ 0 → n.at.split < (region + 1) * 2 ^ 52
 unfolding count_where
 before_near region n [] behind some = absurd (some refl)
@@ -101,7 +102,7 @@ before_near region n (m ∷ rest) behind some = elim (cases_lt 0 (gain (is_marke
   | inr none ↦ before_near region n rest behind.1 (λ nothing. some (omega (arith, none, nothing)))
 ]
 
--- The first marked node has no higher split key than any that is marked.
+-- If a node is marked in a region, the first marked node has a split key below the region's end.
 first_near : (region : ℕ) (nodes : List NodeAt) → IsRising nodes → count_where (is_marked_in region) nodes ≢ 0 → IsSomeAnd (first_marked nodes) (λ n. n.at.split < (region + 1) * 2 ^ 52)
 unfolding count_where first_marked IsRising
 first_near region [] rising some = absurd (some refl)

@@ -1,4 +1,5 @@
--- The first transaction of a new history, in which only caller 0 does anything: what its steps can answer.
+-- The first transaction of a new history, in which only caller 0 does anything: the answers that
+-- its steps can have.
 use Rattle.std.proofs.Common.{◌≡◌, ◌≢◌, ℕ, ◌<◌, ◌==◌, zero, suc, Bool, true, false, cond, List, [], ◌∷◌, ◌++◌, length, take, drop, slice_index_or, Option, Some, None, refl, sym, ap, subst, ◌∙◌, arith}
 use Rattle.std.specs.Prelude.{nat_le, not, ◌&&◌, ◌||◌, unwrap_or}
 use Rattle.std.specs.Option.{option_eq}
@@ -53,7 +54,7 @@ caller_there here callers stripes buckets are same = subst (λ c. 0 < c) same (s
 within_of : (s : State) → 0 < s.limits.callers → nat_le s.limits.callers 0 ≡ false
 within_of s there = lt-leb s.limits.callers 0 there
 
--- If caller 0 is open, it is in its transaction.
+-- If the phase of caller 0 is open, `IsAt` holds of it.
 at_open : (s : State) → IsLegal (holder_by s.words) s.limits.stripes s.history → nat_le s.limits.callers 0 ≡ false → (seat_in s.history 0).phase ≡ Opened → IsAt 0 (based 0 s) Opened s
 at_open s legal within opened =
     let seat = seat_there 0 s.history legal.shape in

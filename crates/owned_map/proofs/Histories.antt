@@ -82,7 +82,8 @@ module _ {rule : Holder} (limits : Sizes) (c : ℕ) (base : Map) (h : List Entry
       let next = laws.busy limits.stripes h stands.legal c op x stands.seat stands.seat_is stands.phase_is locked in
       (stands_after (entry.Busy c op x) refl stands.within _ _ _ _ _ next stands.back, next.now_is)
 
-  -- An operation and its reply: the map is what the operation makes of it, and is taken back to the same map as before.
+  -- An operation and its reply: the map becomes what the operation makes of it, and the changes
+  -- are taken back to the same map as before.
   pub did_now : (op : Op) (x : Option ℕ) → Stands rule limits c base (Waiting op) h → x ≡ reply_of (now h) op
       → Stands rule limits c base Opened (h ++ entry.Did c x ∷ []) × (now (h ++ entry.Did c x ∷ []) ≡ after (now h) op)
   did_now op x stands right =

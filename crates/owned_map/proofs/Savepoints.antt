@@ -75,7 +75,8 @@ module _ {rule : Holder} {stripes c : ℕ} (h : List Entry) (e : Entry) (mine : 
   levels_next : levels_of c (h ++ e ∷ []) ≡ length seat.kept
   levels_next = ap (λ (s : Seat). length s.kept) seat_next
 
--- A change that is noted, and the newest one without it.
+-- The map at a level stays the same when a change is noted, and when the newest change is taken
+-- back.
 noted_level : (n : ℕ) (op : Op) (x : Option ℕ) (standing : ℕ) (kept : List ℕ) (log : List (ℕ × Option ℕ)) (m : Map) → get_or kept n 0 ≤ standing → x ≡ reply_of m op
     → taken_back (take (cond (changes op x) (standing + 1) standing - get_or kept n 0) (cond (changes op x) ((key_of op, x) ∷ log) log)) (after m op)
     ≡ taken_back (take (standing - get_or kept n 0) log) m

@@ -40,7 +40,7 @@ now_of s = now s.history
 pub unmoved : (c : ℕ) (base : Map) (q : Phase) (s : State) → IsAt c base q s → Stands (holder_by s.words) s.limits c base q (s.history ++ [])
 unmoved c base q s stands = subst (Stands (holder_by s.words) s.limits c base q) (sym (append-nil s.history)) stands
 
--- The seat that the definitions of the core name is the seat.
+-- The seat that the core's definitions name (`seat_in`) is the seat of `IsAt`.
 pub phase_in : (c : ℕ) (base : Map) (q : Phase) (s : State) → (stands : IsAt c base q s) → seat_in s.history c ≡ stands.seat
 phase_in c base q s stands = ap (λ (o : Option Seat). unwrap_or o closed_seat) stands.seat_is
 

@@ -1,4 +1,5 @@
--- Elements are read as values: they are plain, and at most `MOST`.
+-- The elements that `number_at` and the other functions of `Elements.antt` take are plain, so a
+-- list with another element, or with too many, is not taken.
 use Rattle.std.proofs.Common.{◌≡◌, ℕ, zero, suc, List, [], ◌∷◌, length, Bool, true, false, ◌==◌, ◌&&◌, Option, Some, None, option_map, if◌then◌else◌, refl, ap, arith}
 use Rattle.std.specs.Prelude.{⊤}
 use Rattle.serde_json.specs.Data.{unsigned, negative, float, Data, null, boolean, number, string, array, object}

@@ -90,7 +90,7 @@ pub pairs_of-replicate : (n : ℕ) → pairs_of (replicate n Empty) ≡ []
 pairs_of-replicate zero = refl
 pairs_of-replicate (suc n) = pairs_of-replicate n
 
--- A pair more in front of those from a place on, and still no more than all.
+-- The pairs from a place on, and that of a full slot just before it, are no more than all pairs.
 pub pairs_more : (slots : List Slot) (i left : ℕ) (d : Slot) (k v : ℕ) → i + 1 ≡ left → left ≤ length slots → get_or slots i d ≡ Full k v
     → length (pairs_of (drop left slots)) + 1 ≤ length (pairs_of slots)
 pairs_more slots i left d k v next within is =

@@ -49,7 +49,7 @@ get_there slots room len shift key place table at = get-map_of (pairs_of slots) 
     (λ (here : key_at slots place ≡ Some key). found_at slots key place at.within here (only slots room len shift key place table at))
     (stopped (key_at slots place) key at.stops)
 
--- A key over which all slots are passed has none.
+-- If the probe for a key passes over all slots, the key has no value.
 pub get_nowhere : (slots : List Slot) (key : ℕ) → ((j : ℕ) → j < length slots → stops (key_at slots j) key ≡ false) → get (content slots) key ≡ None
 get_nowhere slots key passed = get-map_of (pairs_of slots) key
     ∙ found_nowhere slots key (λ m lt is. false≢true (sym (passed m lt) ∙ stops_some (key_at slots m) key is))

@@ -1,4 +1,4 @@
--- The result of a parse by `clap`, as what the words ask of a command line. Both command lines cite
+-- From the result of a parse by `clap` to the call that the words ask for. Both command lines cite
 -- these lemmas.
 use Rattle.std.proofs.Common.{◌≡◌, ◌⊎◌, inl, inr, true, List, [], Option, Some, None, Result, refl, sym, ap, ap₂, subst, ◌∙◌}
 use Rattle.std.specs.Prelude.{IfOk, IfErr, option_map}

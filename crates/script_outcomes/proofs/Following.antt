@@ -80,7 +80,8 @@ read_written os number x n o within there = elim (cases_order n number) [
   | inr (inr more) ↦ inr (sym (get-set_other os number n x (λ same. omega (arith, same, more))) ∙ there)
 ]
 
--- An outcome that an entry of this index writes, at a script that no such outcome has passed.
+-- An outcome that an entry of this index writes, at a script that the worker's position has not
+-- passed.
 abbrev pub IsNew : ℕ → ℕ → ℕ → ℕ → Outcome → Type 0
 IsNew next turn fed number (Committed place entry) = (next ≤ number) × (entry ≡ fed)
 IsNew next turn fed number (Aborted entry) = (turn ≤ number) × (entry ≡ fed)

@@ -1,4 +1,4 @@
--- Every n-th element of a list, as it grows; and rows that are merged, one element after the other.
+-- Every n-th element of a list, as it grows; and numbers by their remainders.
 use Rattle.std.proofs.Common.{◌≡◌, ℕ, zero, suc, ◌+◌, ◌-◌, ◌*◌, ◌/◌, ◌%◌, ◌<◌, ◌≤◌, List, [], ◌∷◌, ◌++◌, length, map, None, refl, sym, ap, ◌∙◌, inl, inr, arith}
 use Rattle.std.specs.Prelude.{slice_get}
 use Rattle.std.proofs.Math.Nat.{suc-mul, div-add-mod, mul_comm}

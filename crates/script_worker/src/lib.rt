@@ -19,7 +19,8 @@
 //! legal history the outcomes of a worker's scripts are true, and its committed transactions play
 //! its scripts, with rising numbers: `script_mix` and `thread_runs` both conclude this. A worker
 //! with a script left has a step to take: that is the invariant of its type. Calls take constant
-//! time and no memory; the search of a helper's next bucket takes up to 32 rounds.
+//! time and no memory unless they say otherwise; the search of a helper's next bucket takes up to
+//! 32 rounds.
 #![tactic(auto)]
 
 mod attempt;

@@ -44,7 +44,7 @@ undoing_quiet c k opening closing first last =
     ap (λ b. cond b (opening ∷ filter is_commit (undone_by c k ++ closing ∷ [])) (filter is_commit (undone_by c k ++ closing ∷ []))) first
     ∙ append_quiet (undone_by c k) (closing ∷ []) (undone_quiet c k) (ap (λ b. cond b (closing ∷ []) []) last)
 
--- From no seat no entry leads to a seat.
+-- Once there is no seat, no entry leads to one.
 none_stays : (es : List Entry) → fold (λ seat e. option_and_then (λ (s : Seat). row s s.phase e) seat) None es ≡ None
 none_stays [] = refl
 none_stays (e ∷ es) = none_stays es
@@ -165,7 +165,7 @@ adds_undoing c k opening closing first last ends = record {
   steady = λ xs. ap (λ es. is_steady (seat_after es)) (sym (append_assoc xs (opening ∷ undone_by c k) (closing ∷ []))) ∙ steady_after (xs ++ (opening ∷ undone_by c k)) closing ends;
 }
 
--- A token stays since `base` if it sees no more; `grows` has the case of added entries.
+-- A token that sees no more keeps `IsSince`; `grows` has the case of added entries.
 stays : {S : Type 0} (base k l : Token S) → IsSince base k → IsSameCaller k l → l.seen ≡ k.seen → (l.broken ≡ false → k.broken ≡ false) → IsSince base l
 stays base k l since whose same sound = record {
   whose = record { number = whose.number ∙ since.whose.number; limits = whose.limits ∙ since.whose.limits };
@@ -640,7 +640,7 @@ run base t u l began txn place begun goes_on committed =
       given = given_none l.claims u.claims committed.claims;
     }
 
--- An unchanged token is undone; `undone_on` joins one try to the next.
+-- `IsUndone` of an unchanged token; `undone_on` joins one try to the next.
 pub undone_same : {S : Type 0} (k : Token S) → IsUndone k k
 undone_same k = record { since = λ base since. since; over = λ over. over; holds = λ holds. holds }
 

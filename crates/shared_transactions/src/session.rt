@@ -36,7 +36,7 @@ pub trait Session<R> {
         ensures { promises self result };
 }
 
-/// Makes a map of threads, which picks its ledger's name, and runs a session on it.
+/// Makes a map of threads, picks its ledger's name, and runs a session on it.
 ///
 /// # Errors
 ///

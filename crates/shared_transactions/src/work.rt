@@ -190,9 +190,9 @@ fn close<L: Ledger>(
     }
 }
 
-/// Makes a map of threads, which picks its ledger's name, does each work in its own thread, and
-/// closes the map. Work `i` has caller `i`; the other callers do nothing. If no thread can be
-/// started, works are done one after the other.
+/// Makes a map of threads, picks its ledger's name, does each work in its own thread, and closes
+/// the map. Work `i` has caller `i`; the other callers do nothing. If no thread can be started,
+/// works are done one after the other.
 ///
 /// If it answers `Ok`, each work keeps its promise, about a token with exactly the entries that its
 /// caller has in the core's history. The history is legal by the rule that a Busy may name any

@@ -119,8 +119,7 @@ ancestor_not_behind ancestor word exponent small fits is =
       | inr longer ↦ let lower = lowest_before twice.0 word (omega (arith, twice.1)) fits longer in rw low (omega (arith, lower))
     ]
 
--- Of two multiples of a unit, one that is at most the other and a part of the unit is at most the
--- other.
+-- If `a` units are at most `b` units and a rest below one unit, `a` is at most `b`.
 whole_not_above : (a b unit rest : ℕ) → rest < unit → a * unit ≤ b * unit + rest → a ≤ b
 whole_not_above a b unit rest part below =
     elim (cases_lt b a) [

@@ -34,7 +34,7 @@ bytes_are_small : (word place : ℕ) → slice_index_or (bytes_of word) place 0 
 unfolding bytes_of
 bytes_are_small word place = bytes_small 0 8 word place
 
--- The bytes of a word are packed, with a half that fits it.
+-- The bytes of a word are packed, if only an odd word is of the upper half.
 packed : (word : ℕ) (is_upper : Bool) → word < 2 ^ 64 → (is_upper ≡ true → word % 2 ≡ 1) → IsPacked (bytes_of word) is_upper
 packed word is_upper fits odd = record {
   width = bytes_width word;

@@ -1,5 +1,6 @@
 -- Sort keys are in a strict total order: no sort key is before itself, `is_before` is transitive,
--- and of two that differ one is before the other. The crates above use only these lemmas of it.
+-- and of two that differ one is before the other. The list layers do not unfold `is_before`: they
+-- use these lemmas.
 use Rattle.std.proofs.Common.{◌≡◌, ◌≢◌, ℕ, ◌%◌, ◌^◌, ◌<◌, ◌≤◌, ◌⊎◌, inl, inr, Bool, true, false, refl, sym, ◌∙◌, ap, ap₂, subst, arith, ◌==◌, nat_lt}
 use Rattle.std.proofs.lemmas.Bool.{cases_order}
 use Rattle.std.proofs.lemmas.Bool.Decides.{eqb_tells, nat_tests}

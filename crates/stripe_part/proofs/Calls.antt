@@ -11,7 +11,7 @@ use Rattle.stripe_part.specs.Calls.{Does}
 use Rattle.stripe_part.specs.PartAt.{nothing}
 use Rattle.stripe_part.specs.Stored.{part_of}
 
--- An operation that may not be a change is a look.
+-- An operation that is never a change only looks.
 pub looked : (m : Map) (owed : ℕ) (op : Op) (reply : Option ℕ) → may_change op ≡ false → reply ≡ get m (key_of op) → Does (part_of m owed) (part_of m owed) op reply
 looked m owed (Get key) reply looks is = record { reply_is = is; content_is = refl; owed_is = refl }
 looked m owed (Put key v) reply looks is = absurd (false≢true (sym looks))

@@ -1,4 +1,4 @@
-//! The map of one stripe of a map that is cut into stripes, which can take changes back.
+//! The map of one stripe of a striped map. It can take changes back.
 //!
 //! Only the holder of a stripe uses its `Part`, as plain memory. So a part needs no cursors, no
 //! marked nodes and no buckets in split order, as a map does whose callers act step by step. Inside

@@ -152,8 +152,8 @@ apart_in n v seat ks m s i j k x y = s.apart i j k (stripe_in seat ks i k x) (st
 pub holds_in : (n : ℕ) (v : View) (seat : MapSeat) (ks : List ℕ) (m : Map) → AreHeld n v (parts_of seat ks) m → HoldsAll v ks
 holds_in n v seat ks m s i k at = holds_at n v (parts_of seat ks) m s i k (stripe_in seat ks i k at)
 
--- The parts of a seat that has one more stripe, of one whose part of one stripe is another, and of
--- one that gave a stripe back.
+-- The parts of a seat after it took a stripe, after it worked on one part, and after it gave a
+-- stripe back.
 pub parts_pushed : (a b : MapSeat) (ks : List ℕ) (k : ℕ) → ((i : ℕ) → slice_get ks i ≢ Some k) → LeavesOthers k a b → parts_of b (ks ++ k ∷ []) ≡ parts_of a ks ++ with_part (part_in b) k ∷ []
 parts_pushed a b ks k none others = with_push (part_in b) ks k ∙ ap (λ (l : List Held). l ++ with_part (part_in b) k ∷ [])
     (with_same (part_in a) (part_in b) ks (λ i other at. others other (λ e. none i (at ∙ ap (λ (x : ℕ). Some x) e))))

@@ -205,7 +205,7 @@ first_pass : (Q : Job → Type 0) (jobs kept : List Job) → AllByRecursion Q (j
 first_pass Q [] kept all = tt
 first_pass Q (job ∷ jobs) kept all = (all.0, first_pass Q jobs kept all.1)
 
--- A caller's own entries after the history are those that it has seen.
+-- A caller's own entries in the history are those that it has seen.
 pub own_seen : (n : ℕ) (log : List Entry) (v : View) → HasSeen n log v → v.acts ≡ true → own v.number log ≡ own v.number v.seen
 own_seen n log v h acting = ap (own v.number) h.goes ∙ own-append v.number v.seen h.rest ∙ ap (λ (l : List Entry). own v.number v.seen ++ l) (h.others acting) ∙ append-nil (own v.number v.seen)
 

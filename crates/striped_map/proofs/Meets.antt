@@ -109,7 +109,7 @@ forgotten n s kept other seen front at =
     (λ a. absurd (idles log u w a), λ j r has. absurd (retired_none log u w j r has)))
     (λ ne. none i u (set_else s.views other i blank ne ∙ there)))
 
--- A seat takes in such a seat, and has met what it has seen.
+-- A seat takes in a witness, and has then met what the witness has seen.
 pub hears : (id other : ℕ) (v : View) (seen : List Entry) → v.acts ≡ true → Joins IsKept id v other (witness seen) (heard v (witness seen)) blank
 hears id other v seen acting s kept me ne at =
     let n = length s.homes in let w = heard v (witness seen) in

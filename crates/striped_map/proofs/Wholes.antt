@@ -27,7 +27,7 @@ use Rattle.striped_map.proofs.Hands.{holds_at, stripe_at}
 abbrev Pair : Type 0
 Pair = ℕ × ℕ
 
--- Whether a pair's key is one of the stripe, and the pair that it is in the stripe's part.
+-- Whether a pair's key is one of the stripe, and the pair under its sub-key.
 abbrev pub is_in : ℕ → ℕ → Pair → Bool
 is_in n k pair = stripe_of n pair.0 == k
 
@@ -175,8 +175,8 @@ all_pairs n v held m some s all inside = subst (IsPermutation m.rows)
     once k lt = let some : 0 < times k (reverse (stripes_in held)) = subst (λ (ks : List ℕ). 0 < times k ks) s.kept (all k lt) in
         omega (arith, some, times_reverse k (stripes_in held), times_once k (stripes_in held) s.apart)
 
--- The parts up to a place, one after the other: how many pairs are left to count, and which were
--- added.
+-- The parts, one after the other: the pairs from a place on, which are left to count, and those up
+-- to it, which were added.
 pub sum_drop : (f : ℕ → PartAt) (ks : List ℕ) (i k : ℕ) → slice_get ks i ≡ Some k → sum_by count_at (map (with_part f) (drop i ks)) ≡ count_at (with_part f k) + sum_by count_at (map (with_part f) (drop (suc i) ks))
 sum_drop f [] i k at = absurd (none-some k at)
 sum_drop f (x ∷ ks) zero k at = sum_by-cons count_at (with_part f x) (map (with_part f) ks) ∙ ap (λ (y : ℕ). count_at (with_part f y) + sum_by count_at (map (with_part f) ks)) (same_Some x k at)

@@ -7,7 +7,7 @@ use Rattle.striped_map.specs.Sound.{Held}
 abbrev pub count_at : Held → ℕ
 count_at h = count_of h.part.content
 
--- The pair that a pair of a stripe's part is in the map: its key is whole.
+-- A pair of a stripe's part, under its whole key.
 abbrev pub whole : ℕ → ℕ → ℕ × ℕ → ℕ × ℕ
 whole stripes stripe pair = (pair.0 * stripes + stripe, pair.1)
 

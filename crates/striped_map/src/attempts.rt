@@ -37,9 +37,9 @@ impl Caller {
         Ok((value, place))
     }
 
-    /// Runs the work in a transaction and commits; answers what the work did, and the commit's
-    /// place. If the work was busy, gives way and begins again, at most `tries` times. If the work
-    /// fails, all its changes are taken back.
+    /// Runs the work in a transaction and commits; answers the work's value, and the commit's place
+    /// modulo 2^64. If the work was busy, gives way and begins again, at most `tries` times. If the
+    /// work fails, all its changes are taken back.
     ///
     /// # Errors
     ///

@@ -62,7 +62,7 @@ fn place_of(held: &Vec<usize>, index: &Vec<u16>, stripe: usize) -> Option<usize>
     }
 }
 
-/// Gives each stripe a place in the index. It takes memory the first time.
+/// Makes the index long enough for all stripes. It takes memory the first time.
 #[tactic(auto, using(crate::proofs::Index::resized_at))]
 fn widen(index: &mut Vec<u16>, stripes: usize) -> Result<(), AllocError>
     ensures long { OnOk result (stripes ≤ vec_len index.new) }
@@ -214,8 +214,8 @@ impl Hand {
         }
     }
 
-    /// Takes all stripes that are not held. A busy stripe ends the transaction, as a get of one of
-    /// its keys does.
+    /// Takes all stripes that are not held. A busy stripe ends the transaction, just as a get of
+    /// one of its keys would.
     #[tactic(auto, using(crate::proofs::Ends::moved_still, crate::proofs::Ends::moved_on, crate::proofs::Ends::moved_busy))]
     fn hold_all(&mut self, map: &StripedMap) -> Result<(), Stop>
         requires map { IsOf self.old.seat map.now }
@@ -307,7 +307,7 @@ impl Hand {
         map.catch_up(&mut self.seat, &mut other.seat);
     }
 
-    /// Takes in another seat, which holds nothing, and from then on acts no more.
+    /// Takes in another seat, which holds nothing. The other seat then acts no more.
     pub(crate) fn take_in(&mut self, map: &StripedMap, other: MapSeat)
         requires map { IsOf self.old.seat map.now }
         requires other { IsOf other map.now }
@@ -467,7 +467,8 @@ impl Hand {
         self.levels.truncate(level);
     }
 
-    /// Commits the transaction, gives the stripes back, and answers the commit's place.
+    /// Commits the transaction, gives the stripes back, and answers the commit's place, modulo
+    /// 2^64.
     pub(crate) fn commit(&mut self, map: &StripedMap) -> u64
         requires map { IsOf self.old.seat map.now }
         requires open { IsAt Opened (known self.old.seat) }

@@ -518,7 +518,7 @@ const PUTS: &[Row] = &[
     (0, Ask::Commit, Told::Number(1)),
 ];
 
-/// When that has ended, caller 2 gets it in another.
+/// When that thread has ended, caller 2 gets the key in another thread.
 const GETS: &[Row] = &[
     (1, Ask::Begin, Told::Done),
     (1, Ask::Do(Op::Get(6)), Told::Replied(Some(60))),

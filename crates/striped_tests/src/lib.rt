@@ -2,8 +2,8 @@
 //! contract says: that each call succeeds while there is memory. Worked runs have callers side by
 //! side, with their values.
 //!
-//! They are not in the crates of the map, whose proofs would then be run twice. A device is a
-//! function without a clause: it makes one call and tells what it answered.
+//! They are not in the crates of the map, whose proofs would then be run twice. Most functions that
+//! make calls have no contract; `calls` says why.
 #![tactic(auto)]
 
 #[cfg(test)]

@@ -317,8 +317,8 @@ fn a_hundred_thousand_puts(rt: HostRuntime) {
     }
 }
 
-/// Puts 202 keys in an order that looks random: the lowest and the highest 101. The value of each
-/// low key is its double.
+/// Puts 202 keys in an order that looks random: the lowest 101 and the highest 101. The value of
+/// each low key is its double.
 fn put_scattered<R: Abort>(rt: &R, home: &mut Home) {
     play(rt, home, &[(0, Ask::Begin, Told::Done)]);
     for place in 0..101u64 {

@@ -54,7 +54,7 @@ fn has_left_again<R: Abort>(rt: &R, host: &mut Host, left: &[(u64, u64)]) -> Res
     Err(Refusal::NoMemory)
 }
 
-/// Each kind of call.
+/// Each kind of call, except an abort.
 const CALLS: &[Row] = &[
     (0, Ask::Begin, Told::Done),
     (0, Ask::Do(Op::PutIf(1, None, 10)), NEW),

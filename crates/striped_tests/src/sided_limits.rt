@@ -53,8 +53,8 @@ fn widest_keys(rt: HostRuntime) {
     }
 }
 
-/// Begins with the side value at 7 and 10 at key 1, and changes the side value and a key of the map
-/// a thousand times each.
+/// Begins with the side value at 7 and 10 at key 1, and then a thousand times changes the side
+/// value and puts another key.
 fn change_a_thousand<R: Abort>(rt: &R, home: &mut SidedHome) {
     play(rt, home, &[(0, Call::Begin, Told::Done, 7)]);
     for count in 0..1000u64 {
@@ -80,7 +80,8 @@ const FIRST: &[Row] = &[
     (0, Call::Commit, Told::Number(1), 7),
 ];
 
-/// Goes on after a commit of the thousand changes: an abort takes back only the changes after it.
+/// Commits the thousand changes, and goes on: neither a return to level 0 nor an abort takes them
+/// back.
 const KEPT: &[Row] = &[
     (0, Call::Commit, Told::Number(2), 999),
     (0, Call::Begin, Told::Done, 999),

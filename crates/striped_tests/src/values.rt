@@ -19,7 +19,8 @@ enum Call {
     Pairs,
 }
 
-/// The answer to a request: done, a reply, a number, or yes or no; of `Pairs`, how many there are.
+/// The answer to a request: done, a reply, a number (of `Pairs`, how many there are), yes or no, or
+/// why the call stopped.
 #[derive(Clone, Copy, PartialEq, Eq)]
 enum Answer {
     Done,
@@ -288,8 +289,8 @@ fn returned_early(rt: HostRuntime) {
     play_returned(&rt, &mut open(&rt, rt.alloc(), 4, 2));
 }
 
-/// The calls that a caller has besides those of `Ask`: whether the map is empty, whether key 1 is
-/// there, and two swaps, the second of which is never made.
+/// Calls of a caller that `Ask` lacks: whether the map is empty, whether key 1 is there, and two
+/// swaps, the second of which is never made.
 fn looks(caller: &mut Caller) -> Result<[bool; 4], Stop> {
     caller.begin()?;
     let is_empty = caller.is_empty()?;

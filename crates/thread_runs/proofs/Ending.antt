@@ -70,7 +70,8 @@ abbrev pub Stands : Bool → List Action → Bool → List Entry → Progress �
 Stands half script broken seen (Next attempt) = IsIn (phase_at attempt.stage) broken seen × MayLeave half script attempt.stage
 Stands half script broken seen (Over over) = IsIn Closed broken seen × MayBeOver half script over
 
--- Whether a script whose action, or whose begin, is refused with this may be so refused.
+-- A refusal of this action, or of the begin, that the script may have; the commit and the abort
+-- have none.
 abbrev pub IsGood : Bool → List Action → Refusal → Option Action → Type 0
 IsGood half script refusal None = ⊥
 IsGood half script refusal (Some actions.Abort) = ⊥

@@ -23,7 +23,7 @@ may_push : (half : Bool) (scripts : List (List Action)) (outcomes : List Outcome
 may_push half scripts outcomes script outcome here all may =
     subst (AllByRecursion (λ told. MayCome half told.script told.outcome)) (sym (tolds_of-push scripts outcomes script outcome here)) (all_push (λ told. MayCome half told.script told.outcome) (tolds_of scripts outcomes) (record { script = script; outcome = outcome }) all may)
 
--- The loop so far: there are as many outcomes as scripts, and the next script is at `number`.
+-- The loop so far: each script that was run has an outcome, and the next script is at `number`.
 pub record IsSoFar (half : Bool) (workers tries c : ℕ) (scripts : List (List Action)) (number : ℕ) (outcomes : List Outcome) (seen : List Entry) : Type 0 where
   pub at : number ≡ c + length outcomes * workers
   pub told : AreToldIn c tries (every workers c scripts) outcomes seen

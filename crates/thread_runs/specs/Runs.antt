@@ -141,7 +141,8 @@ abbrev pub IsRunOf : Sizes → ℕ → ℕ → List (List Action) → Ran → Ty
 IsRunOf limits workers tries scripts ran =
     HasRunScripts limits workers tries scripts (map told_of ran.outcomes.items) ran.trace.items
 
--- The reason why a run has no result: no memory, no thread, or the workers did not see the history.
+-- The reason why a run has no result: no memory, no thread, or a history that is not what the
+-- workers saw.
 abbrev pub IsRunRefusal : Refusal → Type 0
 IsRunRefusal NoMemory = Unit {0}
 IsRunRefusal NoThread = Unit {0}

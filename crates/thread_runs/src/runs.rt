@@ -43,8 +43,7 @@ use txn_trace::{Action, Limits, Op, PackedAction, Refusal, Script};
 ///
 /// # Errors
 ///
-/// - `NoMemory` if memory is refused, before the threads start, for the list of them or for their
-///   results.
+/// - `NoMemory` if memory is refused for the map, for the list of threads or for their results.
 /// - `NoThread` if a thread was not started; the workers that were started finish.
 /// - `OutOfStep` if what the workers saw is not the history.
 ///

@@ -125,8 +125,8 @@ fn callers_of(alloc: Global, stripes: usize, count: usize) -> Result<Vec<Keeping
     Ok(all)
 }
 
-/// Takes a stripe, and answers the word that it found: 0 if the stripe is granted, by its own
-/// right. `None` if there is no such stripe, or the right is another's.
+/// Takes a stripe, and answers the word that it found: 0 if the stripe is granted, with its right.
+/// `None` if there is no such stripe, or the right is that of another stripe.
 fn take(seated: &mut Seated, stripe: usize) -> Option<u64> {
     if stripe >= seated.stripes {
         return None;

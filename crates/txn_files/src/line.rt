@@ -1,6 +1,6 @@
 //! A piece of text on the stack, which is written from its end to its start. What is put into it
 //! goes before what is there, as the digits of a number are found: the last one first. So no digit
-//! is moved, and no put tests for room, since the contract of each requires it.
+//! is moved. No put tests for room, since its contract requires room.
 ghost use Rattle.std.specs.Prelude.{◌≡◌, ◌+◌, ◌≤◌, [], ◌++◌, length, decimal};
 
 use itoa::write_digits;

@@ -85,7 +85,8 @@ module _ {holder : Holder} (stripes : ℕ) (g : List Entry) (legal : IsLegal hol
   hold_now : RepliesHoldAt g
   hold_now = legal.replies g ([], append-nil g)
 
-  -- In a transaction, if the run is still defined after the entry.
+  -- If the entry begins no transaction: the transaction that it belongs to, and the run of that
+  -- before and after the entry.
   module _ (not_began : is_began e ≡ false) where
     active : runs parts.before.phase ≡ true
     active = row_active parts.before parts.before.phase e not_began (ap is_some parts.goes)

@@ -107,7 +107,7 @@ pub began_or_not : (e : Entry) → (is_began e ≡ true) ⊎ (is_began e ≡ fal
 began_or_not (Began c t) = inl refl
 began_or_not _ = inr refl
 
--- After a shaped entry its transaction's number is in range, and new if the entry begins it.
+-- After a shaped entry its transaction's number is at most the number of transactions that began.
 pub number_in : (g : List Entry) (e : Entry) (t : ℕ) → Callers g → is_shaped g e ≡ true → txn_at g e ≡ Some t → t ≤ how_many is_began (g ++ e ∷ [])
 number_in g e t callers shaped at = elim (began_or_not e) [
   | inl b ↦

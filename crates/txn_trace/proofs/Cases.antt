@@ -103,7 +103,8 @@ aborted_take_restores_now = refl
 aborted_take_restores_erased : erase aborted_take_restores ≡ Began 0 1 ∷ Asked 0 (Put 3 30) ∷ Did 0 None ∷ Committed 0 1 ∷ Began 1 4 ∷ Asked 1 (Get 3) ∷ Did 1 (Some 30) ∷ Committed 1 2 ∷ []
 aborted_take_restores_erased = refl
 
--- The entries that both callers owe, before the reply of the take and after the other one was busy.
+-- The entries that both callers owe: before the take has its reply, and after caller 1 found the
+-- stripe held.
 aborted_take_restores_owed : owed 2 (take 6 aborted_take_restores) ≡ 4
 aborted_take_restores_owed = refl
 
@@ -224,8 +225,8 @@ fed_entry_by_entry_13 = refl
 fed_entry_by_entry_14 : verdict Now 8 (take 14 checker_replies) ≡ Illegal 12 1
 fed_entry_by_entry_14 = refl
 
--- An Asked for a stripe that another caller holds, and a Busy that names a caller that holds no
--- stripe.
+-- An Asked for a stripe that another caller holds, a Busy that names a caller that holds no stripe,
+-- and a Busy that names its own caller.
 checker_locks_asked : verdict Now 8 (Began 0 1 ∷ Asked 0 (Put 1 10) ∷ Did 0 None ∷ Began 1 2 ∷ Asked 1 (Get 9) ∷ []) ≡ Illegal 4 2
 checker_locks_asked = refl
 

@@ -1,5 +1,5 @@
--- The stripes that a caller in a transaction holds: those of its standing changes and of the
--- operation that waits.
+-- The stripes that a caller in a transaction holds, among them those of its standing changes and of
+-- the operation that waits.
 use Rattle.std.proofs.Common.{None, Option, ◌++◌, append_assoc, ◌≡◌, ◌≢◌, ℕ, ◌==◌, Bool, true, false, cond, ◌&&◌, List, [], ◌∷◌, map, slice_get, refl, ap, sym, subst, ◌∙◌, Some}
 use Rattle.std.specs.Option.{option_eq}
 use Rattle.std.specs.Prelude.{nat_eq}
@@ -105,7 +105,7 @@ waiting_held stripes g legal c op seat seat_is waits =
 pub log_held : {holder : Holder} (stripes : ℕ) (g : List Entry) → IsLegal holder stripes g → (c : ℕ) → is_running (seat_after (own c g)) ≡ true → AllHeldBy stripes g c (log_of c g)
 log_held stripes g legal c active = running_log_held stripes g legal c active
 
--- Keys of stripes that two callers hold are different.
+-- Two keys are different if their stripes have different holders.
 pub held_apart : (stripes : ℕ) (g : List Entry) (c d k j : ℕ) → holder_of stripes (stripe_of stripes k) g ≡ Some c → holder_of stripes (stripe_of stripes j) g ≡ Some d → c ≢ d → k ≢ j
 held_apart stripes g c d k j of_c of_d apart same = apart (some_same c d (sym of_c ∙ ap (λ x. holder_of stripes (stripe_of stripes x) g) same ∙ of_d))
   where
@@ -165,7 +165,7 @@ holder_txn stripes g shape s c held = first_line stripes s g c (lines_of g) [] r
 pub holder_running : (stripes : ℕ) (g : List Entry) → IsShaped g → (s c : ℕ) → holder_of stripes s g ≡ Some c → is_running (seat_after (own c g)) ≡ true
 holder_running stripes g shape s c held = let there = holder_txn stripes g shape s c held in (callers_of g shape).running c there.txn there.in_it there.going
 
--- An entry leaves the value now of each key unchanged whose stripe another caller holds.
+-- If another caller holds a key's stripe, an entry leaves the value now of the key unchanged.
 pub get-now_held : {holder : Holder} (stripes : ℕ) (g : List Entry) (e : Entry) → IsLegal holder stripes g → IsLegal holder stripes (g ++ e ∷ []) → (k d : ℕ) → holder_of stripes (stripe_of stripes k) g ≡ Some d → d ≢ caller_of e
     → get (now (g ++ e ∷ [])) k ≡ get (now g) k
 get-now_held {holder} stripes g e legal after k d held other = get-now (g ++ e ∷ []) k ∙ at_key ∙ sym (get-now g k)

@@ -64,7 +64,7 @@ txn_at-not_began : (g : List Entry) (e : Entry) → is_began e ≡ false → txn
 txn_at-not_began g (Began c t) b = absurd (false≢true (sym b))
 txn_at-not_began g _ b = refl
 
--- Entries that change no map of the run and end nothing.
+-- Entries that change no map of the run, and neither begin nor end a transaction.
 abbrev pub is_quiet : Entry → Bool
 is_quiet (Asked c op) = true
 is_quiet (Saved c) = true

@@ -120,7 +120,8 @@ owner_in stripes s u g going (l ∷ ls) owned asks =
       | false ↦ λ of_u h. owner_in stripes s u g going ls owned.1 h
     ]) refl asks
 
--- Some running transaction holds the stripe of a key, or none does.
+-- A running transaction that holds the stripe of a key. `holder_or_none` finds one, or shows that
+-- there is none.
 pub record KeyHolder (stripes : ℕ) (g : List Entry) (k : ℕ) : Type 0 where
   pub txn : ℕ
   pub running : IsRunning g txn

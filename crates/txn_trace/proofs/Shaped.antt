@@ -50,7 +50,8 @@ module _ (g : List Entry) (e : Entry) (callers : Callers g) (shaped : is_shaped 
   pub seat_of_other : (c : ℕ) → (c ≡ caller_of e → ⊥) → seat_after (own c (g ++ e ∷ [])) ≡ seat_after (own c g)
   seat_of_other c other = ap seat_after (own-push_out c g e (not_equal c (caller_of e) other))
 
-  -- After the entry, its transaction has ended or has not.
+  -- After the entry, a caller whose transaction has ended is closed, and one whose transaction has
+  -- not ended runs.
   closed_push : (c t : ℕ) → txn_in (g ++ e ∷ []) c ≡ Some t → ended t (g ++ e ∷ []) ≡ true → seat_after (own c (g ++ e ∷ [])) ≡ Some closed_seat
   closed_push c t is done = elim (in_or_out (txn_at g e) t) [
     | inl at ↦

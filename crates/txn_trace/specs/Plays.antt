@@ -31,7 +31,7 @@ ArePlayed (actions.Back n ∷ script) (Leave c (Some level) ∷ Returned d reach
 ArePlayed (actions.Help k ∷ script) es = ArePlayed script es
 ArePlayed _ _ = ⊥
 
--- The entries are Began and then those of the script's actions.
+-- The entries are Began, those of the script's actions, and Committed.
 abbrev pub IsPlayed : List Action → List Entry → Type 0
 IsPlayed script (Began c t ∷ es) = ArePlayed script es
 IsPlayed script _ = ⊥
@@ -70,8 +70,8 @@ abbrev pub PlayScripts : ℕ → List (List Action) → List Entry → Type 0
 PlayScripts callers scripts h =
     (c : ℕ) → c < callers → PlayRising callers scripts c h 0 (length scripts) (commits_of c h)
 
--- The parts of one caller's entries, one for each transaction and the last transaction's first,
--- after one more entry.
+-- The parts of one caller's entries, the newest transaction's first, after one more entry: a Began
+-- begins a part; any other entry is added to the newest part, or dropped if there is none.
 abbrev pub part_after : List (List Entry) → Entry → List (List Entry)
 part_after [] e = if is_began e then (e ∷ []) ∷ [] else []
 part_after (part ∷ parts) e =

@@ -186,7 +186,7 @@ above_sorted k (other ∷ rest) below =
         by_keys (nat_cmp k other.0) refl same (subst (λ o. T (is_lt (ordering_then o (nat_cmp k other.0)))) is less)
     from Greater is less = absurd (subst (λ o. T (is_lt (ordering_then o (nat_cmp k other.0)))) is less)
 
--- The ordered pairs rise strictly by sort keys.
+-- A list that rises by split_cmp rises by sort keys too.
 pub rises-sorted : (es : List (ℕ × ℕ)) → IsSortedBySplit es → Rises es
 rises-sorted [] sorted = tt
 rises-sorted (pair ∷ rest) sorted =

@@ -11,7 +11,8 @@ use std::error::Error;
 use std::fmt;
 
 /// The reason why a call was refused. Each has a number, by which answers and programs name it;
-/// `Display` writes the number, as files and traces need it. `text` is for a person to read.
+/// `Display` writes the number, as reports and error messages show it. `text` is for a person to
+/// read.
 #[derive(Clone, Copy, Debug, PartialEq, Eq)]
 pub enum Refusal {
     /// 1: the key is 2^63 or more, and the limits take only half keys.

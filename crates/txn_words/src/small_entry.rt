@@ -13,8 +13,8 @@ use std::mem::size_of;
 /// The callers and the holders of small entries are below this number.
 const CALLERS: u64 = 65_536;
 
-/// An entry in 32 bytes, for those who keep many of few callers, as a core does: a `PackedEntry`
-/// takes 48, with callers of any number. A contract sees it as the entry.
+/// An entry in 32 bytes, with caller and holder below 65,536, for those who keep many, as a core
+/// does. A `PackedEntry` takes 48, and has no such bound. A contract sees it as the entry.
 #[derive(Debug, Drop)]
 pub struct SmallEntry {
     kind: Kind,

@@ -67,7 +67,7 @@ module _ {J : Type 0} (before after : J → List ℕ) where
   IsChain_pop now (first ∷ jobs) job chain =
       (chain.0 ∙ words_at-push now jobs job 0 (omega arith), IsChain_pop now jobs job chain.1)
 
-  -- A log with one more job, whose change led from the words `was` to the words now.
+  -- A log stays undoable with one more job, whose change led from the words `was` to the words now.
   pub IsUndoable-push : (was now : List ℕ) (log pushed : Log J) (job : J) → was ≡ before job → now ≡ after job → pushed.jobs ≡ log.jobs ++ job ∷ [] → pushed.kept ≡ log.kept → IsUndoable before after was log → IsUndoable before after now pushed
   IsUndoable-push was now log pushed job fits gives jobs kept undoable =
       let chain : IsChain before after (before job) log.jobs = subst (λ w. IsChain before after w log.jobs) fits undoable.chain in

@@ -6,16 +6,16 @@
 //!   before it. `run` takes a world that shows the first, and answers one that shows the second.
 //! - `UndoLog`: contracts see its jobs, oldest first, and how many of them each savepoint keeps.
 //!   Savepoints are numbered 1, 2, ..; level 0 is the beginning, which keeps none. Jobs are taken
-//!   out newest first, each once, and only above the level that is named. The first eight are kept
-//!   in the log itself.
+//!   out newest first, each once, and only above the level that is named. Up to eight are kept in
+//!   the log itself, more in an allocation.
 //! - `Side` and `SideValue`: a value that belongs to the caller. Each change of it is taken back by
 //!   a job. Contracts see its words at each level, and a return to a level restores exactly those,
 //!   for every side type and every list of changes.
 //!
-//! Room is reserved before a change is made, so that going back never needs memory: only
-//! `reserve_one`, `save`, `save_room` and `change` take any, and `reserve_one` takes none for the
-//! first eight jobs. A savepoint costs one word. Calls take constant time and no memory unless they
-//! say otherwise.
+//! Room is reserved before a change is made, so that a log needs no memory to go back: apart from a
+//! side type's code, only `reserve_one`, `save`, `save_room` and `change` take any, and
+//! `reserve_one` takes none for the first eight jobs. A savepoint costs one word. Calls take
+//! constant time and no memory unless they say otherwise.
 //!
 //! `UndoLog` and `SideValue` keep their jobs in different stores, each below a `JobLog` (`log.rt`).
 //! A side value's jobs are all in a `Vec`, since their size is the caller's choice.

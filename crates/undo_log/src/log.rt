@@ -23,8 +23,8 @@ pub struct JobLog<S: JobStore> {
     kept: Vec<usize>,
 }
 
-/// A log whose first eight jobs are in the log itself: a transaction of up to eight changes takes
-/// no memory for their inverses.
+/// A log that keeps up to eight jobs in itself, and more in an allocation: a transaction of up to
+/// eight changes takes no memory for their inverses.
 ///
 /// # Cost
 ///

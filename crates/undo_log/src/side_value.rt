@@ -1,6 +1,6 @@
 //! A side value with the log of its changes, as one value, so that no change is made without its
 //! job. Invariant: the jobs, run newest first, restore the words that the value had at each level.
-//! So no words are stored, and going back takes no memory.
+//! So no words are stored, and going back takes no memory but what the jobs' runs take.
 ghost use Rattle.std.specs.Prelude.{◌≡◌, ◌+◌, ◌<◌, ◌≤◌, [], ◌∷◌, ◌++◌, length, take, slice_get, IsOk, IfOk, IfErr, OnOk, OnErr};
 
 use crate::job::UndoJob;

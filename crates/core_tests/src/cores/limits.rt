@@ -204,7 +204,7 @@ fn add_sweeps(steps: &mut Vec<Step>, count: usize) -> Result<(), AllocError> {
     Ok(())
 }
 
-/// Takes steps by one call, which are sweeps that find no marked node.
+/// Takes steps, all of them sweeps, by one call; none finds a marked node.
 fn run_sweeps(rt: &impl Abort, alloc: Global, core: &mut Core, steps: &[Step]) -> Result<(), Fail> {
     let answers = run_steps(alloc, core, steps)?;
     assert_eq!(rt; answers.len(), steps.len());

@@ -307,8 +307,9 @@ fn try_case(rt: &impl Abort, alloc: Global, case: &Case) -> Result<(), Fail> {
     try_beside(rt, alloc, &mut core_with(rt, alloc, limits), case)
 }
 
-/// With 7 stripes the two keys of a pair have different stripes, so that both callers work; with 8
-/// they share one, and the caller that asks second is busy.
+/// With 7 stripes the two keys of a pair have different stripes, so a caller can be busy only in a
+/// case with `PutBoth`; with 8 they share one, and a caller that asks while the other holds it is
+/// busy.
 static CASES: [Case; 8] = [
     (7, false, Plan::PutAborted, Plan::PutAborted),
     (7, false, Plan::PutAndTake, Plan::PutAborted),

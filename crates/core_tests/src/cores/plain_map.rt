@@ -1,6 +1,6 @@
 //! The answers to the steps of two callers on a plain map that has stripes, and an undo for each
 //! caller. It is apart from `pairs`, which compares, so that it uses nothing of the core. It has no
-//! cursors, so it never answers `Again`, and it refuses only by a caller's stage.
+//! cursors, so it never answers `Again`, and it refuses only by a caller's stage and undo.
 use std::alloc::{AllocError, Global};
 use std::collections::BTreeMap;
 use txn_words::{Answer, Op, Refusal, Step};
@@ -107,7 +107,7 @@ impl PlainMap {
         Ok(pairs)
     }
 
-    /// Takes a step of a caller, and answers its answer.
+    /// Takes a step of a caller, and gives the answer to it.
     pub(super) fn answer(&mut self, step: Step) -> Result<Answer, AllocError> {
         match step {
             Step::Begin(caller) => Ok(self.begin(caller)),
@@ -162,7 +162,7 @@ impl PlainMap {
         }
     }
 
-    /// Does the operation that was asked for.
+    /// Does the operation that was asked for, a put or a take: `pairs` asks for no other.
     fn change(&mut self, caller: u64, op: Op) -> Result<Answer, AllocError> {
         let key = op.key();
         let before = self.map.get(&key).copied();

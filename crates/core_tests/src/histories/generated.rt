@@ -145,7 +145,8 @@ fn next_operation(history: &[Entry], caller: u64, op: Op, stripes: u64, is_early
     Entry::Asked(caller, op)
 }
 
-/// Spoils a history at one place: an entry is dropped, doubled, moved or changed.
+/// Spoils a history at one place: an entry is dropped, doubled, moved or changed. The history may
+/// still be legal.
 pub(super) fn spoil(draws: &mut Draws, history: &mut Vec<Entry>) -> Result<(), AllocError> {
     if history.is_empty() {
         return Ok(());

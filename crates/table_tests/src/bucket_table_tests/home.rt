@@ -95,7 +95,8 @@ fn put(
 
 impl Home {
     /// A list that has the dummy of bucket 0, with this stamp, and two buckets on it, which can
-    /// grow to `max`, 2 or 8. `None` if memory is refused.
+    /// grow to `max`. `None` if memory is refused, if the stamp is 2^64 - 1, or if `max` is neither
+    /// 2 nor 8.
     pub fn new(alloc: Global, first_stamp: u64, max: u32, helpers: u32) -> Option<Home> {
         if first_stamp == u64::MAX {
             return None;
