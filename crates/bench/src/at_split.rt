@@ -34,7 +34,7 @@ fn regular_there(list: &NodeList, cursor: &Cursor) -> Option<NodeRef>
 }
 
 /// Links a new node, sought from a dummy. `None` if its sort key is there, or if no dummy before it
-/// is at `from`; in the second case the spare's place stays in use.
+/// is at `from`.
 pub(crate) fn put(
     list: &mut NodeList,
     from: NodeRef,
@@ -45,6 +45,7 @@ pub(crate) fn put(
     let mut spare = list.spare()?;
     spare.fill(at, kind, value);
     if !is_start(list, from, at) {
+        list.give_back(spare);
         return Ok(None);
     }
     let cursor = seek(list, from, at);

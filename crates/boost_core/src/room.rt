@@ -2,14 +2,14 @@
 //! its lock is held keeps the other callers waiting, since each growth copies what is there. It is
 //! no limit: with more entries, nodes or changes than that, the core grows as it is used.
 
-/// How much memory a core takes at once when it is made, so that it need not grow under the lock.
-/// With the default it takes none.
+/// For how much a core takes memory when it is made, so that it need not grow under the lock. The
+/// default is no room.
 #[derive(Clone, Copy, Debug, Default)]
 pub struct Room<'a> {
     /// The entries of the history.
     pub entries: usize,
-    /// The nodes of the table: one for each key, for each key that is taken and not yet swept, and
-    /// for each stored bucket.
+    /// The nodes of the table: one for each key, for each key that is taken and not yet swept, for
+    /// each stored bucket, and for each spare that is out.
     pub nodes: usize,
     /// For each caller, the most changes of one of its transactions; none for the callers after the
     /// last of the slice.

@@ -103,7 +103,8 @@ blank_line : entry_on [] ≡ Ok None
 unfolding entry_on
 blank_line = refl
 
-long_line : (line : List ℕ) → 1000 < length line → entry_on line ≡ Err Limit
+-- A line of more than 1,000 bytes is refused.
+pub long_line : (line : List ℕ) → 1000 < length line → entry_on line ≡ Err Limit
 unfolding entry_on
 long_line line more = let long : nat_le (length line) 1000 ≡ false = grind (arith, nat_tests, more) in rw long refl
 

@@ -99,7 +99,7 @@ impl Watcher {
     }
 
     /// Reads the present line; `rest` is the rest of it. The line is not copied unless an earlier
-    /// part of it was kept.
+    /// part of it was kept, and not if it is too long.
     fn read_rest(&mut self, rest: &[u8]) -> Result<Option<FileFault>, Fault>
         ensures ok { IfOk result (λ fault. (basis : Basis) (h : List Entry) →
             IsFedBy basis h self.old.judge →
@@ -110,6 +110,10 @@ impl Watcher {
     {
         if self.part.is_empty() {
             return read_line(&mut self.judge, &mut self.scratch, rest);
+        }
+        if self.part.len().saturating_add(rest.len()) > MAX_LINE {
+            self.part.clear();
+            return Ok(Some(FileFault::Limit));
         }
         self.part.extend_from_slice(rest)?;
         let refused = read_line(&mut self.judge, &mut self.scratch, &self.part)?;

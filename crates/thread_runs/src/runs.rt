@@ -134,10 +134,10 @@ fn most_changes(
 }
 
 /// Room for what scripts add if no change is taken back: two entries for each action but a help,
-/// and a begin and an end for each script; a node for each put, and as many again for the dummies
-/// of buckets, up to the largest number of buckets; and these changes for each worker. With several
-/// workers the room is written before they start, and has a quarter more entries, for attempts that
-/// are repeated.
+/// and a begin and an end for each script; a node for each put, as many again for the dummies of
+/// buckets, up to the largest number of buckets, and a spare for each change of a transaction of
+/// each worker; and the worker's most changes in its log. With several workers the room is written
+/// before they start, and has a quarter more entries, for attempts that are repeated.
 fn room_for(scripts: &[Script], limits: Limits, changes: &[usize]) -> Room<'_> {
     let mut room = Room {
         entries: 0,
@@ -153,8 +153,11 @@ fn room_for(scripts: &[Script], limits: Limits, changes: &[usize]) -> Room<'_> {
     if room.is_written {
         room.entries = room.entries.saturating_add(room.entries / 4);
     }
-    let buckets = room.nodes.min(limits.buckets() as usize);
-    room.nodes = room.nodes.saturating_add(buckets);
+    let dummies = room.nodes.min(limits.buckets() as usize);
+    let spares = changes
+        .iter()
+        .fold(0usize, |sum, more| sum.saturating_add(*more));
+    room.nodes = room.nodes.saturating_add(dummies).saturating_add(spares);
     room
 }
 
