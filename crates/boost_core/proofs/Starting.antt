@@ -76,13 +76,13 @@ module _ (limits : Sizes) (t : TableAt) (new : IsNew t limits.buckets limits.cal
   is_idle s c at = subst IsIdle (get_or_from_slice_get sessions c s s at) (idle c s (slice_get_within sessions c s at))
 
   no_times : (s : Session) → IsIdle s → (place stamp : ℕ) → times_kept (side_of s) place stamp ≡ 0
-  no_times s is place stamp = ap (λ (side : Side). times_kept side place stamp) is.side
+  no_times s is place stamp = ap (λ (side : Side). times_kept side place stamp) is
 
   abbrev pub first_world : List (Option ℕ) → World
   first_world locks = record { limits = limits; history = []; counts = record { began = 0; committed = 0 }; table = t; sessions = sessions; locks = locks; placed = None; words = words }
 
   idle_seated : (s : Session) (c : ℕ) → IsIdle s → IsSeated [] c (side_of s) s.log.room
-  idle_seated s c is = subst (λ (side : Side). IsSeated [] c side s.log.room) (sym is.side) (record {
+  idle_seated s c is = subst (λ (side : Side). IsSeated [] c side s.log.room) (sym is) (record {
     seat = refl;
     log = refl;
     due = tt;
@@ -124,7 +124,7 @@ module _ (limits : Sizes) (t : TableAt) (new : IsNew t limits.buckets limits.cal
     content = new.content_is;
     count = count;
     seated = λ c s at. idle_seated s c (is_idle s c at);
-    sought = λ c s at. subst (λ (cursor : Option Cursor). IsSoughtAt t cursor (target_of s)) (sym (ap (λ (side : Side). side.cursor) (is_idle s c at).side)) tt;
+    sought = λ c s at. subst (λ (cursor : Option Cursor). IsSoughtAt t cursor (target_of s)) (sym (ap (λ (side : Side). side.cursor) (is_idle s c at))) tt;
     spares = none_covered t (all_times sessions) new.none_out (λ place stamp. sum_none (λ s. times_kept (side_of s) place stamp) sessions (λ s c at. no_times s (is_idle s c at) place stamp));
     fresh = tt;
     stripes = ap length none ∙ length-replicate limits.stripes None;
@@ -135,7 +135,7 @@ module _ (limits : Sizes) (t : TableAt) (new : IsNew t limits.buckets limits.cal
   }
 
   pub none_owed : sum_by owed_of sessions ≡ 0
-  none_owed = sum_none owed_of sessions (λ s c at. ap (λ (side : Side). owed_in side.seat.standing side.seat.phase) (is_idle s c at).side)
+  none_owed = sum_none owed_of sessions (λ s c at. ap (λ (side : Side). owed_in side.seat.standing side.seat.phase) (is_idle s c at))
 
   pub start_is : (locks : List (Option ℕ)) → state_of (first_world locks) ≡ record (start limits) { words = words }
   start_is locks = λ i. record {
@@ -148,8 +148,8 @@ module _ (limits : Sizes) (t : TableAt) (new : IsNew t limits.buckets limits.cal
     nodes = map node_at (new.nodes_are i);
     changes = new.changes_is i;
     stamp = new.last_is i;
-    cursors = (image_is session_changes None sessions (λ s c at. ap (λ (side : Side). option_map cursor_changes side.cursor) (is_idle s c at).side) ∙ ap (λ n. replicate n None) count) i;
-    gaps = (image_is (gap_by t) None sessions (λ s c at. ap (λ (side : Side). gap_if t side.cursor) (is_idle s c at).side) ∙ ap (λ n. replicate n None) count) i;
+    cursors = (image_is session_changes None sessions (λ s c at. ap (λ (side : Side). option_map cursor_changes side.cursor) (is_idle s c at)) ∙ ap (λ n. replicate n None) count) i;
+    gaps = (image_is (gap_by t) None sessions (λ s c at. ap (λ (side : Side). gap_if t side.cursor) (is_idle s c at)) ∙ ap (λ n. replicate n None) count) i;
     helper_gaps = (ap (map (gap_if t)) (idle_cursors t.buckets.helpers limits.callers new.helps_is) ∙ none_fit t limits.callers) i;
     helpers = new.helps_is i;
     placed = None;

@@ -5,6 +5,7 @@ ghost use Rattle.std.specs.Prelude.{◌≡◌, ◌+◌, ◌≤◌, ◌<◌, true
 
 use crate::claim::Claim;
 use crate::counts::Counts;
+use crate::room::Room;
 use key_locks::KeyLocks;
 use map_ops::{Cursor, MapJob, Pending, Table};
 use std::alloc::{AllocError, Global};
@@ -27,20 +28,16 @@ impl Session {
     ghost use Rattle.boost_core.specs.Refusals.{lacks_in};
     ghost use Rattle.map_ops.specs.TableAt.{table_changes};
 
-    /// A caller without a transaction, with room in its log for this many changes, which is written
-    /// if `is_written`.
-    pub(crate) fn new(
-        alloc: Global,
-        changes: usize,
-        is_written: bool,
-    ) -> Result<Session, AllocError>
+    /// The caller with this number, without a transaction, and with its room in its log.
+    pub(crate) fn new(alloc: Global, caller: usize, room: Room<'_>) -> Result<Session, AllocError>
         ensures { IfOk result IsIdle }
     {
+        let changes = room.changes.get(caller).copied().unwrap_or(0);
         Ok(Session {
             seat: Seat::new(alloc),
             pending: None,
             cursor: None,
-            log: UndoLog::with_capacity(alloc, changes, is_written)?,
+            log: UndoLog::with_capacity(alloc, changes, room.is_written)?,
         })
     }
 

@@ -20,8 +20,7 @@ pub(crate) fn idle_sessions(
 {
     let mut sessions = Vec::with_capacity(alloc, count)?;
     for caller in 0..count {
-        let changes = room.changes.get(caller).copied().unwrap_or(0);
-        sessions.push_reserved(Session::new(alloc, changes, room.is_written)?);
+        sessions.push_reserved(Session::new(alloc, caller, room)?);
     }
     Ok(sessions)
 }

@@ -5,6 +5,7 @@ ghost use Rattle.std.specs.Prelude.{◌≡◌, ◌+◌, ◌-◌, ◌<◌, ◌≤
 ghost use Rattle.undo_log.specs.UndoLog.{kept_at, newest_above};
 
 use crate::inline_jobs::InlineJobs;
+use crate::job::UndoJob;
 use crate::store::JobStore;
 use std::alloc::{AllocError, Global};
 use std::marker::Model;

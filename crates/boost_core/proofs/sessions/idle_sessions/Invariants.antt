@@ -3,9 +3,9 @@ use Rattle.std.specs.List.{All}
 use Rattle.boost_core.specs.Sessions.{IsIdle}
 use Rattle.boost_core.proofs.sessions.idle_sessions.Given as goal
 
-abbrev pub invariant-loop : goal.invariant-loop
-invariant-loop l = record {
+abbrev pub invariant-loop-caller : goal.invariant-loop-caller
+invariant-loop-caller l = record {
   room : l.count ≤ vec_capacity l.sessions;
-  count : vec_len l.sessions ≡ l.counter;
+  count : vec_len l.sessions ≡ l.caller;
   idle : All IsIdle l.sessions.items;
 }

@@ -13,14 +13,14 @@ invariant_of-result c =
     let new : IsNew c.in_ok-table.table c.args.limits.buckets c.args.limits.callers = subst (λ n. IsNew c.in_ok-table.table n c.args.limits.callers) c.buckets-max.ensures.value (subst (IsNew c.in_ok-table.table c.buckets-max.result) c.callers-callers.ensures.value c.in_ok-table.ensures) in
     let count = c.in_ok-sessions.ensures.length ∙ c.callers-callers.ensures.value in
     record {
-      tells = rw c.new-2.ensures.items (start_tells c.args.limits c.in_ok-table.table new c.in_ok-sessions.sessions.items count c.in_ok-sessions.ensures.idle c.args.words c.in_ok-locks.locks (rw c.stripes.ensures.value at (c.in_ok-locks.ensures)));
+      tells = rw (c.make_room.ensures.items ∙ c.new-history.ensures.items) (start_tells c.args.limits c.in_ok-table.table new c.in_ok-sessions.sessions.items count c.in_ok-sessions.ensures.idle c.args.words c.in_ok-locks.locks (rw c.stripes.ensures.value at (c.in_ok-locks.ensures)));
       owes = sym (none_owed c.args.limits c.in_ok-table.table new c.in_ok-sessions.sessions.items count c.in_ok-sessions.ensures.idle c.args.words);
-      noted = rw c.new-2.ensures.items (noted_none c.args.limits.callers c.in_ok-begun.begun.items (c.in_ok-begun.ensures ∙ ap (λ n. replicate n false) c.callers-callers.ensures.value));
-      room = omega (arith, c.new-2.ensures.len, none_owed c.args.limits c.in_ok-table.table new c.in_ok-sessions.sessions.items count c.in_ok-sessions.ensures.idle c.args.words);
+      noted = rw (c.make_room.ensures.items ∙ c.new-history.ensures.items) (noted_none c.args.limits.callers c.in_ok-begun.begun.items (c.in_ok-begun.ensures ∙ ap (λ n. replicate n false) c.callers-callers.ensures.value));
+      room = omega (arith, c.make_room.ensures.len, c.new-history.ensures.len, none_owed c.args.limits c.in_ok-table.table new c.in_ok-sessions.sessions.items count c.in_ok-sessions.ensures.idle c.args.words);
     }
 
 pub returns-clause-ok : goal.returns-clause-ok
 returns-clause-ok c =
     let new : IsNew c.in_ok-table.table c.args.limits.buckets c.args.limits.callers = subst (λ n. IsNew c.in_ok-table.table n c.args.limits.callers) c.buckets-max.ensures.value (subst (IsNew c.in_ok-table.table c.buckets-max.result) c.callers-callers.ensures.value c.in_ok-table.ensures) in
     let count = c.in_ok-sessions.ensures.length ∙ c.callers-callers.ensures.value in
-    rw c.new-2.ensures.items (start_is c.args.limits c.in_ok-table.table new c.in_ok-sessions.sessions.items count c.in_ok-sessions.ensures.idle c.args.words c.in_ok-locks.locks)
+    rw (c.make_room.ensures.items ∙ c.new-history.ensures.items) (start_is c.args.limits c.in_ok-table.table new c.in_ok-sessions.sessions.items count c.in_ok-sessions.ensures.idle c.args.words c.in_ok-locks.locks)
