@@ -8,7 +8,7 @@ ghost use Rattle.core_tokens.specs.Tokens.{AreCounted, AreTickets};
 
 use crate::caller::Caller;
 use crate::pass::{Pass, passes_of, words_of};
-use boost_core::Core;
+use boost_core::{Core, Room};
 use std::alloc::Global;
 use std::sync::ledger::{Blank, Book, Ledger, Share};
 use txn_trace::{Limits, Refusal};
