@@ -44,7 +44,7 @@
  *     boostmap_text says a status in words:
  *
  *     0, 1      done; 1 at a key without a value
- *     2         another caller holds the key's stripe
+ *     2         another caller holds a stripe that the call needs
  *     3, 4      the handle is empty, or in use already; nothing was done
  *     5, 6      of boostmap_checked.h: a null pointer, or a handle that is in another call
  *     7, 8      an array that is too short, or numbers that are no entry
@@ -116,10 +116,10 @@ typedef struct boostmap {
 typedef uint32_t boostmap_status;
 
 enum {
-    BOOSTMAP_DONE = 0,   /* done; *word is the value, transaction, level or commit number */
+    BOOSTMAP_DONE = 0,   /* done; *word is the number that the comment of the call names */
     BOOSTMAP_ABSENT = 1, /* done, at a key without a value */
-    BOOSTMAP_BUSY = 2,   /* caller *word holds the key's stripe: this transaction can only abort, or,
-                            on a striped map, has been aborted */
+    BOOSTMAP_BUSY = 2,   /* caller *word holds a stripe that the call needs: this transaction can
+                            only abort, or, on a striped map, has been aborted */
     BOOSTMAP_EMPTY = 3,  /* the handle is empty; nothing was done */
     BOOSTMAP_FULL = 4,   /* the handle is in use already; nothing was done */
     BOOSTMAP_NULL = 5,   /* only from boostmap_checked.h: a null pointer */

@@ -43,8 +43,8 @@ struct not_fed : error {
     not_fed(boostmap_status s, std::uint64_t count) : error(s), fed(count) {}
 };
 
-// Thrown if another caller holds the key's stripe. The transaction can then only abort; on a striped
-// map it has been aborted.
+// Thrown if another caller holds a stripe that the call needs. The transaction can then only abort;
+// on a striped map it has been aborted.
 struct busy : error {
     std::uint64_t holder;
     explicit busy(std::uint64_t caller) : error(BOOSTMAP_BUSY), holder(caller) {}

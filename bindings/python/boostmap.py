@@ -26,7 +26,7 @@ import time
 
 __all__ = [
     "Map", "Transaction", "Caller", "CallerTransaction", "open_striped", "Judge", "Entry", "Verdict",
-    "Error", "Busy", "Refused",
+    "Error", "Busy", "Refused", "NotFed",
 ]
 
 _U64 = ctypes.c_uint64
@@ -111,8 +111,8 @@ class Error(Exception):
 
 
 class Busy(Error):
-    """Another caller, `holder`, holds the key's stripe. The transaction can then only abort; on a striped map it has
-    been aborted."""
+    """Another caller, `holder`, holds a stripe that the call needs. The transaction can then only abort; on a striped
+    map it has been aborted."""
 
     def __init__(self, holder):
         super().__init__(f"caller {holder} holds the key's stripe")
@@ -120,8 +120,8 @@ class Busy(Error):
 
 
 class Refused(Error):
-    """The call was refused with `status`. Nothing has changed, except that `help` may have grown the table, and `items`
-    and `len` of a transaction may have taken stripes."""
+    """The call was refused with `status`. Nothing has changed, except that `help` may have grown the table, and a call
+    of a `CallerTransaction` may have taken stripes."""
 
     def __init__(self, status):
         super().__init__(_REASONS.get(status, f"status {status}"))

@@ -128,7 +128,7 @@ impl CallerTransaction<'_> {
     ///
     /// # Errors
     ///
-    /// `Busy`, `NotOpen` and `NoMemory`.
+    /// `Busy`, `NotOpen` and `NoMemory`, after which the transaction may hold the key's stripe.
     pub fn get(&mut self, key: u64) -> Result<Option<u64>> {
         self.call(|at, word| unsafe { sys::boostmap_striped_get(at, key, word) })
     }

@@ -166,7 +166,7 @@ mod sys {
         pub fn boostmap_striped_count(caller: *mut Handle, word: *mut u64) -> u32;
         pub fn boostmap_striped_read(caller: *mut Handle, pairs: *mut Pair, places: usize, word: *mut u64) -> u32;
 
-        pub fn boostmap_judge_new(judge: *mut Handle, stripes: u64, holder: u32) -> u32;
+        pub fn boostmap_judge_new(judge: *mut Handle, stripes: u64, rule: u32) -> u32;
         pub fn boostmap_judge_feed(judge: *mut Handle, entry: *const Entry) -> u32;
         pub fn boostmap_judge_feed_all(judge: *mut Handle, entries: *const Entry, count: usize, word: *mut u64) -> u32;
         pub fn boostmap_judge_verdict(judge: *mut Handle, verdict: *mut Verdict) -> u32;
@@ -177,8 +177,8 @@ mod sys {
 /// Why a call failed.
 #[derive(Clone, Copy, Debug, PartialEq, Eq)]
 pub enum Error {
-    /// The caller with this number holds the key's stripe. The transaction can then only abort; on a
-    /// striped map it has been aborted.
+    /// The caller with this number holds a stripe that the call needs. The transaction can then
+    /// only abort; on a striped map it has been aborted.
     Busy(u64),
     /// The caller's number is out of range.
     NoSuchCaller,

@@ -1,4 +1,4 @@
--- Tries of a work are tries of another relation that it implies.
+-- If a work implies another relation, its tries are tries of that relation too.
 use Rattle.std.proofs.Common.{◌≡◌, ℕ, ◌≤◌, zero, suc, Bool, subst}
 use Rattle.std.specs.Prelude.{Result, Ok, Err}
 use Rattle.map_answers.specs.declared.stop.Stop.{Stop}

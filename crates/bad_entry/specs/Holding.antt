@@ -10,8 +10,8 @@ use Rattle.bad_entry.specs.declared.held.Held.{Held}
 use Rattle.bad_entry.specs.Desks.{txn_in}
 use Rattle.bad_entry.specs.Places.{first_of}
 
--- The holder of a stripe after one more entry, by the holder before it: an Asked takes its stripe,
--- and the end of a transaction gives its caller's back.
+-- The holder of a stripe after one more entry, by the holder before it: an Asked for a key of the
+-- stripe takes it, and a Committed or an Aborted gives it back if its caller holds it.
 abbrev pub next_holder : ℕ → ℕ → Option ℕ → Entry → Option ℕ
 next_holder stripes s held (Asked c op) =
     if stripe_of stripes (key_of op) == s then Some c else held

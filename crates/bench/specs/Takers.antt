@@ -1,4 +1,4 @@
--- Seats at the words that no thread has taken yet.
+-- Idle seats at the words.
 use Rattle.std.specs.Prelude.{◌≡◌, []}
 use Rattle.key_words.specs.declared.seat.KeySeat.{KeySeat}
 use Rattle.key_words.specs.declared.words.KeyWords.{KeyWords}

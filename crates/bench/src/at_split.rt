@@ -58,8 +58,8 @@ pub(crate) fn put(
     }
 }
 
-/// The value of the regular node with this sort key, sought from a dummy. Unlinks the marked nodes
-/// that it passes.
+/// The value of the node with this sort key, sought from a dummy; a dummy has the value 0. Unlinks
+/// the marked nodes that it passes.
 pub(crate) fn value_of(list: &mut NodeList, from: NodeRef, at: SortKey) -> Option<u64> {
     if !is_start(list, from, at) {
         return None;

@@ -14,8 +14,9 @@
 //! the number of puts, and for `words` the number of takes of each thread; without it there are
 //! few. The third is, for `core`, a step file, whose steps the core takes in place of puts on few
 //! keys; for `shared`, a script file, whose scripts are run in place of puts on few keys; and for
-//! `words` the number of threads, up to 64, or two without it. `striped` is followed by the numbers
-//! of threads, keys, transactions of each thread and stripes, or by the first few of these.
+//! `words` the number of threads, up to 64, or two without it; with `all`, these are the third, the
+//! fourth and the fifth. `striped` is followed by the numbers of threads, keys, transactions of
+//! each thread and stripes, or by the first few of these.
 #![tactic(auto)]
 
 mod any_map;

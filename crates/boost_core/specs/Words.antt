@@ -84,8 +84,8 @@ abbrev pub Asks : Claim → State → Step → Answer → State → Type 0
 Asks claim old step answer new =
     IsStale claim old step answer new ⊎ (IsTrue (may_come claim answer) × Move old step answer new)
 
--- The last stamp after such an ask: with a right a spare is taken, and given back if the claim is
--- stale; with a word none is taken.
+-- The last stamp after such an ask: with a right an operation takes the spare that it needs, if it
+-- needs one, and gives it back if the claim is stale; with a word none is taken.
 abbrev pub stamp_by : Claim → ℕ → Step → Answer → ℕ
 stamp_by Lock stamp step answer = stamp_after stamp step answer
 stamp_by Right stamp (Ask c op) (answers.Refused StaleWord) =

@@ -153,9 +153,9 @@ impl Core {
     /// A `Seek` walks to the key's position from the dummy of its bucket, or of the nearest
     /// initialised ancestor; an `InitSeek` walks from the dummy of the bucket's parent, and a
     /// `Sweep` up to the first marked node. A `Commit` takes a step for each job, savepoint and
-    /// stripe of the transaction, the end of an abort one for each savepoint and stripe; each other
-    /// step takes amortized constant time. Only the steps that may be refused with `NoMemory` take
-    /// memory.
+    /// stripe of the transaction, the end of an abort one for each savepoint and stripe, and the
+    /// end of a return one for each savepoint that it drops; each other step takes amortized
+    /// constant time. Only the steps that may be refused with `NoMemory` take memory.
     pub fn step(&mut self, step: Step) -> Answer
         requires { self.old.words ≡ true → is_ask step ≡ false }
         ensures event { Event self.old step result self.new }

@@ -34,7 +34,8 @@ pub extern "C" fn boostmap_striped_begin(caller: &mut CallerHandle) -> u32
 ///
 /// 3 if the handle has no caller; 2 if another caller held the key's stripe: then the transaction
 /// is aborted, with all its changes taken back, and the word is the holder. A refusal leaves the
-/// transaction unchanged: 19 (`NotOpen`), 30 (`NoMemory`).
+/// transaction unchanged: 19 (`NotOpen`), 30 (`NoMemory`), after which it may hold the key's
+/// stripe.
 ///
 /// # Cost
 ///

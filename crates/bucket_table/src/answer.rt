@@ -1,6 +1,6 @@
 //! The answers of the calls on buckets, and their refusals. This crate does not use `txn_words`, so
-//! `map_ops` converts the refusals to those of steps, and `boost_core` the other answers. Each but
-//! `NoMemory` is a function of the state before the call (`specs/Answers.antt`).
+//! `map_ops` converts the refusals to those of steps, and `boost_core` the other answers. Each
+//! answer but `NoMemory` is a function of the state before the call (`specs/Answers.antt`).
 ghost use Rattle.std.specs.Prelude.{◌≡◌};
 ghost use Rattle.bucket_table.specs.Refusals.{refusal_of};
 ghost use Rattle.bucket_table.specs.Text.{refusal_text};

@@ -20,8 +20,8 @@ use txn_trace::{
 
 /// The entries that a caller's calls have added, in order, and the seat that they give it.
 ///
-/// Its type keeps room for all that the caller owes, and a share of the map's ledger that counts
-/// the entries.
+/// The type guarantees that there is room for all that the caller owes, and that the share of the
+/// map's ledger counts the entries.
 #[derive(Drop)]
 pub(crate) struct Seen<L: Ledger> {
     entries: Vec<SmallEntry>,

@@ -1,9 +1,9 @@
 //! Four threads move sums between the accounts of one map, and the sum of all accounts stays the
 //! same.
 //!
-//! Each transfer is one transaction, which reads two accounts, and writes both if the sum can go
-//! over and they differ. If another thread has a key's stripe, the transaction is aborted and tried
-//! again, as often as it takes.
+//! Each transfer is one transaction, which reads two accounts and, if they differ and the sum can
+//! be moved, writes both. If another thread has a key's stripe, the transaction is aborted and
+//! tried again, as often as it takes.
 ghost use Rattle.shared_transactions.specs.Keeps.{Keeps};
 
 use boost_core::Core;

@@ -25,7 +25,7 @@ use Rattle.txn_trace.proofs.Entries as entries
 use Rattle.txn_trace.proofs.Settled.{settled}
 use Rattle.history_check.specs.Callers.{goal_of}
 
--- An entry that breaks no rule is in right shape, has the right reply, and breaks no lock.
+-- An entry that breaks no rule is in right shape, has the right reply, and keeps the rule of locks.
 pub breaks_none : (holder : Holder) (stripes : ℕ) (g : List Entry) (e : Entry) → broken holder stripes g e ≡ None → (is_shaped g e ≡ true) × (replies_hold (g ++ e ∷ []) ≡ true) × (is_locked holder stripes g e ≡ true)
 breaks_none holder stripes g e is = at (is_shaped g e) (replies_hold (g ++ e ∷ [])) (is_locked holder stripes g e) is
   where

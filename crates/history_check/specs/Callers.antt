@@ -27,8 +27,8 @@ seat_of caller = caller.seat.seat
 abbrev pub log_in : Caller → List (ℕ × Option ℕ)
 log_in caller = reverse caller.changes.items
 
--- The seat and the changes are those after the entry, and it has begun a transaction if it had or
--- the entry begins one.
+-- The seat and the changes are those after the entry, and the caller has begun a transaction if it
+-- had before or the entry begins one.
 pub record Enters (e : Entry) (old new : Caller) : Type 0 where
   pub seat : row (seat_of old) (seat_of old).phase e ≡ Some (seat_of new)
   pub log : log_in new ≡ log_entered (seat_of old).phase (log_in old) e

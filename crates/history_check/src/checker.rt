@@ -67,7 +67,7 @@ impl Checker {
     ///
     /// Amortized time in proportion to the logarithm of the number of keys; for a Committed or an
     /// Aborted also to the stripes that it gives back and the changes that stood. Takes memory only
-    /// for a Did, also of no change, for an Undone and for a Saved. After the first bad entry
+    /// for a Did, even if it is no change, for an Undone and for a Saved. After the first bad entry
     /// constant time, and no memory.
     #[inline(always)]
     pub fn feed(&mut self, entry: &Entry) -> Result<(), AllocError>

@@ -94,9 +94,9 @@ pub fn check<R: Read + Drop, W: Write>(
 /// Judges a history file as `check` does, and writes after the verdict's line, if it is illegal,
 /// lines that lead to the bad entry. The answer is whether the history is legal.
 ///
-/// Of a file that is refused it writes one line, the flaw of `bad_file`: that the file is too long
-/// or no JSON, or the JSON path to the first element at fault, what that element is, and what is
-/// allowed there, with the range, or that it is one too many.
+/// Of a file that is refused it writes one line, the flaw that `bad_file` finds: that the file is
+/// too long or no JSON; or the JSON path of the first place at fault, the value there and the
+/// values that are allowed instead, with the range, or that the element is one too many.
 ///
 /// # Errors
 ///

@@ -84,9 +84,9 @@ pub(crate) fn write_explained<W: Write>(
     }
 }
 
-/// Writes the flaw of a history file, in one line, if that is why there is no verdict. The bytes
-/// are those of the file. The answer is the same fault, or `NoMemory` if memory is refused, or
-/// `Write` if the writer fails or takes nothing.
+/// Writes the flaw of the history file with these bytes, in one line, if the fault is that the file
+/// is refused. The answer is the same fault, or `NoMemory` if memory is refused, or `Write` if the
+/// writer fails or takes nothing.
 pub(crate) fn tell<W: Write>(alloc: Global, fault: Fault, bytes: &[u8], output: &mut W) -> Fault
     ensures { (result ≡ fault) ⊎ ((result ≡ faults.NoMemory) ⊎ (result ≡ faults.Write)) }
 {

@@ -103,7 +103,7 @@ unnamed s o number new k e = dite (dec_le (length s.words) k)
 pub none_in : {X : Type 0} (x : X) → Contains [] x → ⊥
 none_in x c = omega (arith, c.1)
 
--- A new seat gets the number of seats so far as its number.
+-- A new seat keeps the rule, if its number is above all others and below the count.
 pub joined : (s : St) (o : IsOrderly s) (number : ℕ) → number < o.first.made → ((i : ℕ) (u : View) → get_elem? s.views i ≡ some u → u.number < number) → IsOrderly (board s.words s.homes (s.views ++ view number 0 [] [] ∷ []))
 joined s o number low new = let w = view number 0 [] [] in let vs = s.views ++ w ∷ [] in
     let at_new : get_elem? vs (length s.views) ≡ some w = at_last s.views w (length s.views) refl in

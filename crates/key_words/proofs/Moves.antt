@@ -37,7 +37,8 @@ seen_taken s o i inside ne = ⊎_elim (λ (z : get_or s.words i 0 ≡ 0). absurd
     let one : times i t.1.held ≡ 1 = o.held t.0 t.1 t.2 i ∙ once_yes t.1.number (get_or s.words i 0) t.3 in
     (t.0, t.1, t.2, t.3, o.taken t.0 t.1 t.2 i (omega (arith, one)))) (o.named i inside)
 
--- An added note is true, or is of a word 0; the earlier ones were true.
+-- After a true note is added, each note of a word other than 0 is true: the word names a seat that
+-- has taken the stripe.
 added_note : (s : St) → IsOrderly s → (id : ℕ) (v : View) → get_elem? s.views id ≡ some v → (i x : ℕ) → (x ≢ 0 → WasTaken s.views i x)
     → (k word : ℕ) → word ≢ 0 → Contains (v.notes ++ (i, x) ∷ []) (k, word) → WasTaken s.views k word
 added_note s o id v me i x true k word ne has = ⊎_elim (λ (old : Contains v.notes (k, word)). o.noted id v me k word ne old)

@@ -22,8 +22,8 @@ abbrev pub back_of : {L S J : Type 0} → Unclosed L S J → List (Token S)
 back_of (Missing map callers) = callers.items
 back_of (Differs core callers) = callers.items
 
--- The reason why it was not closed: a caller is missing; or the core has other limits, or the
--- entries of some caller in the history are not those that it saw.
+-- The reason why it was not closed: a number is missing or was passed in twice; or the core has
+-- other limits, or the entries of some caller in the history are not those that it saw.
 abbrev pub IsWhy : {L S J : Type 0} → Sizes → List (Token S) → Unclosed L S J → Type 0
 IsWhy limits ks (Missing map callers) = IsAllHere limits.callers ks → ⊥
 IsWhy limits ks (Differs core callers) =

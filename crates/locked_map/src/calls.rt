@@ -337,7 +337,7 @@ impl<L: Ledger> SharedMap<L> {
     ///
     /// Three holds of the lock, at most two more for each change that is taken back and for each
     /// time that a position no longer fits, a run of each side job, and a step for each savepoint
-    /// and each right; takes no memory.
+    /// and each right; takes no memory but what these runs take.
     pub fn abort<S: Side, R: Wait>(&self, rt: &R, me: &mut Caller<L, S>) -> Result<(), Stop>
         ensures ok { OnOk result ((undone : ℕ) × (me.new.seen ≡ me.old.seen
             ++ (entries.Leave me.old.number None ∷ undone_by me.old.number undone

@@ -39,7 +39,7 @@ kept_grown slab room head last count marked is =
 pub listing_grown : (slab : Slab SlotAt) (room head changes last : ℕ) → listing_of (record slab { capacity = room }) head changes last ≡ listing_of slab head changes last
 listing_grown slab room head changes last = rw (grown slab room head) refl
 
--- An `Ok` whose value is handed on.
+-- A result that has a value is `Ok` of that value.
 pub ok_some : {T E : Type 0} (r : Result T E) (x : T) → result_ok r ≡ Some x → r ≡ Ok x
 ok_some (Ok y) x is = ap Ok (some-injective is)
 ok_some (Err e) x is = absurd (some-none (sym is))

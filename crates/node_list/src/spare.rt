@@ -122,7 +122,7 @@ impl Spare {
         }
     }
 
-    /// The spare in its small form, until it is filled.
+    /// The small form of a spare that is not filled yet.
     pub fn keep(self) -> Unfilled
         requires { filled self ≡ first_dummy self.place self.stamp }
         ensures { result ≡ self }

@@ -100,8 +100,9 @@ fn drawing_in(alloc: Global, text: &str) -> Result<(u64, Vec<(u64, u64)>), FileF
 /// A drawing with gaps for its points and its version.
 const IN_VERSION: &str = r#"{"points":#,"version":@,"width":7}"#;
 
-/// A piece that only version 2 has is wrong in version 1, also behind more points than the three
-/// that are kept; in any other version it is right.
+/// Drawings, and the content or the fault of each. By the last rows, a piece that only version 2
+/// has is wrong in version 1, even behind more points than the three that are kept; in any other
+/// version it is right.
 const DRAWINGS: &[Drawings] = &[
     Drawings {
         frame: r#"{"version":1,"width":7,"points":[]}"#,

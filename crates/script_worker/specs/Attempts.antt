@@ -70,7 +70,7 @@ abbrev pub refused_in : List Action → ℕ → Stage → Refusal → Progress
 refused_in script again (Acting i) refusal = refused_with again (slice_get script i) refusal
 refused_in script again stage refusal = Over (finishes.Refused refusal)
 
--- The progress after a refused call. An answer that no rule foresees ends the script at once.
+-- The progress after a refused call. `OutOfStep` ends the script at once.
 abbrev pub refused_at : List Action → ℕ → Stage → Refusal → Progress
 refused_at script again stage OutOfStep = Over (finishes.Refused OutOfStep)
 refused_at script again stage refusal = refused_in script again stage refusal

@@ -66,8 +66,8 @@ impl Checker {
     /// transaction asked for; for a Committed, for each of these keys, to the logarithm of the
     /// number of keys in the map; for an Aborted, to the number of keys asked for. Otherwise
     /// constant time. All times are amortized, since an entry may drop changes and savepoints.
-    /// Takes memory for a Did, also of no change, for a Saved, and at a Committed for new keys.
-    /// After the first bad entry constant time, and no memory.
+    /// Takes memory for a Did, even if it is no change, for a Saved, and at a Committed for new
+    /// keys. After the first bad entry constant time, and no memory.
     pub fn feed(&mut self, entry: &Entry) -> Result<(), AllocError>
         requires { caller_of entry.now < 64 }
         ensures ok { OnOk result ((h : List Entry) →

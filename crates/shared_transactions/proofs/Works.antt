@@ -161,13 +161,13 @@ are_done work_of me_of outcome_of promises limits works seated done others core 
       only = subst (λ (n : ℕ). All (λ e. caller_of e < n) core.history) in_all closed.only;
     }
 
--- The callers `others`, after the callers `ks`, have exactly their entries in the history.
+-- The callers `others`, after the callers `ks`, have seen exactly their entries in the history.
 pub are_in : {S : Type 0} (limits : Sizes) (ks others : List (Token S)) (place : ℕ) (core : State) → length ks ≡ place → IsClosedBy limits (ks ++ others) core → AreIn core.history place others
 are_in limits ks others place core as_many closed i k at =
     let here : slice_get (ks ++ others) (length ks + i) ≡ Some k = get_right ks others i ∙ at in
     (closed.numbered (length ks + i) k here ∙ ap (λ n. n + i) as_many, all_at (λ k. IsOwn core.history k) (ks ++ others) closed.own (length ks + i) k here)
 
--- A single caller has the number `place`, and exactly its entries in the history.
+-- A single caller has the number `place`, and has seen exactly its entries in the history.
 pub is_in : {S : Type 0} (h : List Entry) (place : ℕ) (me : Token S) → AreIn h place (me ∷ []) → (me.number ≡ place) × IsOwn h me
 is_in h place me are =
     let (number, own) = are 0 me refl in

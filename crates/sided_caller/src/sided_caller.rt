@@ -1,7 +1,7 @@
 //! A caller beside its side value. Each call on the map is made on the caller, and then the side
-//! value follows the answer. To follow takes no memory, since `save` makes room for a level before
-//! it calls the caller. Invariant: in a transaction the side value has a level for its beginning
-//! and for each savepoint, else one.
+//! value follows the answer. To follow takes no memory but what the jobs' runs take, since `save`
+//! makes room for a level before it calls the caller. Invariant: in a transaction the side value
+//! has a level for its beginning and for each savepoint, else one.
 ghost use Rattle.std.specs.Prelude.{◌≡◌, ℕ, ◌+◌, ◌≤◌, ◌<◌, ◌%◌, ◌^◌, true, false, [], ◌∷◌, IfOk, IfErr, OnOk, OnErr, Some, None, length, if◌then◌else◌};
 ghost use mathlib.Core.List.{IsPrefix};
 ghost use Rattle.txn_words.specs.declared.entry.Entry.TheVariants.{Began, Asked, Did, Saved, Leave, Returned, Committed, Aborted};
@@ -276,7 +276,7 @@ impl<S: Side> SidedCaller<S> {
     /// # Cost
     ///
     /// That of `Caller::back`, and the run of a job for each change of the side value that is taken
-    /// back. It takes no memory.
+    /// back. It takes no memory but what these runs take.
     pub fn back(&mut self, level: u64) -> Result<(), Stop>
         ensures open { OnOk result ((self.old.caller.is_open ≡ true)
             × (self.new.caller.is_open ≡ true)) }
@@ -335,7 +335,7 @@ impl<S: Side> SidedCaller<S> {
     /// # Cost
     ///
     /// That of `Caller::abort`, and the run of a job for each change of the side value. Takes no
-    /// memory.
+    /// memory but what these runs take.
     pub fn abort(&mut self) -> Result<(), Stop>
         ensures closed { self.new.caller.is_open ≡ false }
         ensures ok { OnOk result ((self.old.caller.is_open ≡ true)

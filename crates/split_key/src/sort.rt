@@ -1,6 +1,6 @@
 //! Sort keys: the order of the nodes of a list, by split key and then by key. A split key by itself
 //! does not order them, since two keys may share one; no two keys have the same sort key.
-//! The map tests this order by `is_before` alone, which takes constant time.
+//! The map tests this order only by `is_before`, which takes constant time.
 ghost use Rattle.std.specs.Prelude.{◌≡◌, ◌≢◌, ℕ};
 ghost use Rattle.std.proofs.Common.{rules};
 ghost use Rattle.std.specs.Cmp.Rules.{comparing};

@@ -63,7 +63,7 @@ same_rows (x ∷ rows) (r ∷ found) rise up same = let parts = pair_parts (belo
     let more : r.0 ≤ x.0 = subst (λ (p : Pair). r.0 ≤ p.0) also.2 (up 0 (suc also.0) x (omega arith) (let within = also.1 in omega arith)) in
     absurd (omega arith)) (pair_cases r x)
 
--- A sort of pairs leaves them by keys that do not fall.
+-- In sorted pairs the keys do not fall.
 first_less : (a b : Ordering) → is_lt (ordering_then a b) ≡ false → is_lt a ≡ false
 first_less Less b is = is
 first_less Equal b is = refl

@@ -32,7 +32,7 @@ moved_idle map a b w es left x is = record {
   goes = subst (Extends (stripes_of map) (known a.seat).number (known a.seat).seen es) (sym (ap (λ (v : View). v.seen) is)) x.goes;
 }
 
--- A step after one that added nothing: its entries are those of the number before.
+-- A step that added nothing and then one that added these entries are one step that added them.
 pub moved_then : (map : StripedMap) (a b c : Hand) (es : ℕ → List Entry) → Moves map a [] b → Moves map b (es (known b.seat).number) c → Moves map a (es (known a.seat).number) c
 moved_then map a b c es x y = record {
   number_is = y.number_is ∙ x.number_is;

@@ -281,7 +281,7 @@ after_here c m (Take k) s same = get-remove-here c s ∙ sym (get-remove-here m 
 after_here c m (Get k) s same = same
 after_here c m (PutIf k expected value) s same = put_if_same c m s k value _ _ (ap (λ (o : Option ℕ). option_eq nat_eq o expected) same) same
 
--- An operation on a part is that on the map, in the part's stripe.
+-- An operation does to a part what it does to the map, at each key of the part's stripe.
 sub_after : (n : ℕ) (c m : Map) (op : Op) (q : ℕ) → stripe_of n q ≡ stripe_of n (key_of op) → get c (q / n) ≡ get m q → get c (key_of op / n) ≡ get m (key_of op)
     → get (after c (under op (key_of op / n))) (q / n) ≡ get (after m op) q
 sub_after n c m op q same at_q at_key = let s : ℕ = key_of op / n in dite (ℕ_discrete q (key_of op))

@@ -121,7 +121,7 @@ hears id other v seen acting s kept me ne at =
     let heard_of : IsPrefix seen met.0 = (met.3.seen id w (set_here s.views id w (within s.views id v me))).met in
     forgotten n (board s.words s.homes (set s.views id w)) met other seen heard_of at
 
--- A seat that has met something sees what it saw before.
+-- `SeesIn` holds of a view whatever the view had met before.
 pub sees_met : (n : ℕ) (v u w : View) (front : List Entry) → u ≡ record v { met = front } → SeesIn n u w → SeesIn n v w
 sees_met n v u w front is sees =
     let x : SeesIn n (record v { met = front }) w = subst (λ (y : View). SeesIn n y w) is sees in

@@ -9,13 +9,13 @@ use Rattle.striped_map.specs.Attempts.{Fails, FailsBusy, IsWhy}
 use Rattle.striped_map.specs.Callers.{number, IsSince, IsStep, IsTakenBack, IsWithin}
 use Rattle.striped_map.proofs.Within.{by_cases, since_began, since_then, within_taken_back}
 
--- A caller that is in a transaction was not tried.
+-- A caller that is in a transaction has made no attempt.
 pub still : {T : Type 0} (work : Caller → Result T Stop → Caller → Type 0) (n : ℕ) (a b : Caller)
     → FailsBusy work n a b → b.is_open ≡ true → b ≡ a
 still work zero a b same is = same
 still work (suc n) a b fails is = absurd (cc (sym is ∙ fails.3.closed))
 
--- An attempt that failed keeps `IsSince` of the first try.
+-- If one more attempt fails, `IsSince` still holds from before the first.
 pub since_failed : {T : Type 0} (work : Caller → Result T Stop → Caller → Type 0) (me a b : Caller) (stop : Stop)
     → IsSince me a → (a.is_open ≡ true → (stop ≡ Refused AlreadyOpen) × (b ≡ a)) → (a.is_open ≡ false → Fails work a b stop) → IsSince me b
 since_failed work me a b stop since opened fails = by_cases a.is_open

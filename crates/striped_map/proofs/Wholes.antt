@@ -188,7 +188,7 @@ pairs_take n f (x ∷ ks) zero k at = append-nil (pairs_at n (with_part f x)) �
 pairs_take n f (x ∷ ks) (suc i) k at = ap (λ (l : List Pair). pairs_at n (with_part f x) ++ l) (pairs_take n f ks i k at)
     ∙ sym (append_assoc (pairs_at n (with_part f x)) (pairs_in n (map (with_part f) (take i ks))) (pairs_at n (with_part f k)))
 
--- How many there are.
+-- The number of the parts' pairs is the sum of their counts, and the number of the map's pairs.
 length_pairs : (n : ℕ) (held : List Held) → length (pairs_in n held) ≡ sum_by count_at held
 length_pairs n [] = refl
 length_pairs n (h ∷ held) = length-append (pairs_at n h) (pairs_in n held) ∙ ap (λ (c : ℕ). c + length (pairs_in n held)) (length-map h.part.content.rows (whole n h.stripe))

@@ -1,4 +1,5 @@
--- Operations on parts, and what they meet.
+-- The facts that a hand's contracts name: an operation under another key, a view without stripes,
+-- why a stripe was not taken, and the ends of a transaction that take all back.
 use Rattle.std.specs.Prelude.{◌≡◌, ◌≢◌, ℕ, [], true}
 use Rattle.txn_words.specs.declared.op.Op.{Op}
 use Rattle.txn_words.specs.declared.op.Op.TheVariants.{Put, Take, Get, PutIf}

@@ -37,7 +37,7 @@ IsStopped map a op b (Refused refusal) =
 abbrev pub IsCut : StripedMap → Hand → Hand → Stop → Type 0
 IsCut map a b stop = (key : ℕ) × IsStopped map a (Get key) b stop
 
--- A transaction was begun to read the pairs. While it had only its Began, the hand had seen one
+-- A transaction was begun to read the pairs. While Began was its only entry, the hand had seen one
 -- legal history, that of `left`. This history has of each caller that was taken in exactly the
 -- entries that its calls added, and otherwise only entries of seats that were made; the pairs are
 -- its map; and what the hand has seen since begins with it.

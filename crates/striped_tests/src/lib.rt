@@ -1,6 +1,6 @@
 //! Tests of `striped_map` and `sided_caller`, and of `transfer` of `accounts`. They test what no
-//! contract says: that each call succeeds while there is memory. Worked runs have callers side by
-//! side, with their values.
+//! contract says: that each call succeeds while there is memory. A worked run names each call with
+//! its answer, and the pairs that are left.
 //!
 //! They are not in the crates of the map, whose proofs would then be run twice. Most functions that
 //! make calls have no contract; `calls` says why.

@@ -12,7 +12,7 @@ pub enum End {
     Answered(Answer),
     /// The table had its turn to grow, and the bucket is initialised.
     Helped,
-    /// The key's stripe was held by this caller, and the transaction is aborted.
+    /// The key's stripe was found held by the caller of this number; the transaction is aborted.
     Busy(u64),
     /// The call was refused. `OutOfStep` means that a step got an answer that no rule foresees, or
     /// that an answer was told after the end; after any other refusal the call has added no entry

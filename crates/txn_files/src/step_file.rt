@@ -217,7 +217,7 @@ fn steps_in(
 /// - `NotJson` if they are not JSON that `piece_files::read_file` takes.
 /// - `Member` if the value is no object or one of the five members, in the order above, is
 ///   missing or of the wrong kind.
-/// - `Piece` for the first piece that is no step, or in version 1 is a `put_if`.
+/// - `Piece` for the first piece that is no step, or in version 1 has a `put_if`.
 /// - `Limit` if the version is not 1 or 2, `Limits::new` refuses the numbers, or there are more
 ///   than 1,000,000 steps.
 ///

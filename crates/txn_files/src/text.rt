@@ -148,8 +148,9 @@ fn put_entries(text: &mut String, entries: &[Entry]) -> Result<(), AllocError>
 
 /// A history as compact JSON: an object with its entries, its stripes and the version of the file,
 /// in this order, such as `{"entries":[["began",0,1]],"stripes":8,"version":1}`, without a line
-/// feed. `read_history` reads it again if it is in range, and in version 1 has no `put_if`.
-/// `HistoryPieces` hands out the same text, and a line feed, piece by piece.
+/// feed. `read_history` reads it again if it has at most 16,777,216 bytes, is in range, and in
+/// version 1 has no `put_if`. `HistoryPieces` hands out the same text, and a line feed, piece by
+/// piece.
 ///
 /// # Errors
 ///

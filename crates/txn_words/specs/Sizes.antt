@@ -4,8 +4,8 @@ use Rattle.std.specs.Int.{is_power_of_two}
 use Rattle.txn_words.specs.declared.refusal.Refusal.{Refusal}
 use Rattle.txn_words.specs.declared.refusal.Refusal.TheVariants.{Limit}
 
--- The numbers of callers and stripes, and the maximum of buckets; and whether only half keys, those
--- below 2^63, are taken.
+-- The numbers of callers and of stripes, and the largest size of the table, in buckets; and whether
+-- only half keys, those below 2^63, are taken.
 pub record Sizes : Type 0 where
   pub callers : ℕ
   pub stripes : ℕ

@@ -13,7 +13,7 @@ pub enum Action {
     Save,
     /// Goes back to the savepoint of this number, or to the start at 0.
     Back(u64),
-    /// Helps the table along for this key: doubles it if it is due, and initialises the key's
+    /// Helps the table along for this key: doubles it if that is due, and initialises the key's
     /// bucket.
     Help(u64),
     /// Aborts the transaction and ends the script.

@@ -1,6 +1,6 @@
 //! The limits of a map: its callers, stripes and buckets, and whether keys of the upper half are
 //! taken. Files, cores and the C library share the type, so all have the same ranges; only a
-//! striped map has ranges of its own. It keeps the numbers in range, so no call tests them again.
+//! striped map has other ranges. The type keeps the numbers in range, so no call tests them again.
 ghost use Rattle.std.specs.Prelude.{◌≡◌, true, IsTrue};
 ghost use Rattle.txn_words.specs.Sizes.{Sizes, are_limits, is_bad_key, limits_of};
 
@@ -8,8 +8,8 @@ use crate::refusal::Refusal;
 use split_key::Key;
 use std::marker::Model;
 
-/// The number of callers, of stripes, and of buckets at most; and whether every key is taken or
-/// only half keys, those below 2^63.
+/// The numbers of callers and of stripes, and the largest size of the table, in buckets; and
+/// whether every key is taken or only half keys, those below 2^63.
 #[derive(Clone, Copy, Debug, PartialEq, Eq)]
 pub struct Limits {
     callers: u32,

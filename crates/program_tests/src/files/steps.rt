@@ -340,7 +340,7 @@ null
         fillings: "",
         fault: Some(FileFault::Piece(Part::Step, 1)),
     },
-    // Text that is not JSON is found before a wrong step, also behind it.
+    // Text that is not JSON is the first fault, even behind a wrong step.
     Files {
         kind: Kind::Steps,
         frame: STEPS_OF_ONE,

@@ -457,7 +457,7 @@ const STEPS: [(Step, Answer); 118] = [
     (Step::Pair(3), Answer::End),
 ];
 
-/// Three changes of one key. Their jobs are run after later operations, the newest first.
+/// Three changes of one key, which are taken back newest first.
 const APPLY_THEN_TAKE_BACK: [(Step, Answer); 12] = [
     (Step::Put(2, 20), Answer::Reply(None)),
     (Step::Newest, Answer::Job(Inverse::Unput(2))),

@@ -2,6 +2,6 @@ use Rattle.std.proofs.Common.{◌≡◌, ◌++◌, drop}
 use Rattle.probe_map.specs.Slots.{pairs_of}
 use Rattle.probe_map.proofs.map.list.Given as goal
 
--- The pairs so far and those of the slots that are left are all.
+-- The pairs so far, followed by those of the slots that are left, are all pairs.
 abbrev pub invariant-loop-slot : goal.invariant-loop-slot
 invariant-loop-slot l = l.pairs.items ++ pairs_of (drop l.slot-index l.slots) ≡ pairs_of l.slots
