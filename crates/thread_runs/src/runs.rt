@@ -138,7 +138,7 @@ fn most_changes(
 /// buckets, up to the largest number of buckets, and a spare for each change of a transaction of
 /// each worker; and the worker's most changes in its log. With several workers the room is written
 /// before they start, and has a quarter more entries, for attempts that are repeated.
-fn room_for(scripts: &[Script], limits: Limits, changes: &[usize]) -> Room<'_> {
+fn room_for<'a>(scripts: &[Script], limits: Limits, changes: &'a [usize]) -> Room<'a> {
     let mut room = Room {
         entries: 0,
         nodes: 0,
