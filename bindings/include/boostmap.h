@@ -301,7 +301,8 @@ boostmap_status boostmap_striped_read(boostmap_caller *caller, boostmap_pair *pa
  *
  *     kind             its members, and what it says
  *     BEGAN            number: the transaction's, counted from 1 over all callers
- *     ASKED            operation, key, and value or expected: the caller now holds the key's stripe
+ *     ASKED            operation, key; value for a put or put_if; has, expected for a put_if: the
+ *                      caller now holds the key's stripe
  *     DID              has, value: the reply to the operation that was asked for
  *     SAVED            a savepoint, the caller's next level
  *     LEAVE            has, number: the caller goes back to a level, or aborts (has is 0)

@@ -18,7 +18,8 @@ pub enum Flaw {
     NotJson {
         /// The line where the fault shows, counted from 1.
         line: usize,
-        /// The column of that line, in bytes, counted from 1.
+        /// The column in that line, in bytes, counted from 1. If the file is cut off there, it is
+        /// the column of the line's last byte, or 0 if the line is empty.
         column: usize,
     },
     /// The value at a place is not as expected.

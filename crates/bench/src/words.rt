@@ -17,8 +17,8 @@ use std::time::{Clock, Instant};
 /// The number of stripes.
 const STRIPES: u64 = 4096;
 
-/// A thread's next stripe is this number times the number of threads after its last one: far enough
-/// that the two are not side by side.
+/// From one take to the next a thread goes on by this number times the number of threads, so that
+/// the two stripes are not side by side.
 const STRIDE: u64 = 1021;
 
 /// A thread's seat at the words. Two of them, side by side in a list, share no cache line.

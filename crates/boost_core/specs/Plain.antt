@@ -48,7 +48,7 @@ Returns old c n (answers.Returned m) new =
     × Ends left c (answers.Returned m) new
 Returns old c n answer new = Event old (Back c n) answer new
 
--- The step by which a caller leaves to the end, unless it is leaving already.
+-- The step by which a caller leaves to the end; none if it does so already.
 abbrev pub Leaves : Bool → State → ℕ → State → Type 0
 Leaves true old c left = left ≡ old
 Leaves false old c left = Event old (Abort c) answers.Leaving left

@@ -17,10 +17,10 @@ impl Core {
     ghost use Rattle.boost_core.specs.Nodes.{Cursors};
     ghost use Rattle.boost_core.specs.Words.{Asks, ListsAsk, claim_of};
 
-    /// A new core whose callers take the rights to their stripes elsewhere, as atomic words that
-    /// say who holds each. So an operation is asked for by `ask_with` or `ask_held`, and never by
-    /// `step`, `run`, `put`, `put_if`, `take` or `get`. In its history a Busy entry names a caller
-    /// that has begun a transaction, and may have ended it.
+    /// A new core whose callers take the rights to their stripes elsewhere, by atomic words that
+    /// say who holds each stripe. So an operation is asked for by `ask_with` or `ask_held`, and
+    /// never by `step`, `run`, `put`, `put_if`, `take` or `get`. In its history a Busy entry names
+    /// a caller that has begun a transaction, and may have ended it.
     ///
     /// # Errors
     ///

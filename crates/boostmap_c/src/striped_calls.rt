@@ -224,7 +224,7 @@ pub extern "C" fn boostmap_striped_back(caller: &mut CallerHandle, level: u64) -
 ///
 /// # Cost
 ///
-/// A step for each change and each stripe; takes no memory.
+/// A step for each change, each savepoint and each stripe; takes no memory.
 #[unsafe(no_mangle)]
 pub extern "C" fn boostmap_striped_commit(caller: &mut CallerHandle, word: &mut u64) -> u32
     ensures { Numbers Commits caller.old.held.member result word.old word.new
@@ -246,7 +246,7 @@ pub extern "C" fn boostmap_striped_commit(caller: &mut CallerHandle, word: &mut 
 ///
 /// # Cost
 ///
-/// A step for each change and each stripe; takes no memory.
+/// A step for each change, each savepoint and each stripe; takes no memory.
 #[unsafe(no_mangle)]
 pub extern "C" fn boostmap_striped_abort(caller: &mut CallerHandle) -> u32
     ensures { Ends Aborts caller.old.held.member result caller.new.held.member }

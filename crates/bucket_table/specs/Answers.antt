@@ -40,7 +40,7 @@ abbrev pub link_answer_at : Directory → Listing → ℕ → Result InitLink In
 link_answer_at d l helper =
     link_answer (cursor_fits l (helper_of d helper)) (has_dummy l.nodes) l.last (help_at d helper)
 
--- The answer to a store, from the helper's state.
+-- The answer to a store if memory lasts, from the helper's state.
 abbrev pub store_answer : Option Help → Result Unit InitRefusal
 store_answer None = Err NoSuchHelper
 store_answer (Some Nothing) = Err HelperOutOfOrder

@@ -44,8 +44,8 @@
 //!
 //! Calls take constant time and no memory unless they say otherwise. `Buckets::new` and
 //! `Buckets::with_capacity` take memory, and so may `Buckets::init_link`, for a new dummy, and
-//! `Buckets::init_store`, for a new segment. `nearest` walks up the ancestors of a bucket, which
-//! are as many as it has 1 bits; `init_seek` walks the list from the parent's dummy.
+//! `Buckets::init_store`, for a new segment. `nearest` walks up from a bucket to its ancestors, at
+//! most one step for each 1 bit of the bucket; `init_seek` walks the list from the parent's dummy.
 #![tactic(auto)]
 
 mod answer;

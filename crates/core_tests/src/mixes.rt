@@ -179,7 +179,7 @@ const BESIDE_AN_ABORT: Mix = Mix {
     workers: &[(0, TWO_EMPTY), (1, ABORT)],
 };
 
-/// The last of three workers has one script fewer, and ends before the others or after one of them.
+/// The last of three workers has one script fewer: by most seeds it ends first, by some later.
 const THREE_WORKERS: Mix = Mix {
     scripts: "{\"version\":1,\"workers\":3,\"stripes\":1,\"buckets\":2,\"tries\":0,\
         \"scripts\":[[],[],[],[],[]]}",

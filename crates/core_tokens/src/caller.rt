@@ -180,7 +180,7 @@ impl<L: Ledger, S: Side> Caller<L, S> {
     /// - `NoMemory` if memory is refused for room in `seen`: no step is taken;
     /// - `NoMemory`, `StampsUsedUp` or `StaleWord` if the core refuses the step with it;
     /// - `OutOfStep` if the core's answer is impossible in the token's state, or if the token would
-    ///   have refused the call, as `help` for a bad key: the token breaks.
+    ///   have refused the call, for instance help with a bad key: the token breaks.
     ///
     /// If core and token are in step they stay so, and the end is never `OutOfStep`.
     ///

@@ -145,7 +145,7 @@ impl Callers {
     ///
     /// # Errors
     ///
-    /// `AllocError` if memory is refused. Either way no entry more has entered.
+    /// `AllocError` if memory is refused. Either way no further entry has entered.
     ///
     /// # Cost
     ///

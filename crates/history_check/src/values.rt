@@ -8,7 +8,7 @@ use std::alloc::{AllocError, Global};
 use std::collections::BTreeMap;
 use txn_trace::Op;
 
-/// How many sorted maps there are: a prime, so that keys at equal distances are shared out as well.
+/// How many sorted maps there are: a prime, so that keys at equal distances are shared out too.
 const MAPS: u64 = 1021;
 
 /// The values of the keys.

@@ -13,7 +13,7 @@ use Rattle.judge_engine.specs.declared.basis.Basis.{Basis}
 use Rattle.judge_engine.specs.declared.basis.Basis.TheVariants.{Locks, Commits}
 use Rattle.judge_engine.specs.Bases.{IsLegalBy, IsVerdictBy}
 
--- ---- the first of rows of entries
+-- ---- the first bad entry, if more entries follow
 
 goes_on : (r : Option ℕ) (i : ℕ) (a b : Option (ℕ × ℕ)) (bad : ℕ × ℕ) → (a ≡ Some bad → b ≡ Some bad) → (elim r [ Some rule ↦ Some (i, rule) | None ↦ a ]) ≡ Some bad → (elim r [ Some rule ↦ Some (i, rule) | None ↦ b ]) ≡ Some bad
 goes_on None i a b bad f e = f e

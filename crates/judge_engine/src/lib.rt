@@ -1,8 +1,9 @@
 //! The engines of the program `judge`, over any reader and any writer.
 //!
 //! `check` judges a history file, and writes the verdict as one line; `why` adds what leads to the
-//! bad entry, and writes the flaw of a refused file. `watch` judges entries as lines, each when it
-//! is read. All three judge by locks (`history_check`) or by the order of commits (`serial_check`).
+//! bad entry, and writes the flaw of a refused file. `watch` reads entries, one a line, and judges
+//! each when it is read. All three judge by locks (`history_check`) or by the order of commits
+//! (`serial_check`).
 //! `tell_outcomes` writes the outcome of each script in a history, and judges nothing.
 //!
 //! Proved: the verdict is that of the definitions (`specs/Files.antt`, `specs/Watching.antt`), and

@@ -28,7 +28,7 @@ fn is_legal(verdict: Verdict) -> bool
     matches!(verdict, Verdict::Legal { .. })
 }
 
-/// Writes the line of a verdict, and answers whether it is that the history is legal.
+/// Writes the line of a verdict, and answers whether the verdict is that the history is legal.
 ///
 /// # Errors
 ///

@@ -250,7 +250,8 @@ impl Transaction<'_> {
     ///
     /// # Cost
     ///
-    /// A seek and an act for each change that is taken back; may take memory for the history.
+    /// A seek and an act for each change that is taken back, and a step for each savepoint that is
+    /// dropped; may take memory for the history.
     #[tactic(auto, using(crate::proofs::Calls::keeps_by))]
     pub fn back(&mut self, level: u64) -> Result<(), Stop>
         ensures keeps { Keeps self.old self.new }
@@ -294,8 +295,8 @@ impl Transaction<'_> {
     ///
     /// # Cost
     ///
-    /// A step for each change and each stripe of the transaction; if the commit is refused, that of
-    /// `abort`. Takes no memory.
+    /// A step for each change, savepoint and stripe of the transaction; if the commit is refused,
+    /// that of `abort`. Takes no memory.
     pub fn commit(self) -> Result<u64, Stop>
         ensures ok { IfOk result (λ place. IsCommitted self.entry.caller place
             self.entry.map.now.core self.exit.0.now.core) }
@@ -321,7 +322,8 @@ impl Transaction<'_> {
     ///
     /// # Cost
     ///
-    /// A seek and an act for each change, and a step for each stripe; takes no memory.
+    /// A seek and an act for each change, and a step for each savepoint and each stripe; takes no
+    /// memory.
     pub fn abort(self)
         ensures back { IsTakenBack self.entry.caller self.entry.map.now.core self.exit.0.now.core }
         ensures did { HasAborted self.entry.caller self.entry.map.now.core self.exit.0.now.core }

@@ -57,7 +57,8 @@ IsValue depth bytes d rest =
     → (value_at depth (tokens_at place bytes) ≡ Some (d, tokens_at after_value rest))
     × (after_end_array (tokens_at place bytes) ≡ None)
 
--- Wherever a key may begin, the bytes are this key, and then the rest begins with a value.
+-- Wherever a key may begin, the bytes are this key, and then the rest, which is where a value may
+-- begin.
 abbrev pub IsKey : List ℕ → List ℕ → List ℕ → Type 0
 IsKey bytes name rest =
     (place : Place) → may_begin place ≡ true

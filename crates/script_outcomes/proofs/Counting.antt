@@ -1,4 +1,4 @@
--- How far the worker's numbers go if a commit or an abort is counted.
+-- How far the worker's numbers go after a commit or an abort, counted or not.
 use Rattle.std.proofs.Common.{◌≡◌, ℕ, ◌+◌, ◌%◌, ◌<◌, ◌≤◌, ◌⊎◌, List, length, set, Some, refl, sym, ap, ◌∙◌, inl, inr, arith}
 use Rattle.std.specs.Prelude.{slice_get}
 use Rattle.std.proofs.Math.Nat.{add-mod_right}

@@ -1,6 +1,6 @@
 //! Laws of outcomes, as functions whose contracts are the laws: what an outcome means for the
-//! history, and that no commit of what `mix` prints is missed. They do nothing when they run. They
-//! hold of histories of the right shape, which `outcomes` does not test.
+//! history, and that no commit in a history that `mix` prints is missed. They do nothing when they
+//! run. They hold of histories of the right shape, which `outcomes` does not test.
 
 ghost use Rattle.std.specs.Prelude.{◌≡◌, ℕ, ◌<◌, true, List, [], ◌∷◌, ◌++◌, length};
 ghost use Rattle.txn_trace.specs.History.{is_committed, of};

@@ -10,7 +10,7 @@ use txn_files::{read_packed_history, read_scripts};
 /// A script file, a history file, and the outcomes, one on each line.
 type Row = (&'static str, &'static str, &'static str);
 
-/// Two workers meet: the second finds the stripe held, and is tried again.
+/// Two workers meet: the second finds the stripe held, and tries its script again.
 const MEET: Row = (
     r#"{"version":1,"workers":2,"stripes":8,"buckets":8,"tries":3,
         "scripts":[[["put",1,10]],[["put",1,11]]]}"#,

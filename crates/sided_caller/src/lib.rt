@@ -13,8 +13,8 @@
 //! operations leave it unchanged. No words are stored and none is copied: each change brings a job
 //! that takes it back (`Side`).
 //!
-//! Cost: that of the caller's call, and a step for each change of the side value that is taken back
-//! or kept.
+//! Cost: that of the caller's call, and for each change of the side value the run of its job if it
+//! is taken back, or a step if it is kept.
 #![tactic(auto)]
 
 mod sided_caller;

@@ -204,8 +204,8 @@ impl<S: Side> SidedCaller<S> {
         outcome
     }
 
-    /// Puts a value at a key if the value before is the one expected, `None` for a key that is not
-    /// there, and answers the value before, as `Caller::put_if` does.
+    /// Puts a value at a key if the key has the expected value, or, if none is expected, if the key
+    /// is absent. Answers the value before, as `Caller::put_if` does.
     ///
     /// # Errors
     ///

@@ -29,7 +29,7 @@ set_away (x ∷ xs) zero (suc j) a b ne e = e
 set_away (x ∷ xs) (suc i) zero a b ne e = e
 set_away (x ∷ xs) (suc i) (suc j) a b ne e = set_away xs i j a b (λ same. ne (ap suc same)) e
 
--- No place has a stripe for which the index has no place, a place past the end, or that of another.
+-- A stripe is at no place if the index has no place for it, one past the end, or that of another.
 pub none_indexed : (ks index : List ℕ) → IsIndexed ks index → (stripe : ℕ) → slice_get index stripe ≡ None → (other : ℕ) → slice_get ks other ≢ Some stripe
 none_indexed ks index is stripe none other at = none-some other (sym none ∙ is other stripe at)
 

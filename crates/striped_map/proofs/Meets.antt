@@ -45,7 +45,7 @@ IsAway views c = (i : ℕ) (v : View) → get_elem? views i ≡ some v
     → (v.acts ≡ true → v.number ≢ c)
     × ((j : ℕ) (r : ℕ × List Entry) → slice_get v.retired j ≡ Some r → r.0 ≢ c)
 
--- Witnesses come and go.
+-- The rule still holds when witnesses are added or spent.
 module _ (n : ℕ) (s : St) (kept : IsKeptAt n s) (vs : List View)
     (first : get_elem? vs 0 ≡ some kept.1.first)
     (place : (i : ℕ) (u : View) → get_elem? vs i ≡ some u → (get_elem? s.views i ≡ some u) ⊎ IsWitness kept.0 u)

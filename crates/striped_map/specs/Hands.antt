@@ -38,9 +38,9 @@ abbrev pub IsCut : StripedMap → Hand → Hand → Stop → Type 0
 IsCut map a b stop = (key : ℕ) × IsStopped map a (Get key) b stop
 
 -- A transaction was begun to read the pairs. While Began was its only entry, the hand had seen one
--- legal history, that of `left`. This history has of each caller that was taken in exactly the
--- entries that its calls added, and otherwise only entries of seats that were made; the pairs are
--- its map; and what the hand has seen since begins with it.
+-- legal history, that of `left`. Each caller that was taken in has in it exactly the entries that
+-- its calls added, and all other entries are of seats that were made. The pairs are the map of this
+-- history, and what the hand has seen since begins with it.
 pub record AreLeft (map : StripedMap) (a c : Hand) (pairs : List (ℕ × ℕ)) : Type 0 where
   pub txn : ℕ
   pub during : Hand

@@ -177,7 +177,7 @@ impl Hand {
         map.begin(&mut self.seat);
     }
 
-    /// Takes a stripe, unless it is held, and answers its place among those that are held.
+    /// Takes a stripe, unless the hand holds it already, and answers its place among those held.
     #[tactic(auto, using(crate::proofs::Ends::holds_taken, crate::proofs::Ends::holds_found))]
     fn hold(&mut self, map: &StripedMap, stripe: usize) -> Result<usize, Stop>
         requires map { IsOf self.old.seat map.now }
@@ -214,8 +214,8 @@ impl Hand {
         }
     }
 
-    /// Takes all stripes that are not held. A busy stripe ends the transaction, just as a get of
-    /// one of its keys would.
+    /// Takes all stripes that the hand does not hold yet. A busy stripe ends the transaction, just
+    /// as a get of one of its keys would.
     #[tactic(auto, using(crate::proofs::Ends::moved_still, crate::proofs::Ends::moved_on, crate::proofs::Ends::moved_busy))]
     fn hold_all(&mut self, map: &StripedMap) -> Result<(), Stop>
         requires map { IsOf self.old.seat map.now }

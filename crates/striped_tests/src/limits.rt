@@ -108,7 +108,7 @@ fn put_a_thousand<R: Abort>(rt: &R, home: &mut Home) {
     play(rt, home, &[(0, Ask::Commit, Told::Number(1_001))]);
 }
 
-/// Each of these keys with itself as its value.
+/// Each key below `keys`, with itself as its value.
 fn selves(alloc: Global, keys: u64) -> Result<Vec<(u64, u64)>, AllocError> {
     let mut pairs = Vec::new(alloc);
     for key in 0..keys {

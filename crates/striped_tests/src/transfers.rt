@@ -42,7 +42,7 @@ pub(crate) const FILLED: &[Row] = &[
 ];
 
 /// Transfers, and whether they are made: not if the first account has too little, or the second
-/// would have 2^64. An account without a key has 0.
+/// would have 2^64 or more. An account without a key has 0.
 const TRANSFERS: &[(u64, u64, u64, bool)] = &[
     (1, 2, 11, false),
     (1, 2, 10, true),

@@ -21,8 +21,8 @@ use std::thread::{Promise, PromisedHandle, Threads};
 use txn_trace::{Limits, Refusal};
 
 /// The size of a worker's stack in bytes. No function of a worker calls itself, and all frames take
-/// a few thousand bytes. If the address space is limited, the system refuses stacks of its own
-/// size, often 8 MiB, to many workers.
+/// a few thousand bytes. A limited address space has no room for many stacks of the system's
+/// default size, often 8 MiB.
 const STACK: usize = 256 * 1024;
 
 /// The promise of the thread of a pass: unless memory is refused, it returns the caller of the

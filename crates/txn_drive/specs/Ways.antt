@@ -11,6 +11,6 @@ child_within (suc steps) last bucket =
     if parent_of bucket == last then bucket else child_within steps last (parent_of bucket)
 
 -- The bucket that follows `last` on the way to a bucket. A bucket below 2 ^ 32 has at most 32
--- ancestors.
+-- ancestors other than itself.
 unfoldable pub child_towards : ℕ → ℕ → ℕ
 child_towards last bucket = child_within 32 last bucket

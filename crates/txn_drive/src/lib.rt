@@ -14,7 +14,7 @@
 //! drive has added to the history are a function of the drive (`made`); each answer adds to them
 //! the entries of the step that was answered; the entries of an ended drive are those of its end
 //! (`IsMade`); and each bucket on a helper's way follows its parent (`laws::ways`). Calls take
-//! constant time and no memory; the search of a bucket's next ancestor takes up to 32 rounds.
+//! constant time and no memory; the search of a helper's next bucket takes up to 32 rounds.
 #![tactic(auto)]
 
 mod call;

@@ -13,7 +13,7 @@ abbrev pub entries_text : Bool → List Entry → List ℕ
 entries_text false entries = codes "{\"entries\":[" ++ join_with_byte comma (map entry_text entries)
 entries_text true entries = further_text entries
 
--- The line from behind its last entry.
+-- The end of the line: all that follows its last entry.
 abbrev pub end_text : ℕ → ℕ → List ℕ
 end_text version stripes =
     codes "],\"stripes\":" ++ (decimal stripes

@@ -59,7 +59,7 @@ fn put_entries<'a>(piece: &mut Piece, is_begun: bool, entries: &'a [SmallEntry])
     put_further(piece, further)
 }
 
-/// Puts the end of the line, from behind the last entry.
+/// Puts the end of the line: all that follows the last entry.
 fn put_end(piece: &mut Piece, version: u64, stripes: u32)
     requires { length piece.old ≤ FULL }
     ensures { piece.new ≡ piece.old ++ end_text version stripes }

@@ -176,8 +176,7 @@ crossed_ordered : ordered (now crossed) ≡ (4, 40) ∷ (2, 20) ∷ []
 unfolding split reversed reversed_low
 crossed_ordered = refl
 
--- A second transaction changes a key that the first one put, and commits after it though its number
--- is lower.
+-- Transaction 1 changes a key that transaction 2 has put, and commits after it.
 abbrev handed_on : List Entry
 handed_on = Began 1 1 ∷ Began 0 2 ∷ Asked 0 (Put 1 10) ∷ Did 0 None ∷ Committed 0 1 ∷ Asked 1 (Put 1 11) ∷ Did 1 (Some 10) ∷ Committed 1 2 ∷ []
 

@@ -185,8 +185,8 @@ length-open_txns n h shape within =
 pub length-running : (n : ℕ) (h : List Entry) → IsShaped h → callers_in h ≤ n → length (running n h) ≡ length (running (callers_in h) h)
 length-running n h shape within = let same : callers_in h ≤ callers_in h = omega arith in sym (length-open_txns n h shape within) ∙ length-open_txns (callers_in h) h shape same
 
--- A Began is one more caller that is not closed, an end is one less, and every other entry leaves
--- their number unchanged.
+-- A Began adds one to the number of callers that are not closed, an end takes one away, and every
+-- other entry leaves it unchanged.
 pub length-running-push : (g : List Entry) (e : Entry) → IsShaped g → is_shaped g e ≡ true
     → length (running (callers_in (g ++ e ∷ [])) (g ++ e ∷ [])) + one_if (is_end e) ≡ length (running (callers_in g) g) + one_if (is_began e)
 length-running-push g e shape shaped = elim (began_or_not e) [

@@ -254,7 +254,7 @@ impl Seat {
     }
 
     /// Moves on by an entry if it may follow, and answers whether it may; if not, nothing changes.
-    /// A `Saved` takes one of the room, and a savepoint that is dropped gives one back.
+    /// A `Saved` takes one place of the room, and a savepoint that is dropped gives one back.
     ///
     /// # Cost
     ///

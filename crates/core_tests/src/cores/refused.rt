@@ -127,8 +127,8 @@ fn change_five(rt: &impl Abort, alloc: Global, core: &mut Core) -> Result<bool, 
     Ok(true)
 }
 
-/// Checks that five keys have this value. The pairs are compared if there is memory for their list,
-/// and else counted.
+/// Checks that five keys have this value. The pairs are counted, and compared if there is memory
+/// for their list.
 fn has_five(rt: &impl Abort, alloc: Global, core: &Core, value: u64) {
     assert_eq!(rt; sizes_of(core), (2, 5));
     let wanted = [(4, value), (2, value), (1, value), (5, value), (3, value)];

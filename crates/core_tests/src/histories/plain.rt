@@ -388,9 +388,9 @@ fn serial_map(alloc: Global, history: &[Entry]) -> Result<Values, AllocError> {
     Ok(values)
 }
 
-/// Whether the transaction that begins with an entry, if it is open, has the replies of running
-/// alone on these values. If an entry is a caller's last Began, its transaction's entries are the
-/// caller's from there on.
+/// Whether the open transaction that begins with this entry has the replies of running alone on
+/// these values; true if no open transaction begins with it. The entries of an open transaction are
+/// those of its caller from its Began on.
 fn reply_holds(
     alloc: Global,
     history: &[Entry],

@@ -10,10 +10,10 @@ use std::io::Write;
 use std::process::Abort;
 use std::test::Fail;
 
-/// Numbers of puts, each with the least and the greatest number of further digits. The keys of the
-/// four gets have together four digits and the further ones. With the first number of puts the last
-/// entry ends within 10 bytes of the border of a piece, so the end of the line is before the border
-/// or behind it. With the second the border is at each byte of an entry in turn.
+/// Numbers of puts, each with the least and the greatest number of digits beyond four that the keys
+/// of the four gets have together. With the first number of puts the last entry ends within 10
+/// bytes of the border of a piece, so the end of the line is before the border or behind it. With
+/// the second the border is at each byte of an entry in turn.
 const LENGTHS: [(u64, u32, u32); 2] = [(1916, 36, 56), (1930, 0, 36)];
 
 /// The number of puts whose history fills two pieces and a part.

@@ -111,15 +111,15 @@ fn core_with_words(alloc: Global, stripes: u64) -> Result<Core, Refusal> {
     Ok(Core::with_words(alloc, Limits::new(2, stripes, 8)?)?)
 }
 
-/// Puts another core, whose stripes are words, under the lock. Neither core has a history.
+/// Puts another core, whose stripes are words, in the core's place. Neither has a history.
 fn lay_core<L: Ledger>(rt: &impl Abort, booked: &mut Booked<L>, core: Core) {
     assert!(rt; booked.core.trace().is_empty());
     booked.core = core;
     assert!(rt; booked.core.words() && booked.core.trace().is_empty());
 }
 
-/// Tries to begin a transaction with a core of 4 stripes under the lock, and then with one of 8.
-/// Both are refused.
+/// Tries to begin a transaction on another core of 4 stripes, and then on one of 8. Both are
+/// refused.
 fn begin_with_others<L: Ledger, R: Abort>(
     rt: &R,
     alloc: Global,

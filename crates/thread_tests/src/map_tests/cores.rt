@@ -121,7 +121,7 @@ static PUT_BY_1: [Row; 2] = [
     (1, Call::Op(Op::Put(1, 10)), Ok(Told::Replied(None))),
 ];
 
-/// Caller 0 tries a word, and caller 1 puts the key.
+/// Caller 0's `try_word` is refused, and caller 1 puts the key.
 fn try_idly<L: Ledger, R: Wait + Abort>(
     rt: &R,
     shared: &Shared<L>,

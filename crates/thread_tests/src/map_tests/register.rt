@@ -12,7 +12,7 @@ pub(super) struct Register {
     pub(super) words: [u64; 4],
 }
 
-/// A closure that a test made, to be run once, and the words before and after it.
+/// A closure that takes a change back, to be run once, and the words before and after the change.
 #[derive(Drop)]
 pub(super) struct RegisterJob {
     pub(super) before: [u64; 4],
