@@ -137,7 +137,7 @@ fn most_changes(
 /// and a begin and an end for each script; a node for each put, as many again for the dummies of
 /// buckets, up to the largest number of buckets, and a spare for each change of a transaction of
 /// each worker; and the worker's most changes in its log. With several workers the room is written
-/// before they start, and has a quarter more entries, for attempts that are repeated.
+/// before they start, and has half as many entries more, for attempts that are repeated.
 fn room_for<'a>(scripts: &[Script], limits: Limits, changes: &'a [usize]) -> Room<'a> {
     let mut room = Room {
         entries: 0,
@@ -151,7 +151,7 @@ fn room_for<'a>(scripts: &[Script], limits: Limits, changes: &'a [usize]) -> Roo
         room.nodes = room.nodes.saturating_add(puts_in(actions));
     }
     if room.is_written {
-        room.entries = room.entries.saturating_add(room.entries / 4);
+        room.entries = room.entries.saturating_add(room.entries / 2);
     }
     let dummies = room.nodes.min(limits.buckets() as usize);
     let spares = changes
