@@ -39,7 +39,7 @@ mod seen;
 mod turns;
 
 pub use booked::Booked;
+pub use boost_core::Room;
 pub use caller::Caller;
 pub use no_side::{NoJob, NoSide};
 pub use pass::Pass;
-pub use boost_core::Room;

@@ -117,11 +117,7 @@ fn run_under<L: Ledger + Send + Sync, T: Terms + Send + Sync, G: Gate, R: Thread
 }
 
 /// For each worker, the most changes of one of its scripts.
-fn most_changes(
-    alloc: Global,
-    scripts: &[Script],
-    workers: usize,
-) -> Result<Vec<usize>, AllocError>
+fn most_changes(alloc: Global, scripts: &[Script], workers: usize) -> Result<Vec<usize>, AllocError>
     requires { 0 < workers }
 {
     let mut most = vec![in alloc; 0; workers]?;
@@ -174,7 +170,10 @@ fn entries_of(actions: &[PackedAction]) -> usize {
 fn changes_in(actions: &[PackedAction]) -> usize {
     actions
         .iter()
-        .filter(|packed| matches!(packed.action(), Action::Op(Op::Put(..) | Op::PutIf(..) | Op::Take(_))))
+        .filter(|packed| matches!(
+            packed.action(),
+            Action::Op(Op::Put(..) | Op::PutIf(..) | Op::Take(_))
+        ))
         .count()
 }
 
