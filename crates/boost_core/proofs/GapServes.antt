@@ -34,12 +34,14 @@ module _ (t t' : TableAt) (sound : IsSound t'.list) where
   swept outcomes.Clean is = kept is.0
 
   sought_bucket : (h b : ℕ) (outcome : Result InitSeek Refusal) → SeekChanges t t' h b outcome → Stay (nodes_of t) (nodes_of t')
-  sought_bucket h b (Ok seeks.Placed) changes = subst (Stay (nodes_of t)) (sym changes.nodes) (stay_sought (dummy_at b) (nodes_of t) changes.from)
+  sought_bucket h b (Ok seeks.Placed) changes =
+      subst (Stay (nodes_of t)) (sym changes.nodes) (stay_sought (dummy_at b) (nodes_of t) changes.from)
   sought_bucket h b (Ok seeks.Ready) changes = kept changes.1
   sought_bucket h b (Err refusal) changes = kept (ap (λ u. u.list) changes)
 
   linked_dummy : (h : ℕ) (outcome : Result InitLink Refusal) → LinkChanges t t' h outcome → Stay (nodes_of t) (nodes_of t')
-  linked_dummy h (Ok links.Linked) changes = linked t.list t'.list (dummy_node changes.place changes.bucket _) sound.spread (links_node _ _ _ _ _ changes.links)
+  linked_dummy h (Ok links.Linked) changes =
+      linked t.list t'.list (dummy_node changes.place changes.bucket _) sound.spread (links_node _ _ _ _ _ changes.links)
   linked_dummy h (Ok links.Again) changes = kept changes.1
   linked_dummy h (Ok links.Present) changes = kept changes.1
   linked_dummy h (Err refusal) changes = kept (ap (λ u. u.list) changes)
@@ -54,7 +56,8 @@ module _ (t t' : TableAt) (sound : IsSound t'.list) where
 
 -- The cursors of all helpers but the one that steps.
 module _ (t t' : TableAt) (h : ℕ) where
-  moved : (k : ℕ) (now : TableHelper) → t'.buckets.helpers ≡ slice_set t.buckets.helpers k now → Some (Helper k) ≢ Some (Helper h) → helper_cursor t' h ≡ helper_cursor t h
+  moved : (k : ℕ) (now : TableHelper) → t'.buckets.helpers ≡ slice_set t.buckets.helpers k now → Some (Helper k) ≢ Some (Helper h)
+      → helper_cursor t' h ≡ helper_cursor t h
   moved k now is other = other_cursor t t' k h now is (λ e. other (ap (λ n. Some (Helper n)) (sym e)))
 
   sought_cursor : (k b : ℕ) (outcome : Result InitSeek Refusal) → SeekChanges t t' k b outcome → mover_of (steps.InitSeek k b) (said.sought outcome) ≢ Some (Helper h) → helper_cursor t' h ≡ helper_cursor t h
@@ -64,7 +67,8 @@ module _ (t t' : TableAt) (h : ℕ) where
 
   linked_cursor : (k : ℕ) (outcome : Result InitLink Refusal) → LinkChanges t t' k outcome → mover_of (steps.InitLink k) (said.linked outcome) ≢ Some (Helper h) → helper_cursor t' h ≡ helper_cursor t h
   linked_cursor k (Ok links.Again) changes other = moved k Idle (ap (λ d. d.helpers) changes.0) other
-  linked_cursor k (Ok links.Present) changes other = moved k (Holding changes.0.bucket changes.0.place) (ap (λ d. d.helpers) changes.0.now) other
+  linked_cursor k (Ok links.Present) changes other =
+      moved k (Holding changes.0.bucket changes.0.place) (ap (λ d. d.helpers) changes.0.now) other
   linked_cursor k (Ok links.Linked) changes other = moved k (Holding changes.bucket changes.place) (ap (λ d. d.helpers) changes.now) other
   linked_cursor k (Err refusal) changes other = ap (λ u. helper_cursor u h) changes
 
@@ -77,12 +81,14 @@ module _ (t t' : TableAt) (h : ℕ) where
   serves_cursor (steps.InitSeek k b) answer is other = sought_cursor k b is.outcome is.changes (subst (λ a. mover_of (steps.InitSeek k b) a ≢ Some (Helper h)) is.answer_is other)
   serves_cursor (steps.InitLink k) answer is other = linked_cursor k is.outcome is.changes (subst (λ a. mover_of (steps.InitLink k) a ≢ Some (Helper h)) is.answer_is other)
   serves_cursor (steps.InitStore k) answer is other = stored_cursor k is.outcome is.changes (subst (λ a. mover_of (steps.InitStore k) a ≢ Some (Helper h)) is.answer_is other)
-  serves_cursor (steps.Double seen) answer is other = ap (λ hs. slice_index_or (map cursor_in hs) h None) (doubled_helpers t t' is.outcome is.changes)
+  serves_cursor (steps.Double seen) answer is other =
+      ap (λ hs. slice_index_or (map cursor_in hs) h None) (doubled_helpers t t' is.outcome is.changes)
   serves_cursor _ answer is other = absurd is
 
 module _ (w w' : World) (tells : Tells w) (sound : IsSound w'.table.list) where
-  sought_fits : (h b : ℕ) (outcome : Result InitSeek Refusal) → outcome ≡ seek_answer (size_of w.table) (stored_of w.table) (slice_get (helps_of w.table) h) b → SeekChanges w.table w'.table h b outcome
-      → Fits (state_of w) (steps.InitSeek h b) (said.sought outcome) (state_of w')
+  sought_fits : (h b : ℕ) (outcome : Result InitSeek Refusal)
+      → outcome ≡ seek_answer (size_of w.table) (stored_of w.table) (slice_get (helps_of w.table) h) b
+      → SeekChanges w.table w'.table h b outcome → Fits (state_of w) (steps.InitSeek h b) (said.sought outcome) (state_of w')
   sought_fits h b (Ok seeks.Placed) says changes =
       helper_stands w' h b changes.cursor sound.spread (seeker_is w.table w'.table h b changes (seeker_there w.table h b (sym says)))
       (found_placed w'.table.list changes.cursor changes.found sound) changes.at (found_fits w'.table.list changes.cursor changes.found)

@@ -70,11 +70,14 @@ no_helper_gap t h is = helper_gap_is t h ∙ at (helper_cursor t h) (sym (fits_b
     at (Some cursor) stale = no_gap t cursor stale
 
 -- A helper's cursor that was placed for a bucket and fits is beside the position of its dummy.
-pub helper_stands : (w' : World) (h b : ℕ) (cursor : Cursor) → IsSpread (nodes_of w'.table) → helper_of w'.table.buckets h ≡ Some (Seeking b cursor) → IsPlaced w'.table.list cursor → at_of cursor ≡ dummy_at b → fits w'.table cursor ≡ true
-    → StandsAt (state_of w') (Helper h) (dummy_at b)
+pub helper_stands : (w' : World) (h b : ℕ) (cursor : Cursor) → IsSpread (nodes_of w'.table)
+    → helper_of w'.table.buckets h ≡ Some (Seeking b cursor) → IsPlaced w'.table.list cursor → at_of cursor ≡ dummy_at b
+    → fits w'.table cursor ≡ true → StandsAt (state_of w') (Helper h) (dummy_at b)
 helper_stands w' h b cursor spread is placed at fitting =
     let has : helper_cursor w'.table h ≡ Some cursor =
-    sym (unwrap_or-slice_get (cursors_of w'.table) h None) ∙ ap (λ (o : Option (Option Cursor)). unwrap_or o None) (slice_get-map cursor_in w'.table.buckets.helpers h ∙ ap (option_map cursor_in) is) in
+    sym (unwrap_or-slice_get (cursors_of w'.table) h None)
+    ∙ ap (λ (o : Option (Option Cursor)). unwrap_or o None)
+    (slice_get-map cursor_in w'.table.buckets.helpers h ∙ ap (option_map cursor_in) is) in
     stands_at w' (Helper h) cursor (dummy_at b) (helper_gap_is w'.table h ∙ ap (gap_if w'.table) has) spread placed at fitting
 
 -- Idle helpers have no cursors.

@@ -137,11 +137,14 @@ becomes_move w t' placed' size stored linked helps step answer becomes allowed a
 
 -- The move, if the list is unchanged.
 pub quiet_move : (w : World) (t' : TableAt) (size : ℕ) (stored linked : List Bool) (helps : List Help)
-    (step : Step) (answer : Answer) → Becomes w.table t' size stored linked helps → KeepsList w.table t' → IsAllowed (state_of w) step answer
-    → after (state_of w) step answer (table_changes t') (last_of t') ≡ became w t' None size stored linked helps → Move (state_of w) step answer (state_of (served w t' None))
+    (step : Step) (answer : Answer) → Becomes w.table t' size stored linked helps → KeepsList w.table t'
+    → IsAllowed (state_of w) step answer
+    → after (state_of w) step answer (table_changes t') (last_of t') ≡ became w t' None size stored linked helps
+    → Move (state_of w) step answer (state_of (served w t' None))
 quiet_move w t' size stored linked helps step answer becomes list allowed after_is =
     let stays : table_changes t' ≡ table_changes w.table = ap (λ l. l.changes) list in
-    becomes_move w t' None size stored linked helps step answer becomes allowed after_is (omega arith) (λ kept. stays) (ap (λ l. l.last) list)
+    becomes_move w t' None size stored linked helps step answer becomes allowed after_is
+    (omega arith) (λ kept. stays) (ap (λ l. l.last) list)
 
 -- The refusal of a helper's step, if it has one.
 abbrev pub refusal_in_result : {A : Type 0} → Result A Refusal → Option Refusal
@@ -200,7 +203,8 @@ placed_not t None bucket is = absurd (cc (is))
 placed_not t (Some help) bucket is = ap not (is_set_is (stored_of t) bucket) ∙ seek_placed (nat_le (size_of t) bucket) (is_stored (stored_of t) bucket) (is_stored (stored_of t) (parent_of bucket)) is
 
 pub seek_ready_move : (w : World) (t' : TableAt) (helper bucket : ℕ) → length (helps_of w.table) ≡ w.limits.callers
-    → seek_answer (size_of w.table) (stored_of w.table) (slice_get (helps_of w.table) helper) bucket ≡ Ok seeks.Ready → t'.buckets ≡ with_helper w.table.buckets helper Idle → KeepsList w.table t'
+    → seek_answer (size_of w.table) (stored_of w.table) (slice_get (helps_of w.table) helper) bucket ≡ Ok seeks.Ready
+    → t'.buckets ≡ with_helper w.table.buckets helper Idle → KeepsList w.table t'
     → Move (state_of w) (steps.InitSeek helper bucket) answers.Ready (state_of (served w t' None))
 seek_ready_move w t' helper bucket many is idle list =
     quiet_move w t' (size_of w.table) (stored_of w.table) (linked_of w.table) (slice_set (helps_of w.table) helper Nothing)
@@ -208,7 +212,8 @@ seek_ready_move w t' helper bucket many is idle list =
     (seek_refusal w helper bucket many ∙ ap refusal_in_result is, ready_stored w.table (slice_get (helps_of w.table) helper) bucket is) refl
 
 pub seek_placed_move : (w : World) (t' : TableAt) (helper bucket : ℕ) → length (helps_of w.table) ≡ w.limits.callers
-    → seek_answer (size_of w.table) (stored_of w.table) (slice_get (helps_of w.table) helper) bucket ≡ Ok seeks.Placed → Seeks w.table.buckets t'.buckets w.table.list t'.list helper bucket
+    → seek_answer (size_of w.table) (stored_of w.table) (slice_get (helps_of w.table) helper) bucket ≡ Ok seeks.Placed
+    → Seeks w.table.buckets t'.buckets w.table.list t'.list helper bucket
     → regular t' ≡ regular w.table → linked_of t' ≡ linked_of w.table → table_changes w.table ≤ table_changes t'
     → Move (state_of w) (steps.InitSeek helper bucket) answers.Placed (state_of (served w t' (Some (Helper helper))))
 seek_placed_move w t' helper bucket many is sought same linked rises =
@@ -266,7 +271,9 @@ pub stored_move : (w : World) (t' : TableAt) (helper : ℕ) → length (helps_of
     → Move (state_of w) (steps.InitStore helper) answers.Stored (state_of (served w t' None))
 stored_move w t' helper many is stores list =
     quiet_move w t' (size_of w.table) (slice_set (stored_of w.table) stores.bucket true) (linked_of w.table)
-    (slice_set (helps_of w.table) helper Nothing) (steps.InitStore helper) answers.Stored (stored_becomes w.table t' helper stores list) list
+    (slice_set (helps_of w.table) helper Nothing) (steps.InitStore helper) answers.Stored
+    (stored_becomes w.table t' helper stores list) list
     (store_refusal w helper many ∙ ap refusal_in_result is, tt)
     (ap (λ (o : Option Help). became w t' None (size_of w.table) (slice_set (stored_of w.table) (bucket_at (unwrap_or o Nothing)) true)
-    (linked_of w.table) (slice_set (helps_of w.table) helper Nothing)) (help_is w.table helper (Holding stores.bucket stores.place) stores.had))
+    (linked_of w.table) (slice_set (helps_of w.table) helper Nothing))
+    (help_is w.table helper (Holding stores.bucket stores.place) stores.had))

@@ -33,19 +33,24 @@ module _ (w w' : World) (home : NamesDummies w.table) where
       let sweeps : Sweeps w.table w'.table outcomes.Clean = subst (Sweeps w.table w'.table) says is.sweeps in
       record { nodes = (clean_seen (nodes_of w.table) (is.clean.0 says), kept w w' sweeps.0); stamp = is.keeps.last }
 
-  sought : (h b : ℕ) (outcome : Result InitSeek Refusal) → SeekChanges w.table w'.table h b outcome → Lists (state_of w) (steps.InitSeek h b) (said.sought outcome) (state_of w')
+  sought : (h b : ℕ) (outcome : Result InitSeek Refusal) → SeekChanges w.table w'.table h b outcome
+      → Lists (state_of w) (steps.InitSeek h b) (said.sought outcome) (state_of w')
   sought h b (Ok seeks.Ready) changes = record { nodes = kept w w' changes.1; stamp = ap (λ l. l.last) changes.1 }
   sought h b (Ok seeks.Placed) changes = record {
-    nodes = sought_from w w' changes.from (parent_of b) (home.stored (parent_of b) changes.from changes.parent) (dummy_at b) changes.nodes changes.changes;
+    nodes = sought_from w w' changes.from (parent_of b) (home.stored (parent_of b) changes.from changes.parent)
+        (dummy_at b) changes.nodes changes.changes;
     stamp = changes.rest.last;
   }
   sought h b (Err refusal) changes = record { nodes = kept w w' (ap (λ t. t.list) changes); stamp = ap last_of changes }
 
-  linked : (h : ℕ) (outcome : Result InitLink Refusal) → LinkChanges w.table w'.table h outcome → Lists (state_of w) (steps.InitLink h) (said.linked outcome) (state_of w')
+  linked : (h : ℕ) (outcome : Result InitLink Refusal) → LinkChanges w.table w'.table h outcome
+      → Lists (state_of w) (steps.InitLink h) (said.linked outcome) (state_of w')
   linked h (Ok links.Linked) changes =
-      let bucket : bucket_at (help_in (helps_of w.table) h) ≡ changes.bucket = ap (λ (o : Option Help). bucket_at (unwrap_or o Nothing)) (help_is w.table h (Seeking changes.bucket changes.cursor) changes.had) in
+      let bucket : bucket_at (help_in (helps_of w.table) h) ≡ changes.bucket =
+      ap (λ (o : Option Help). bucket_at (unwrap_or o Nothing)) (help_is w.table h (Seeking changes.bucket changes.cursor) changes.had) in
       record {
-        nodes = subst (λ n. Links (state_of w) (state_of w') (dummy_at n)) (sym bucket) (linked_node w w' (dummy_node changes.place changes.bucket _) refl (links_node _ _ _ _ _ changes.links));
+        nodes = subst (λ n. Links (state_of w) (state_of w') (dummy_at n)) (sym bucket)
+            (linked_node w w' (dummy_node changes.place changes.bucket _) refl (links_node _ _ _ _ _ changes.links));
         stamp = changes.links.last;
       }
   linked h (Ok links.Again) changes = record { nodes = kept w w' changes.1; stamp = ap (λ l. l.last) changes.1 }

@@ -34,7 +34,8 @@ lt_not_le a b = elim (cases_lt a b) [
   | inr most ↦ le-ltb a b most ∙ sym (ap not (le-leb b a most))
 ]
 
-module _ (w : World) (tells : Tells w) (parents : HasParents w.table) (t' : TableAt) (follows : Follows w.table t') (rises : table_changes w.table ≤ table_changes t') where
+module _ (w : World) (tells : Tells w) (parents : HasParents w.table)
+    (t' : TableAt) (follows : Follows w.table t') (rises : table_changes w.table ≤ table_changes t') where
   -- Nothing has changed.
   same_tells : t' ≡ w.table → Tells (served w t' w.placed)
   same_tells same = subst (λ u. Tells (served w u w.placed)) (sym same) tells
@@ -44,16 +45,18 @@ module _ (w : World) (tells : Tells w) (parents : HasParents w.table) (t' : Tabl
   swept_by sweeps.Clean answer is says answer_is = subst (λ a. Served w steps.Sweep a t') (sym answer_is) (record { tells = sweep_tells w tells t' is.keeps is.spares follows; move = clean_move w t' is.keeps (is.stays says) })
 
   sought_by : (h b : ℕ) (outcome : Result InitSeek Refusal) (answer : Answer) → answer ≡ said.sought outcome → outcome ≡ seek_answer (size_of w.table) (stored_of w.table) (slice_get (helps_of w.table) h) b
-      → SeekChanges w.table t' h b outcome → regular t' ≡ regular w.table → linked_of t' ≡ linked_of w.table → Served w (steps.InitSeek h b) answer t'
-  sought_by h b (Ok seeks.Ready) answer answer_is says changes same dummies = subst (λ a. Served w (steps.InitSeek h b) a t') (sym answer_is) (record {
+      → SeekChanges w.table t' h b outcome → regular t' ≡ regular w.table → linked_of t' ≡ linked_of w.table
+      → Served w (steps.InitSeek h b) answer t'
+  sought_by h b (Ok seeks.Ready) answer is says changes same dummies = subst (λ a. Served w (steps.InitSeek h b) a t') (sym is) (record {
     tells = becomes_tells w tells t' None _ _ _ _ (idle_becomes w.table t' h changes.0 changes.1) (length-set _ _ _) follows tt;
     move = seek_ready_move w t' h b tells.helpers (sym says) changes.0 changes.1;
   })
-  sought_by h b (Ok seeks.Placed) answer answer_is says changes same dummies = subst (λ a. Served w (steps.InitSeek h b) a t') (sym answer_is) (record {
-    tells = becomes_tells w tells t' (Some (Helper h)) _ _ _ _ (sought_becomes w.table t' h b changes same dummies) (length-set _ _ _) follows (seeker_fits w.table t' h b changes (seeker_there w.table h b (sym says)));
+  sought_by h b (Ok seeks.Placed) answer is says changes same dummies = subst (λ a. Served w (steps.InitSeek h b) a t') (sym is) (record {
+    tells = becomes_tells w tells t' (Some (Helper h)) _ _ _ _ (sought_becomes w.table t' h b changes same dummies) (length-set _ _ _) follows
+        (seeker_fits w.table t' h b changes (seeker_there w.table h b (sym says)));
     move = seek_placed_move w t' h b tells.helpers (sym says) changes same dummies rises;
   })
-  sought_by h b (Err refusal) answer answer_is says changes same dummies = subst (λ a. Served w (steps.InitSeek h b) a t') (sym answer_is) (record {
+  sought_by h b (Err refusal) answer is says changes same dummies = subst (λ a. Served w (steps.InitSeek h b) a t') (sym is) (record {
     tells = same_tells changes;
     move = helper_refused w t' (steps.InitSeek h b) refusal changes (seek_refusal w h b tells.helpers ∙ ap refusal_in_result (sym says));
   })
@@ -116,14 +119,17 @@ module _ (w : World) (tells : Tells w) (parents : HasParents w.table) (t' : Tabl
   doubled_answer seen outcome says = doubling seen outcome _ _ _ refl refl refl
       (says ∙ ap (λ n. double_answer (size_of w.table) n (count_of (content w.table)) seen) tells.largest ∙ ap (λ (m : Map). double_answer (size_of w.table) w.limits.buckets (count_of m) seen) tells.content)
 
-  doubled_by : (seen : ℕ) (outcome : Double) (answer : Answer) → answer ≡ said.doubled outcome → outcome ≡ double_answer (size_of w.table) (largest_of w.table) (count_of (content w.table)) seen → Doubles w.table t' outcome → KeepsList w.table t'
+  doubled_by : (seen : ℕ) (outcome : Double) (answer : Answer) → answer ≡ said.doubled outcome
+      → outcome ≡ double_answer (size_of w.table) (largest_of w.table) (count_of (content w.table)) seen
+      → Doubles w.table t' outcome → KeepsList w.table t'
       → Served w (steps.Double seen) answer t'
-  doubled_by seen (doubles.Moved n) answer answer_is says changes list = subst (λ a. Served w (steps.Double seen) a t') (sym answer_is) (record {
+  doubled_by seen (doubles.Moved n) answer is says changes list = subst (λ a. Served w (steps.Double seen) a t') (sym is) (record {
     tells = becomes_tells w tells t' None _ _ _ _ (doubled_becomes w.table t' (doubles.Moved n) changes list) refl follows tt;
-    move = quiet_move w t' _ _ _ _ (steps.Double seen) (said.doubled (doubles.Moved n)) (doubled_becomes w.table t' (doubles.Moved n) changes list) list
+    move = quiet_move w t' _ _ _ _ (steps.Double seen) (said.doubled (doubles.Moved n))
+        (doubled_becomes w.table t' (doubles.Moved n) changes list) list
         (refl, doubled_answer seen (doubles.Moved n) says) refl;
   })
-  doubled_by seen outcome answer answer_is says changes list = subst (λ a. Served w (steps.Double seen) a t') (sym answer_is) (record {
+  doubled_by seen outcome answer is says changes list = subst (λ a. Served w (steps.Double seen) a t') (sym is) (record {
     tells = becomes_tells w tells t' None _ _ _ _ (doubled_becomes w.table t' outcome changes list) refl follows tt;
     move = quiet_move w t' _ _ _ _ (steps.Double seen) (said.doubled outcome) (doubled_becomes w.table t' outcome changes list) list
         (refl, doubled_answer seen outcome says) refl;

@@ -29,12 +29,14 @@ use Rattle.map_ops.proofs.BucketAnswers.{linked_at, within_limit}
 
 -- The changes of a table are those of its parts.
 pub seek_changes : (before after : Listing) (old new : Directory) (helper bucket : ℕ) (result : Result InitSeek InitRefusal)
-    → parts.SeekChanges old new before after helper bucket result → SeekChanges (table_of before old) (table_of after new) helper bucket (answer_for result)
+    → parts.SeekChanges old new before after helper bucket result
+    → SeekChanges (table_of before old) (table_of after new) helper bucket (answer_for result)
 seek_changes before after old new helper bucket (Ok done) changes = changes
 seek_changes before after old new helper bucket (Err refusal) changes = λ i. table_of (changes.1 i) (changes.0 i)
 
 pub link_changes : (before after : Listing) (old new : Directory) (helper : ℕ) (result : Result InitLink InitRefusal)
-    → parts.LinkChanges old new before after helper result → LinkChanges (table_of before old) (table_of after new) helper (answer_for result)
+    → parts.LinkChanges old new before after helper result
+    → LinkChanges (table_of before old) (table_of after new) helper (answer_for result)
 link_changes before after old new helper (Ok done) changes = changes
 link_changes before after old new helper (Err refusal) changes = λ i. table_of (changes.1 i) (changes.0 i)
 
@@ -45,12 +47,14 @@ store_changes list old new helper (Err refusal) same = ap (table_of list) same
 
 -- A seek for a bucket unlinks no dummy.
 pub seek_linked : (before after : Listing) (old new : Directory) (helper bucket : ℕ) (result : Result InitSeek InitRefusal)
-    → parts.SeekChanges old new before after helper bucket result → ((other : ℕ) → has_dummy after.nodes other ≡ has_dummy before.nodes other)
+    → parts.SeekChanges old new before after helper bucket result
+    → ((other : ℕ) → has_dummy after.nodes other ≡ has_dummy before.nodes other)
     → linked_of (table_of after new) ≡ linked_of (table_of before old)
 seek_linked before after old new helper bucket result changes dummies =
     ap (λ (n : ℕ). map (has_dummy after.nodes) (range_with_len 0 n)) (limit result changes) ∙ linked_same before after old dummies
   where
-    limit : (result : Result InitSeek InitRefusal) → parts.SeekChanges old new before after helper bucket result → limit_of new ≡ limit_of old
+    limit : (result : Result InitSeek InitRefusal) → parts.SeekChanges old new before after helper bucket result
+        → limit_of new ≡ limit_of old
     limit (Ok Ready) changes = ap (λ (d : Directory). limit_of d) changes.0
     limit (Ok Placed) seeks = ap (λ (d : Directory). limit_of d) seeks.now
     limit (Err refusal) changes = ap (λ (d : Directory). limit_of d) changes.0
@@ -78,9 +82,12 @@ linked_more before after limit bucket within small more =
         ]
 
 -- The linked dummies after a helper has linked that of its bucket.
-pub linked_with : (old new : TableAt) (helper : ℕ) → HasParents old → (links : parts.LinksDummy old.buckets new.buckets old.list new.list helper) → linked_of new ≡ slice_set (linked_of old) links.bucket true
+pub linked_with : (old new : TableAt) (helper : ℕ) → HasParents old
+    → (links : parts.LinksDummy old.buckets new.buckets old.list new.list helper)
+    → linked_of new ≡ slice_set (linked_of old) links.bucket true
 linked_with old new helper sound links =
-    let within : links.bucket < limit_of old.buckets = within_limit old.buckets helper links.bucket (Seeking links.bucket links.cursor) sound links.had (λ order. order.within) in
+    let within : links.bucket < limit_of old.buckets =
+    within_limit old.buckets helper links.bucket (Seeking links.bucket links.cursor) sound links.had (λ order. order.within) in
     ap (λ (d : Directory). map (has_dummy new.list.nodes) (range_with_len 0 (limit_of d))) links.now
     ∙ linked_more old.list.nodes new.list.nodes (limit_of old.buckets) links.bucket within (omega (arith, sound.fits)) links.links.dummies
 
