@@ -207,8 +207,7 @@ pub seek_ready_move : (w : World) (t' : TableAt) (helper bucket : ℕ) → lengt
     → t'.buckets ≡ with_helper w.table.buckets helper Idle → KeepsList w.table t'
     → Move (state_of w) (steps.InitSeek helper bucket) answers.Ready (state_of (served w t' None))
 seek_ready_move w t' helper bucket many is idle list =
-    quiet_move w t' (size_of w.table) (stored_of w.table) (linked_of w.table) (slice_set (helps_of w.table) helper Nothing)
-    (steps.InitSeek helper bucket) answers.Ready (idle_becomes w.table t' helper idle list) list
+    quiet_move w t' _ _ _ _ (steps.InitSeek helper bucket) answers.Ready (idle_becomes w.table t' helper idle list) list
     (seek_refusal w helper bucket many ∙ ap refusal_in_result is, ready_stored w.table (slice_get (helps_of w.table) helper) bucket is) refl
 
 pub seek_placed_move : (w : World) (t' : TableAt) (helper bucket : ℕ) → length (helps_of w.table) ≡ w.limits.callers
@@ -217,9 +216,7 @@ pub seek_placed_move : (w : World) (t' : TableAt) (helper bucket : ℕ) → leng
     → regular t' ≡ regular w.table → linked_of t' ≡ linked_of w.table → table_changes w.table ≤ table_changes t'
     → Move (state_of w) (steps.InitSeek helper bucket) answers.Placed (state_of (served w t' (Some (Helper helper))))
 seek_placed_move w t' helper bucket many is sought same linked rises =
-    becomes_move w t' (Some (Helper helper)) (size_of w.table) (stored_of w.table) (linked_of w.table)
-    (slice_set (helps_of w.table) helper (Sought bucket (table_changes t')))
-    (steps.InitSeek helper bucket) answers.Placed (sought_becomes w.table t' helper bucket sought same linked)
+    becomes_move w t' (Some (Helper helper)) _ _ _ _ (steps.InitSeek helper bucket) answers.Placed (sought_becomes w.table t' helper bucket sought same linked)
     (seek_refusal w helper bucket many ∙ ap refusal_in_result is, placed_not w.table (slice_get (helps_of w.table) helper) bucket is) refl
     rises (λ kept. absurd (false≢true kept)) sought.rest.last
 
@@ -270,9 +267,7 @@ pub stored_move : (w : World) (t' : TableAt) (helper : ℕ) → length (helps_of
     → store_answer (slice_get (helps_of w.table) helper) ≡ Ok tt → Stores w.table.buckets t'.buckets helper → KeepsList w.table t'
     → Move (state_of w) (steps.InitStore helper) answers.Stored (state_of (served w t' None))
 stored_move w t' helper many is stores list =
-    quiet_move w t' (size_of w.table) (slice_set (stored_of w.table) stores.bucket true) (linked_of w.table)
-    (slice_set (helps_of w.table) helper Nothing) (steps.InitStore helper) answers.Stored
-    (stored_becomes w.table t' helper stores list) list
+    quiet_move w t' _ _ _ _ (steps.InitStore helper) answers.Stored (stored_becomes w.table t' helper stores list) list
     (store_refusal w helper many ∙ ap refusal_in_result is, tt)
     (ap (λ (o : Option Help). became w t' None (size_of w.table) (slice_set (stored_of w.table) (bucket_at (unwrap_or o Nothing)) true)
     (linked_of w.table) (slice_set (helps_of w.table) helper Nothing))

@@ -147,8 +147,7 @@ module _ (w : World) (helper : ℕ) (many : length (helps_of w.table) ≡ w.limi
       → (t' : TableAt) → t'.buckets ≡ with_helper w.table.buckets helper Idle → KeepsList w.table t' → Move before (steps.InitLink helper) answers.Again (state_of (served w t' None))
   link_again_move is fresh unmoved t' idle list =
       let sought = sought_now (Ok links.Again) is refl in
-      quiet_move w t' (size_of w.table) (stored_of w.table) (linked_of w.table) (slice_set (helps_of w.table) helper Nothing)
-      (steps.InitLink helper) answers.Again (idle_becomes w.table t' helper idle list) list (
+      quiet_move w t' _ _ _ _ (steps.InitLink helper) answers.Again (idle_becomes w.table t' helper idle list) list (
         link_refusal ∙ ap refusal_by_test is,
         stale sought.bucket sought.noted sought.had (linking_again _ _ _ sought.answer),
       ) refl
@@ -173,9 +172,7 @@ module _ (w : World) (helper : ℕ) (many : length (helps_of w.table) ≡ w.limi
   link_present_move is t' holds list =
       let sought = sought_now (Ok links.Present) is refl in
       let there = linking_present _ _ _ sought.answer in
-      quiet_move w t' (size_of w.table) (stored_of w.table) (linked_of w.table)
-      (slice_set (helps_of w.table) helper (Dummy holds.bucket)) (steps.InitLink helper) answers.Present
-      (held_becomes w.table t' helper holds list) list (
+      quiet_move w t' _ _ _ _ (steps.InitLink helper) answers.Present (held_becomes w.table t' helper holds list) list (
         link_refusal ∙ ap refusal_by_test is,
         ap not (lacks_when sought.bucket sought.noted true sought.had (is_set_is (linked_of w.table) sought.bucket ∙ there)),
       )
