@@ -1,5 +1,5 @@
 -- The cursors of helpers, from the table.
-use Rattle.std.proofs.Common.{◌≡◌, ◌≢◌, ℕ, Bool, true, false, zero, suc, List, [], ◌∷◌, replicate, Option, Some, None, is_some, refl, sym, ap, ◌∙◌, map, slice_index_or, unwrap_or}
+use Rattle.std.proofs.Common.{◌≡◌, ℕ, Bool, true, false, zero, suc, List, [], ◌∷◌, replicate, Option, Some, None, is_some, refl, sym, ap, ◌∙◌, map, slice_index_or, unwrap_or}
 use Rattle.boost_core.proofs.Vocabulary.{option_map, false≢true, slice_get-map, unwrap_or-slice_get, dummy_at}
 use Rattle.std.proofs.Math.ListN as lists
 use Rattle.node_list.specs.Order.{IsRising, IsSpread}
@@ -7,8 +7,9 @@ use Rattle.bucket_table.specs.declared.helper.Helper.{Helper as TableHelper}
 use Rattle.bucket_table.specs.declared.helper.Helper.TheVariants.{Idle, Seeking, Holding}
 use Rattle.bucket_table.specs.Directory.{helper_of}
 use Rattle.bucket_table.specs.Helpers.{cursor_fits}
-use Rattle.map_ops.specs.Buckets.{helper_fits, IsPlacedFor}
-use Rattle.map_ops.specs.TableAt.{TableAt, Cursor, cursor_in, cursors_of, helper_cursor, nodes_of, fits, Help, Nothing, KeepsAllCursors, KeepsCursors, help_of}
+use Rattle.list_steps.specs.Found.{IsPlaced, at_of}
+use Rattle.map_ops.specs.Buckets.{helper_fits}
+use Rattle.map_ops.specs.TableAt.{TableAt, Cursor, cursor_in, cursors_of, helper_cursor, nodes_of, fits, Help, Nothing, help_of}
 use Rattle.boost_core.specs.State.{Gap, gap_in, Helper}
 use Rattle.boost_core.specs.Nodes.{AreNeighbours, StandsAt}
 use Rattle.boost_core.specs.Core.{nodes_at, gap_if, helper_gaps_of, World, state_of}
@@ -68,21 +69,16 @@ no_helper_gap t h is = helper_gap_is t h ∙ at (helper_cursor t h) (sym (fits_b
     at None stale = refl
     at (Some cursor) stale = no_gap t cursor stale
 
--- A helper still has its cursor if all helpers but another one keep theirs, or all do.
-pub kept_cursor : (t t' : TableAt) (k h : ℕ) → KeepsCursors t t' k → h ≢ k → helper_cursor t' h ≡ helper_cursor t h
-unfolding KeepsCursors
-kept_cursor t t' k h keeps other = keeps h other
-
-pub each_kept : (t t' : TableAt) (h : ℕ) → KeepsAllCursors t t' → helper_cursor t' h ≡ helper_cursor t h
-unfolding KeepsAllCursors
-each_kept t t' h keeps = ap (λ cs. slice_index_or cs h None) keeps
-
 -- A helper's cursor that was placed for a bucket and fits is beside the position of its dummy.
-pub helper_stands : (w' : World) (h b : ℕ) → IsSpread (nodes_of w'.table) → IsPlacedFor w'.table h b → helper_fits w'.table h ≡ true → StandsAt (state_of w') (Helper h) (dummy_at b)
-unfolding IsPlacedFor
-helper_stands w' h b spread placed fitting =
-    stands_at w' (Helper h) placed.0 (dummy_at b) (helper_gap_is w'.table h ∙ ap (gap_if w'.table) placed.1) spread placed.2 placed.3
-    (ap (fits_if w'.table) (sym placed.1) ∙ sym (fits_by w'.table h) ∙ fitting)
+pub helper_stands : (w' : World) (h b : ℕ) (cursor : Cursor) → IsSpread (nodes_of w'.table)
+    → helper_of w'.table.buckets h ≡ Some (Seeking b cursor) → IsPlaced w'.table.list cursor → at_of cursor ≡ dummy_at b
+    → fits w'.table cursor ≡ true → StandsAt (state_of w') (Helper h) (dummy_at b)
+helper_stands w' h b cursor spread is placed at fitting =
+    let has : helper_cursor w'.table h ≡ Some cursor =
+    sym (unwrap_or-slice_get (cursors_of w'.table) h None)
+    ∙ ap (λ (o : Option (Option Cursor)). unwrap_or o None)
+    (slice_get-map cursor_in w'.table.buckets.helpers h ∙ ap (option_map cursor_in) is) in
+    stands_at w' (Helper h) cursor (dummy_at b) (helper_gap_is w'.table h ∙ ap (gap_if w'.table) has) spread placed at fitting
 
 -- Idle helpers have no cursors.
 idle_cursor : (helper : TableHelper) → help_of helper ≡ Nothing → cursor_in helper ≡ None

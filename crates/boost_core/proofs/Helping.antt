@@ -1,20 +1,23 @@
 -- The steps of the table and of its helpers.
 use Rattle.std.proofs.Common.{◌≡◌, ◌≢◌, ℕ, ◌≤◌, ◌&&◌, Bool, true, false, cond, List, [], ◌++◌, length, Option, Some, None, Result, Ok, Err, refl, sym, ap, subst, ◌∙◌, arith, slice_get, slice_set, unwrap_or, map, nat_le, not, le-leb, append-nil, inl, inr}
 use Rattle.boost_core.proofs.Vocabulary.{false≢true, cases_lt, slice_get_within, slice_get-get_or, unwrap_or-slice_get, InitSeek, Refusal, Entry, Step, Answer}
-use Rattle.map_ops.specs.Double.{Double}
 use Rattle.map_ops.specs.InitSeek.TheVariants as seeks
 use Rattle.bucket_table.specs.declared.answer.InitRefusal.{InitRefusal}
 use Rattle.bucket_table.specs.declared.answer.InitRefusal.TheVariants as inits
 use Rattle.txn_words.specs.declared.refusal.Refusal.TheVariants as refusals
-use Rattle.map_ops.specs.Buckets.{Becomes, Helps, Seeks, Stores, Doubles, size_after, is_stored, answer_for, seek_answer, store_answer, parent_of, LacksSegment}
+use Rattle.map_ops.specs.Buckets.{is_stored, answer_for, seek_answer, store_answer, parent_of, LacksSegment}
 use Rattle.txn_words.specs.declared.step.Step.TheVariants as steps
 use Rattle.txn_words.specs.declared.answer.Answer.TheVariants as answers
-use Rattle.map_ops.specs.TableAt.{TableAt, Help, Nothing, Sought, Dummy, Follows, Keeps, KeepsSpares, content, map_of, regular, size_of, stored_of, linked_of, helps_of, table_changes, last_of, largest_of}
+use Rattle.map_ops.specs.TableAt.{TableAt, Help, Nothing, Sought, Dummy, Follows, Keeps, KeepsList, KeepsSpares, content, map_of, regular, size_of, stored_of, linked_of, helps_of, table_changes, last_of, largest_of}
 use Rattle.boost_core.specs.State.{State, Owner, Helper, is_set, help_in, bucket_at}
 use Rattle.boost_core.specs.Refusals.{refusal_of, has_dummy}
 use Rattle.boost_core.specs.Answers.{keeps_list, after}
 use Rattle.boost_core.specs.Machine.{Move, IsAllowed}
 use Rattle.boost_core.specs.Core.{World, Tells, IsFresh, state_of, session_changes, nodes_at, gap_by, helper_gaps_of, all_times}
+use Rattle.bucket_table.specs.declared.helper.Helper.TheVariants.{Idle, Holding}
+use Rattle.bucket_table.specs.Directory.{with_helper}
+use Rattle.bucket_table.specs.Changes.{Seeks, Stores}
+use Rattle.boost_core.proofs.Tables.{Becomes, help_is, idle_becomes, sought_becomes, stored_becomes}
 use Rattle.boost_core.proofs.Spares.{still_covered}
 use Rattle.boost_core.proofs.Refused.{le_false}
 use Rattle.boost_core.proofs.Grow.{table_stayed}
@@ -132,11 +135,16 @@ becomes_move w t' placed' size stored linked helps step answer becomes allowed a
   one_stamp = omega arith;
 }
 
--- Double.
-pub double_tells : (w : World) → Tells w
-    → (t' : TableAt) (answer : Double) → Doubles w.table t' answer → Follows w.table t' → Tells (served w t' None)
-double_tells w tells t' answer doubles follows =
-    becomes_tells w tells t' None (size_after (size_of w.table) answer) (stored_of w.table) (linked_of w.table) (helps_of w.table) doubles.becomes refl follows tt
+-- The move, if the list is unchanged.
+pub quiet_move : (w : World) (t' : TableAt) (size : ℕ) (stored linked : List Bool) (helps : List Help)
+    (step : Step) (answer : Answer) → Becomes w.table t' size stored linked helps → KeepsList w.table t'
+    → IsAllowed (state_of w) step answer
+    → after (state_of w) step answer (table_changes t') (last_of t') ≡ became w t' None size stored linked helps
+    → Move (state_of w) step answer (state_of (served w t' None))
+quiet_move w t' size stored linked helps step answer becomes list allowed after_is =
+    let stays : table_changes t' ≡ table_changes w.table = ap (λ l. l.changes) list in
+    becomes_move w t' None size stored linked helps step answer becomes allowed after_is
+    (omega arith) (λ kept. stays) (ap (λ l. l.last) list)
 
 -- The refusal of a helper's step, if it has one.
 abbrev pub refusal_in_result : {A : Type 0} → Result A Refusal → Option Refusal
@@ -195,23 +203,22 @@ placed_not t None bucket is = absurd (cc (is))
 placed_not t (Some help) bucket is = ap not (is_set_is (stored_of t) bucket) ∙ seek_placed (nat_le (size_of t) bucket) (is_stored (stored_of t) bucket) (is_stored (stored_of t) (parent_of bucket)) is
 
 pub seek_ready_move : (w : World) (t' : TableAt) (helper bucket : ℕ) → length (helps_of w.table) ≡ w.limits.callers
-    → seek_answer (size_of w.table) (stored_of w.table) (slice_get (helps_of w.table) helper) bucket ≡ Ok seeks.Ready → Helps w.table t' helper Nothing → table_changes t' ≡ table_changes w.table
+    → seek_answer (size_of w.table) (stored_of w.table) (slice_get (helps_of w.table) helper) bucket ≡ Ok seeks.Ready
+    → t'.buckets ≡ with_helper w.table.buckets helper Idle → KeepsList w.table t'
     → Move (state_of w) (steps.InitSeek helper bucket) answers.Ready (state_of (served w t' None))
-seek_ready_move w t' helper bucket many is helps stays =
-    becomes_move w t' None (size_of w.table) (stored_of w.table) (linked_of w.table) (slice_set (helps_of w.table) helper Nothing)
-    (steps.InitSeek helper bucket) answers.Ready helps.becomes
+seek_ready_move w t' helper bucket many is idle list =
+    quiet_move w t' _ _ _ _ (steps.InitSeek helper bucket) answers.Ready (idle_becomes w.table t' helper idle list) list
     (seek_refusal w helper bucket many ∙ ap refusal_in_result is, ready_stored w.table (slice_get (helps_of w.table) helper) bucket is) refl
-    (omega arith) (λ kept. stays) helps.last
 
 pub seek_placed_move : (w : World) (t' : TableAt) (helper bucket : ℕ) → length (helps_of w.table) ≡ w.limits.callers
-    → seek_answer (size_of w.table) (stored_of w.table) (slice_get (helps_of w.table) helper) bucket ≡ Ok seeks.Placed → Seeks w.table t' helper bucket → table_changes w.table ≤ table_changes t'
+    → seek_answer (size_of w.table) (stored_of w.table) (slice_get (helps_of w.table) helper) bucket ≡ Ok seeks.Placed
+    → Seeks w.table.buckets t'.buckets w.table.list t'.list helper bucket
+    → regular t' ≡ regular w.table → linked_of t' ≡ linked_of w.table → table_changes w.table ≤ table_changes t'
     → Move (state_of w) (steps.InitSeek helper bucket) answers.Placed (state_of (served w t' (Some (Helper helper))))
-seek_placed_move w t' helper bucket many is places rises =
-    becomes_move w t' (Some (Helper helper)) (size_of w.table) (stored_of w.table) (linked_of w.table)
-    (slice_set (helps_of w.table) helper (Sought bucket (table_changes t')))
-    (steps.InitSeek helper bucket) answers.Placed places.helps.becomes
+seek_placed_move w t' helper bucket many is sought same linked rises =
+    becomes_move w t' (Some (Helper helper)) _ _ _ _ (steps.InitSeek helper bucket) answers.Placed (sought_becomes w.table t' helper bucket sought same linked)
     (seek_refusal w helper bucket many ∙ ap refusal_in_result is, placed_not w.table (slice_get (helps_of w.table) helper) bucket is) refl
-    rises (λ kept. absurd (false≢true kept)) places.helps.last
+    rises (λ kept. absurd (false≢true kept)) sought.rest.last
 
 -- A helper's step that the table refuses.
 pub helper_refused : (w : World) (t' : TableAt) (step : Step) (refusal : Refusal) → t' ≡ w.table → refusal_of (state_of w) step ≡ Some refusal
@@ -257,12 +264,11 @@ store_refused_move w t' helper many result says no_memory lacking refusal is sam
     (store_refusal w helper many ∙ ap refusal_in_result (sym (says (λ e. false≢true (ap wants_memory (sym is ∙ e)))) ∙ is))
 
 pub stored_move : (w : World) (t' : TableAt) (helper : ℕ) → length (helps_of w.table) ≡ w.limits.callers
-    → store_answer (slice_get (helps_of w.table) helper) ≡ Ok tt → Stores w.table t' helper
+    → store_answer (slice_get (helps_of w.table) helper) ≡ Ok tt → Stores w.table.buckets t'.buckets helper → KeepsList w.table t'
     → Move (state_of w) (steps.InitStore helper) answers.Stored (state_of (served w t' None))
-stored_move w t' helper many is stores =
-    becomes_move w t' None (size_of w.table) (slice_set (stored_of w.table) stores.bucket true) (linked_of w.table)
-    (slice_set (helps_of w.table) helper Nothing) (steps.InitStore helper) answers.Stored stores.becomes
+stored_move w t' helper many is stores list =
+    quiet_move w t' _ _ _ _ (steps.InitStore helper) answers.Stored (stored_becomes w.table t' helper stores list) list
     (store_refusal w helper many ∙ ap refusal_in_result is, tt)
     (ap (λ (o : Option Help). became w t' None (size_of w.table) (slice_set (stored_of w.table) (bucket_at (unwrap_or o Nothing)) true)
-    (linked_of w.table) (slice_set (helps_of w.table) helper Nothing)) stores.had)
-    (let same = stores.kept in omega arith) (λ kept. stores.kept) stores.last
+    (linked_of w.table) (slice_set (helps_of w.table) helper Nothing))
+    (help_is w.table helper (Holding stores.bucket stores.place) stores.had))

@@ -33,6 +33,7 @@ pub mod Claims
 pub mod GapSteps
 pub mod GapServes
 pub mod Called
+pub mod Tables
 pub mod Helping
 pub mod Linking
 pub mod Serving

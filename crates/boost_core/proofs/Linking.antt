@@ -5,17 +5,22 @@ use Rattle.map_ops.specs.InitLink.TheVariants as links
 use Rattle.bucket_table.specs.declared.answer.InitRefusal.{InitRefusal}
 use Rattle.bucket_table.specs.declared.answer.InitRefusal.TheVariants as inits
 use Rattle.txn_words.specs.declared.refusal.Refusal.TheVariants as refusals
-use Rattle.map_ops.specs.Buckets.{Helps, Holds, Links, is_stored, answer_for, link_answer, helper_fits, link_answer_of}
+use Rattle.map_ops.specs.Buckets.{is_stored, answer_for, link_answer, helper_fits, link_answer_of}
+use Rattle.list_steps.specs.Found.{changes_of}
+use Rattle.bucket_table.specs.declared.helper.Helper.TheVariants.{Idle, Seeking}
+use Rattle.bucket_table.specs.Directory.{with_helper}
+use Rattle.bucket_table.specs.Changes.{Holds, LinksDummy}
 use Rattle.txn_words.specs.declared.step.Step.TheVariants as steps
 use Rattle.txn_words.specs.declared.answer.Answer.TheVariants as answers
-use Rattle.map_ops.specs.TableAt.{TableAt, Help, Nothing, Sought, Dummy, size_of, stored_of, linked_of, helps_of, table_changes, last_of}
+use Rattle.map_ops.specs.TableAt.{TableAt, Help, Nothing, Sought, Dummy, HasParents, KeepsList, regular, size_of, stored_of, linked_of, helps_of, table_changes, last_of}
 use Rattle.boost_core.specs.State.{State, Owner, Caller, Helper, is_set, help_in, bucket_at, helper_changes}
 use Rattle.boost_core.specs.Refusals.{refusal_of, has_cursor, has_stamp, lacks_dummy}
 use Rattle.boost_core.specs.Answers.{is_just_placed, may_be_stale}
 use Rattle.boost_core.specs.Machine.{Move}
 use Rattle.boost_core.specs.Core.{World, IsFresh, state_of, nodes_at, gap_by, helper_gaps_of}
 use Rattle.boost_core.proofs.Moves.{refused, lacks, stale_since}
-use Rattle.boost_core.proofs.Helping.{served, became, becomes_state, becomes_move, helper_there, helper_none, is_set_is}
+use Rattle.boost_core.proofs.Tables.{help_is, idle_becomes, held_becomes, linked_becomes}
+use Rattle.boost_core.proofs.Helping.{served, became, becomes_state, quiet_move, helper_there, helper_none, is_set_is}
 
 -- InitLink. The refusal that a test gives, from the table's answer: the lack of memory or of stamps
 -- follows all tests.
@@ -39,6 +44,11 @@ linking_again : (fitting there used : Bool) → linking fitting there used ≡ O
 linking_again false there used is = refl
 linking_again true false true is = absurd (cc (is))
 linking_again _ _ _ is = absurd (cc (is))
+
+linking_present : (fitting there used : Bool) → linking fitting there used ≡ Ok links.Present → there ≡ true
+linking_present true true used is = refl
+linking_present true false true is = absurd (cc (is))
+linking_present _ _ _ is = absurd (cc (is))
 
 linking_linked : (fitting there used : Bool) → linking fitting there used ≡ Ok links.Linked → (there ≡ false) × (used ≡ false)
 linking_linked true false false is = (refl, refl)
@@ -95,6 +105,11 @@ module _ (w : World) (helper : ℕ) (many : length (helps_of w.table) ≡ w.limi
       at (Some (Dummy bucket)) is = tested (Some (Dummy bucket)) (helper_there (helps_of w.table) w.limits.callers helper (Dummy bucket) many is) is
       at (Some (Sought bucket noted)) is = tested (Some (Sought bucket noted)) (helper_there (helps_of w.table) w.limits.callers helper (Sought bucket noted) many is) is ∙ linking_test (helper_fits w.table helper) (is_stored (linked_of w.table) bucket) (last_of w.table == 2 ^ 64 - 2)
 
+  sought_now : (result : Result InitLink Refusal) → answer_now ≡ result → refusal_by_test result ≡ None
+      → HasSought (slice_get (helps_of w.table) helper) (helper_fits w.table helper) (linked_of w.table) (last_of w.table) result
+  sought_now result is free =
+      has_sought (helper_fits w.table helper) (linked_of w.table) (last_of w.table) (slice_get (helps_of w.table) helper) result is free
+
   -- The bucket that the helper sought, and whether its dummy is linked.
   bucket_had : (help : Help) → slice_get (helps_of w.table) helper ≡ Some help → bucket_at (help_in (helps_of w.table) helper) ≡ bucket_at help
   bucket_had help had = ap (λ (o : Option Help). bucket_at (unwrap_or o Nothing)) had
@@ -115,30 +130,27 @@ module _ (w : World) (helper : ℕ) (many : length (helps_of w.table) ≡ w.limi
       at : (refusal : Refusal) → result ≡ Err refusal → Move before (steps.InitLink helper) (answers.Refused refusal) before
       at refusals.NoMemory is =
           let linked : answer_now ≡ Ok links.Linked = no_memory is in
-          let sought = has_sought (helper_fits w.table helper) (linked_of w.table) (last_of w.table) (slice_get (helps_of w.table) helper) (Ok links.Linked) linked refl in
-          let parts = linking_linked (helper_fits w.table helper) (is_stored (linked_of w.table) sought.bucket) (last_of w.table == 2 ^ 64 - 2) sought.answer in
+          let sought = sought_now (Ok links.Linked) linked refl in
+          let parts = linking_linked _ _ _ sought.answer in
           lacks before (steps.InitLink helper) refusals.NoMemory (link_refusal ∙ ap refusal_by_test linked)
           (and_from (lacks_dummy before helper) (has_stamp before) (lacks_when sought.bucket sought.noted false sought.had (is_set_is (linked_of w.table) sought.bucket ∙ parts.0)) (ap not parts.1))
       at refusals.StampsUsedUp is =
           let now : answer_now ≡ Err refusals.StampsUsedUp = sym (says (λ e. let both : Err refusals.StampsUsedUp ≡ Err refusals.NoMemory = sym is ∙ e in cc)) ∙ is in
-          let sought = has_sought (helper_fits w.table helper) (linked_of w.table) (last_of w.table) (slice_get (helps_of w.table) helper) (Err refusals.StampsUsedUp) now refl in
-          let parts = linking_used (helper_fits w.table helper) (is_stored (linked_of w.table) sought.bucket) (last_of w.table == 2 ^ 64 - 2) sought.answer in
+          let sought = sought_now (Err refusals.StampsUsedUp) now refl in
+          let parts = linking_used _ _ _ sought.answer in
           lacks before (steps.InitLink helper) refusals.StampsUsedUp (link_refusal ∙ ap refusal_by_test now)
           (and_from (lacks_dummy before helper) (not (has_stamp before)) (lacks_when sought.bucket sought.noted false sought.had (is_set_is (linked_of w.table) sought.bucket ∙ parts.0)) (ap (λ b. not (not b)) parts.1))
       at refusal is = by_test refusal is (λ e. cc (e)) refl
 
   -- The cursor did not fit, and is dropped.
-  pub link_again_move : answer_now ≡ Ok links.Again → IsFresh w.table w.sessions w.placed → ((bucket : ℕ) → slice_get (helps_of w.table) helper ≡ Some (Sought bucket (table_changes w.table)) → table_changes w.table < 2 ^ 64 - 1 → ⊥) → (t' : TableAt) → Helps w.table t' helper Nothing → table_changes t' ≡ table_changes w.table
-      → Move before (steps.InitLink helper) answers.Again (state_of (served w t' None))
-  link_again_move is fresh unmoved t' helps stays =
-      let sought = has_sought (helper_fits w.table helper) (linked_of w.table) (last_of w.table) (slice_get (helps_of w.table) helper) (Ok links.Again) is refl in
-      becomes_move w t' None (size_of w.table) (stored_of w.table) (linked_of w.table) (slice_set (helps_of w.table) helper Nothing)
-      (steps.InitLink helper) answers.Again helps.becomes (
+  pub link_again_move : answer_now ≡ Ok links.Again → IsFresh w.table w.sessions w.placed → ((bucket : ℕ) → slice_get (helps_of w.table) helper ≡ Some (Sought bucket (table_changes w.table)) → table_changes w.table < 2 ^ 64 - 1 → ⊥)
+      → (t' : TableAt) → t'.buckets ≡ with_helper w.table.buckets helper Idle → KeepsList w.table t' → Move before (steps.InitLink helper) answers.Again (state_of (served w t' None))
+  link_again_move is fresh unmoved t' idle list =
+      let sought = sought_now (Ok links.Again) is refl in
+      quiet_move w t' _ _ _ _ (steps.InitLink helper) answers.Again (idle_becomes w.table t' helper idle list) list (
         link_refusal ∙ ap refusal_by_test is,
-        stale sought.bucket sought.noted sought.had
-            (linking_again (helper_fits w.table helper) (is_stored (linked_of w.table) sought.bucket) (last_of w.table == 2 ^ 64 - 2) sought.answer),
-      )
-      refl (omega arith) (λ kept. stays) helps.last
+        stale sought.bucket sought.noted sought.had (linking_again _ _ _ sought.answer),
+      ) refl
     where
       not_fresh : helper_fits w.table helper ≡ false → (o : Option Owner) → IsFresh w.table w.sessions o → is_just_placed (Helper helper) o ≡ false
       not_fresh misfit None fresh = refl
@@ -155,30 +167,35 @@ module _ (w : World) (helper : ℕ) (many : length (helps_of w.table) ≡ w.limi
           (λ same below. unmoved bucket (had ∙ ap (λ n. Some (Sought bucket n)) same) (subst (λ n. n < 2 ^ 64 - 1) same below))
 
   -- The dummy was linked already.
-  pub link_present_move : answer_now ≡ Ok links.Present → (t' : TableAt) → Holds w.table t' helper → Move before (steps.InitLink helper) answers.Present (state_of (served w t' None))
-  link_present_move is t' holds =
-      becomes_move w t' None (size_of w.table) (stored_of w.table) (linked_of w.table)
-      (slice_set (helps_of w.table) helper (Dummy holds.bucket)) (steps.InitLink helper) answers.Present holds.helps.becomes (
+  pub link_present_move : answer_now ≡ Ok links.Present → (t' : TableAt) → Holds w.table.buckets t'.buckets t'.list helper
+      → KeepsList w.table t' → Move before (steps.InitLink helper) answers.Present (state_of (served w t' None))
+  link_present_move is t' holds list =
+      let sought = sought_now (Ok links.Present) is refl in
+      let there = linking_present _ _ _ sought.answer in
+      quiet_move w t' _ _ _ _ (steps.InitLink helper) answers.Present (held_becomes w.table t' helper holds list) list (
         link_refusal ∙ ap refusal_by_test is,
-        ap not (lacks_when holds.bucket holds.changes true holds.had (ap (λ (o : Option Bool). unwrap_or o false) holds.there)),
+        ap not (lacks_when sought.bucket sought.noted true sought.had (is_set_is (linked_of w.table) sought.bucket ∙ there)),
       )
       (ap (λ n. became w t' None (size_of w.table) (stored_of w.table) (linked_of w.table) (slice_set (helps_of w.table) helper (Dummy n)))
-      (bucket_had (Sought holds.bucket holds.changes) holds.had))
-      (let same = holds.kept in omega arith) (λ kept. holds.kept) holds.helps.last
+      (bucket_had (Sought holds.bucket (changes_of holds.cursor)) (help_is w.table helper (Seeking holds.bucket holds.cursor) holds.had)))
 
   -- The dummy is linked now.
-  pub link_linked_move : answer_now ≡ Ok links.Linked → (t' : TableAt) → Links w.table t' helper → table_changes w.table ≤ table_changes t' → Move before (steps.InitLink helper) answers.Linked (state_of (served w t' None))
-  link_linked_move is t' linked rises =
-      let sought = has_sought (helper_fits w.table helper) (linked_of w.table) (last_of w.table) (slice_get (helps_of w.table) helper) (Ok links.Linked) is refl in
-      let parts = linking_linked (helper_fits w.table helper) (is_stored (linked_of w.table) sought.bucket) (last_of w.table == 2 ^ 64 - 2) sought.answer in
+  pub link_linked_move : answer_now ≡ Ok links.Linked → HasParents w.table
+      → (t' : TableAt) → LinksDummy w.table.buckets t'.buckets w.table.list t'.list helper
+      → regular t' ≡ regular w.table → table_changes w.table ≤ table_changes t'
+      → Move before (steps.InitLink helper) answers.Linked (state_of (served w t' None))
+  link_linked_move is parents t' linked same rises =
+      let sought = sought_now (Ok links.Linked) is refl in
+      let parts = linking_linked _ _ _ sought.answer in
       record {
-        allowed = (link_refusal ∙ ap refusal_by_test is, and_from (lacks_dummy before helper) (has_stamp before) (lacks_when linked.bucket linked.changes false linked.had (ap (λ (o : Option Bool). unwrap_or o false) linked.absent)) (ap not parts.1));
-        state = becomes_state w t' None (size_of w.table) (stored_of w.table) (slice_set (linked_of w.table) linked.bucket true) (slice_set (helps_of w.table) helper (Dummy linked.bucket)) linked.becomes
+        allowed = (link_refusal ∙ ap refusal_by_test is, and_from (lacks_dummy before helper) (has_stamp before) (lacks_when sought.bucket sought.noted false sought.had (is_set_is (linked_of w.table) sought.bucket ∙ parts.0)) (ap not parts.1));
+        state = becomes_state w t' None _ _ _ _ (linked_becomes w.table t' helper parents linked same)
             ∙ ap (λ n. record (became w t' None (size_of w.table) (stored_of w.table) (slice_set (linked_of w.table) n true)
             (slice_set (helps_of w.table) helper (Dummy n))) { nodes = nodes_at t'; gaps = map (gap_by t') w.sessions; helper_gaps = helper_gaps_of t' })
-            (sym (bucket_had (Sought linked.bucket linked.changes) linked.had));
+            (sym (bucket_had (Sought linked.bucket (changes_of linked.cursor))
+            (help_is w.table helper (Seeking linked.bucket linked.cursor) linked.had)));
         changes = rises;
         list_kept = λ kept. absurd (false≢true kept);
-        stamp = let more = linked.last in omega arith;
-        one_stamp = let more = linked.last in omega arith;
+        stamp = let more = linked.links.last in omega arith;
+        one_stamp = let more = linked.links.last in omega arith;
       }

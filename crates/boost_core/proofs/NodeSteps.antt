@@ -1,5 +1,5 @@
 -- The effect of each step on the nodes, the change number and the last stamp.
-use Rattle.std.proofs.Common.{◌≡◌, ◌⊎◌, ℕ, ◌+◌, ◌-◌, ◌%◌, ◌<◌, Bool, true, false, cond, List, [], ◌∷◌, ◌++◌, length, Option, Some, None, is_some, inl, inr, refl, sym, ap, subst, ◌∙◌, arith, reverse, slice_get, unwrap_or, nat_lt, nat_eq, IsSome, ltb-true}
+use Rattle.std.proofs.Common.{◌≡◌, ◌⊎◌, ℕ, ◌-◌, ◌%◌, ◌<◌, Bool, true, false, cond, List, [], ◌∷◌, ◌++◌, length, Option, Some, None, is_some, inl, inr, refl, sym, ap, subst, ◌∙◌, arith, reverse, slice_get, unwrap_or, nat_lt, nat_eq, IsSome, ltb-true}
 use Rattle.boost_core.proofs.Vocabulary.{option_map, option_eq, false≢true, cases_Bool, slice_get-map, unwrap_or-slice_get, regular_at, Op, Put, Take, Get, PutIf, Refusal, Step, Answer, Phase, Waiting, LeavingTo, LeavingToEnd, Map, get, key_of, now, log_of, stripe_of, Seat, kept_at, newest_above, MapJob, Unput, Restore, Relink}
 use Rattle.std.proofs.lemmas.List.{length-map, reverse-append}
 use Rattle.split_key.specs.Split.{ancestor_of}

@@ -9,6 +9,7 @@ use Rattle.map_ops.specs.Double.TheVariants as doubles
 use Rattle.map_ops.specs.InitSeek.TheVariants as seeks
 use Rattle.map_ops.specs.InitLink.TheVariants as links
 use Rattle.map_ops.specs.SweepOutcome.TheVariants as sweeps
+use Rattle.map_ops.specs.TableAt.{HasParents, KeepsList, linked_of, regular}
 use Rattle.map_ops.specs.Buckets.{Doubles, SeekChanges, LinkChanges, StoreChanges, seek_answer, double_answer}
 use Rattle.boost_core.specs.State.{Helper}
 use Rattle.boost_core.specs.Answers.{IsAnswer}
@@ -18,7 +19,8 @@ use Rattle.std.specs.List.{slice_get}
 use Rattle.boost_core.specs.Serves as said
 use Rattle.boost_core.specs.Serves.{Serves, Sweeping, Linking, Storing}
 use Rattle.boost_core.specs.Core.{World, Tells, state_of}
-use Rattle.boost_core.proofs.Helping.{served, sweep_tells, swept_move, clean_move, becomes_tells, becomes_move, double_tells, seek_refusal, refusal_in_result, seek_ready_move, seek_placed_move, helper_refused, store_refused_move, stored_move}
+use Rattle.boost_core.proofs.Tables.{doubled_becomes, held_becomes, idle_becomes, linked_becomes, seeker_fits, seeker_there, sought_becomes, stored_becomes}
+use Rattle.boost_core.proofs.Helping.{served, sweep_tells, swept_move, clean_move, becomes_tells, quiet_move, seek_refusal, refusal_in_result, seek_ready_move, seek_placed_move, helper_refused, store_refused_move, stored_move}
 use Rattle.boost_core.proofs.Linking.{link_refused_move, link_again_move, link_present_move, link_linked_move}
 
 -- The invariants of the core after the step, and the move.
@@ -32,7 +34,8 @@ lt_not_le a b = elim (cases_lt a b) [
   | inr most ↦ le-ltb a b most ∙ sym (ap not (le-leb b a most))
 ]
 
-module _ (w : World) (tells : Tells w) (t' : TableAt) (follows : Follows w.table t') (rises : table_changes w.table ≤ table_changes t') where
+module _ (w : World) (tells : Tells w) (parents : HasParents w.table)
+    (t' : TableAt) (follows : Follows w.table t') (rises : table_changes w.table ≤ table_changes t') where
   -- Nothing has changed.
   same_tells : t' ≡ w.table → Tells (served w t' w.placed)
   same_tells same = subst (λ u. Tells (served w u w.placed)) (sym same) tells
@@ -42,16 +45,18 @@ module _ (w : World) (tells : Tells w) (t' : TableAt) (follows : Follows w.table
   swept_by sweeps.Clean answer is says answer_is = subst (λ a. Served w steps.Sweep a t') (sym answer_is) (record { tells = sweep_tells w tells t' is.keeps is.spares follows; move = clean_move w t' is.keeps (is.stays says) })
 
   sought_by : (h b : ℕ) (outcome : Result InitSeek Refusal) (answer : Answer) → answer ≡ said.sought outcome → outcome ≡ seek_answer (size_of w.table) (stored_of w.table) (slice_get (helps_of w.table) h) b
-      → SeekChanges w.table t' h b outcome → Served w (steps.InitSeek h b) answer t'
-  sought_by h b (Ok seeks.Ready) answer answer_is says changes = subst (λ a. Served w (steps.InitSeek h b) a t') (sym answer_is) (record {
-    tells = becomes_tells w tells t' None _ _ _ _ changes.0.becomes (length-set _ _ _) follows tt;
+      → SeekChanges w.table t' h b outcome → regular t' ≡ regular w.table → linked_of t' ≡ linked_of w.table
+      → Served w (steps.InitSeek h b) answer t'
+  sought_by h b (Ok seeks.Ready) answer is says changes same dummies = subst (λ a. Served w (steps.InitSeek h b) a t') (sym is) (record {
+    tells = becomes_tells w tells t' None _ _ _ _ (idle_becomes w.table t' h changes.0 changes.1) (length-set _ _ _) follows tt;
     move = seek_ready_move w t' h b tells.helpers (sym says) changes.0 changes.1;
   })
-  sought_by h b (Ok seeks.Placed) answer answer_is says changes = subst (λ a. Served w (steps.InitSeek h b) a t') (sym answer_is) (record {
-    tells = becomes_tells w tells t' (Some (Helper h)) _ _ _ _ changes.helps.becomes (length-set _ _ _) follows changes.fits;
-    move = seek_placed_move w t' h b tells.helpers (sym says) changes rises;
+  sought_by h b (Ok seeks.Placed) answer is says changes same dummies = subst (λ a. Served w (steps.InitSeek h b) a t') (sym is) (record {
+    tells = becomes_tells w tells t' (Some (Helper h)) _ _ _ _ (sought_becomes w.table t' h b changes same dummies) (length-set _ _ _) follows
+        (seeker_fits w.table t' h b changes (seeker_there w.table h b (sym says)));
+    move = seek_placed_move w t' h b tells.helpers (sym says) changes same dummies rises;
   })
-  sought_by h b (Err refusal) answer answer_is says changes = subst (λ a. Served w (steps.InitSeek h b) a t') (sym answer_is) (record {
+  sought_by h b (Err refusal) answer is says changes same dummies = subst (λ a. Served w (steps.InitSeek h b) a t') (sym is) (record {
     tells = same_tells changes;
     move = helper_refused w t' (steps.InitSeek h b) refusal changes (seek_refusal w h b tells.helpers ∙ ap refusal_in_result (sym says));
   })
@@ -61,22 +66,22 @@ module _ (w : World) (tells : Tells w) (t' : TableAt) (follows : Follows w.table
       let changes = subst (LinkChanges w.table t' h) says is.changes in
       let now_is = sym (is.says (λ e. let both = sym says ∙ e in cc)) ∙ says in
       subst (λ a. Served w (steps.InitLink h) a t') (sym answer_is) (record {
-        tells = becomes_tells w tells t' None _ _ _ _ changes.0.becomes (length-set _ _ _) follows tt;
+        tells = becomes_tells w tells t' None _ _ _ _ (idle_becomes w.table t' h changes.0 changes.1) (length-set _ _ _) follows tt;
         move = link_again_move w h tells.helpers now_is tells.fresh (λ bucket had below. is.unmoved bucket had below says) t' changes.0 changes.1;
       })
   linked_by h (Ok links.Present) answer answer_is is says =
-      let holds = subst (LinkChanges w.table t' h) says is.changes in
+      let changes = subst (LinkChanges w.table t' h) says is.changes in
       let now_is = sym (is.says (λ e. let both = sym says ∙ e in cc)) ∙ says in
       subst (λ a. Served w (steps.InitLink h) a t') (sym answer_is) (record {
-        tells = becomes_tells w tells t' None _ _ _ _ holds.helps.becomes (length-set _ _ _) follows tt;
-        move = link_present_move w h tells.helpers now_is t' holds;
+        tells = becomes_tells w tells t' None _ _ _ _ (held_becomes w.table t' h changes.0 changes.1) (length-set _ _ _) follows tt;
+        move = link_present_move w h tells.helpers now_is t' changes.0 changes.1;
       })
   linked_by h (Ok links.Linked) answer answer_is is says =
       let linked = subst (LinkChanges w.table t' h) says is.changes in
       let now_is = sym (is.says (λ e. let both = sym says ∙ e in cc)) ∙ says in
       subst (λ a. Served w (steps.InitLink h) a t') (sym answer_is) (record {
-        tells = becomes_tells w tells t' None _ _ _ _ linked.becomes (length-set _ _ _) follows tt;
-        move = link_linked_move w h tells.helpers now_is t' linked rises;
+        tells = becomes_tells w tells t' None _ _ _ _ (linked_becomes w.table t' h parents linked is.regular) (length-set _ _ _) follows tt;
+        move = link_linked_move w h tells.helpers now_is parents t' linked is.regular rises;
       })
   linked_by h (Err refusal) answer answer_is is says =
       let same = subst (LinkChanges w.table t' h) says is.changes in
@@ -90,8 +95,8 @@ module _ (w : World) (tells : Tells w) (t' : TableAt) (follows : Follows w.table
       let stores = subst (StoreChanges w.table t' h) says is.changes in
       let now_is = sym (is.says (λ e. let both = sym says ∙ e in cc)) ∙ says in
       subst (λ a. Served w (steps.InitStore h) a t') (sym answer_is) (record {
-        tells = becomes_tells w tells t' None _ _ _ _ stores.becomes (length-set _ _ _) follows tt;
-        move = stored_move w t' h tells.helpers now_is stores;
+        tells = becomes_tells w tells t' None _ _ _ _ (stored_becomes w.table t' h stores is.list) (length-set _ _ _) follows tt;
+        move = stored_move w t' h tells.helpers now_is stores is.list;
       })
   stored_by h (Err refusal) answer answer_is is says =
       let same = subst (StoreChanges w.table t' h) says is.changes in
@@ -114,23 +119,27 @@ module _ (w : World) (tells : Tells w) (t' : TableAt) (follows : Follows w.table
   doubled_answer seen outcome says = doubling seen outcome _ _ _ refl refl refl
       (says ∙ ap (λ n. double_answer (size_of w.table) n (count_of (content w.table)) seen) tells.largest ∙ ap (λ (m : Map). double_answer (size_of w.table) w.limits.buckets (count_of m) seen) tells.content)
 
-  doubled_by : (seen : ℕ) (outcome : Double) (answer : Answer) → answer ≡ said.doubled outcome → outcome ≡ double_answer (size_of w.table) (largest_of w.table) (count_of (content w.table)) seen → Doubles w.table t' outcome → Served w (steps.Double seen) answer t'
-  doubled_by seen (doubles.Moved n) answer answer_is says changes = subst (λ a. Served w (steps.Double seen) a t') (sym answer_is) (record {
-    tells = double_tells w tells t' (doubles.Moved n) changes follows;
-    move = becomes_move w t' None _ _ _ _ (steps.Double seen) (said.doubled (doubles.Moved n)) changes.becomes
-        (refl, doubled_answer seen (doubles.Moved n) says) refl rises (λ kept. changes.kept) changes.last;
+  doubled_by : (seen : ℕ) (outcome : Double) (answer : Answer) → answer ≡ said.doubled outcome
+      → outcome ≡ double_answer (size_of w.table) (largest_of w.table) (count_of (content w.table)) seen
+      → Doubles w.table t' outcome → KeepsList w.table t'
+      → Served w (steps.Double seen) answer t'
+  doubled_by seen (doubles.Moved n) answer is says changes list = subst (λ a. Served w (steps.Double seen) a t') (sym is) (record {
+    tells = becomes_tells w tells t' None _ _ _ _ (doubled_becomes w.table t' (doubles.Moved n) changes list) refl follows tt;
+    move = quiet_move w t' _ _ _ _ (steps.Double seen) (said.doubled (doubles.Moved n))
+        (doubled_becomes w.table t' (doubles.Moved n) changes list) list
+        (refl, doubled_answer seen (doubles.Moved n) says) refl;
   })
-  doubled_by seen outcome answer answer_is says changes = subst (λ a. Served w (steps.Double seen) a t') (sym answer_is) (record {
-    tells = double_tells w tells t' outcome changes follows;
-    move = becomes_move w t' None _ _ _ _ (steps.Double seen) (said.doubled outcome) changes.becomes
-        (refl, doubled_answer seen outcome says) refl rises (λ kept. changes.kept) changes.last;
+  doubled_by seen outcome answer is says changes list = subst (λ a. Served w (steps.Double seen) a t') (sym is) (record {
+    tells = becomes_tells w tells t' None _ _ _ _ (doubled_becomes w.table t' outcome changes list) refl follows tt;
+    move = quiet_move w t' _ _ _ _ (steps.Double seen) (said.doubled outcome) (doubled_becomes w.table t' outcome changes list) list
+        (refl, doubled_answer seen outcome says) refl;
   })
 
   -- The outcome of each step.
   pub serves : (step : Step) (answer : Answer) → Serves step w.table answer t' → Served w step answer t'
   serves steps.Sweep answer is = swept_by is.outcome answer is refl is.answer_is
-  serves (steps.InitSeek h b) answer is = sought_by h b is.outcome answer is.answer_is is.says is.changes
+  serves (steps.InitSeek h b) answer is = sought_by h b is.outcome answer is.answer_is is.says is.changes is.regular is.linked
   serves (steps.InitLink h) answer is = linked_by h is.outcome answer is.answer_is is refl
   serves (steps.InitStore h) answer is = stored_by h is.outcome answer is.answer_is is refl
-  serves (steps.Double seen) answer is = doubled_by seen is.outcome answer is.answer_is is.says is.changes
+  serves (steps.Double seen) answer is = doubled_by seen is.outcome answer is.answer_is is.says is.changes is.list
   serves _ answer is = absurd is

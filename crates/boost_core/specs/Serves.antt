@@ -14,11 +14,11 @@ use Rattle.map_ops.specs.InitLink.{InitLink as Linked}
 use Rattle.map_ops.specs.InitLink.TheVariants as links
 use Rattle.txn_words.specs.declared.refusal.Refusal.{Refusal}
 use Rattle.txn_words.specs.declared.refusal.Refusal.TheVariants as refusals
-use Rattle.map_ops.specs.TableAt.{TableAt, SweepOutcome, Keeps, KeepsList, KeepsSpares, IsClean, content, table_changes, size_of, largest_of, stored_of, helps_of}
+use Rattle.map_ops.specs.TableAt.{TableAt, SweepOutcome, Keeps, KeepsList, KeepsSpares, IsClean, content, regular, table_changes, size_of, largest_of, stored_of, linked_of, helps_of}
 use Rattle.map_ops.specs.TableAt as tables
 use Rattle.map_ops.specs.SweepOutcome.TheVariants as outcomes
 use Rattle.map_ops.specs.Changes.{Sweeps}
-use Rattle.map_ops.specs.Buckets.{SeekChanges, SeekWrites, LinkChanges, LinkWrites, StoreChanges, LacksSegment, Doubles, seek_answer, link_answer_of, store_answer, double_answer}
+use Rattle.map_ops.specs.Buckets.{SeekChanges, LinkChanges, StoreChanges, LacksSegment, Doubles, seek_answer, link_answer_of, store_answer, double_answer}
 
 -- Whether a step is no caller's.
 abbrev pub is_served : Step → Bool
@@ -72,7 +72,8 @@ pub record Seeking (t t' : TableAt) (h b : ℕ) (answer : Answer) : Type 0 where
   pub answer_is : answer ≡ sought outcome
   pub says : outcome ≡ seek_answer (size_of t) (stored_of t) (slice_get (helps_of t) h) b
   pub changes : SeekChanges t t' h b outcome
-  pub writes : SeekWrites t t' b outcome
+  pub regular : regular t' ≡ regular t
+  pub linked : linked_of t' ≡ linked_of t
 
 -- A helper links the dummy that it sought.
 pub record Linking (t t' : TableAt) (h : ℕ) (answer : Answer) : Type 0 where
@@ -84,8 +85,7 @@ pub record Linking (t t' : TableAt) (h : ℕ) (answer : Answer) : Type 0 where
       → slice_get (helps_of t) h ≡ Some (tables.Sought bucket (table_changes t))
       → table_changes t < 2 ^ 64 - 1 → outcome ≢ Ok links.Again
   pub changes : LinkChanges t t' h outcome
-  pub writes : (bucket noted : ℕ) → slice_get (helps_of t) h ≡ Some (tables.Sought bucket noted)
-      → LinkWrites t t' bucket outcome
+  pub regular : regular t' ≡ regular t
 
 -- A helper stores the dummy that it has.
 pub record Storing (t t' : TableAt) (h : ℕ) (answer : Answer) : Type 0 where

@@ -11,7 +11,6 @@ pub mod BucketAnswers
 pub mod BucketLemmas
 pub mod SweepLemmas
 pub mod NewLemmas
-pub mod WriteLemmas
 pub mod WalkLemmas
 pub mod MadeLemmas
 pub mod RemoveLemmas

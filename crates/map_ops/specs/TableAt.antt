@@ -115,15 +115,6 @@ cursors_of t = map cursor_in t.buckets.helpers
 abbrev pub helper_cursor : TableAt → ℕ → Option Cursor
 helper_cursor t helper = slice_index_or (cursors_of t) helper None
 
--- The cursors of all helpers but this one are unchanged.
-unfoldable pub KeepsCursors : TableAt → TableAt → ℕ → Type 0
-KeepsCursors old new helper =
-    (other : ℕ) → other ≢ helper → helper_cursor new other ≡ helper_cursor old other
-
--- All cursors of helpers are unchanged.
-unfoldable pub KeepsAllCursors : TableAt → TableAt → Type 0
-KeepsAllCursors old new = cursors_of new ≡ cursors_of old
-
 -- The stamp of the spare that is out at a place, if one is.
 abbrev pub spare_out : TableAt → ℕ → Option ℕ
 spare_out t place = out_at t.list place

@@ -49,10 +49,10 @@ impl Model for Table {
 }
 
 impl Table {
-    ghost use Rattle.map_ops.specs.TableAt.{HasParents, HasSoundList, Dummy, IsClean, IsNew, IsPlaced, IsSplitOrdered, Follows, Keeps, KeepsList, KeepsSpares, NamesDummies, Sought, content, regular, helps_of, largest_of, size_of, stored_of, table_changes};
+    ghost use Rattle.map_ops.specs.TableAt.{HasParents, HasSoundList, Dummy, IsClean, IsNew, IsPlaced, IsSplitOrdered, Follows, Keeps, KeepsList, KeepsSpares, NamesDummies, Sought, content, regular, helps_of, largest_of, linked_of, size_of, stored_of, table_changes};
     ghost use Rattle.map_ops.specs.Jobs.{IsDue, key_of_job, spare_of_job};
     ghost use Rattle.map_ops.specs.Changes.{ActWrites, Acts, Applies, GivesBack, IsRefused, OwnsIf, Places, Prepares, SeeksAndUndoes, SeeksNear, Sweeps, TakesBack, UndoWrites, Undoes};
-    ghost use Rattle.map_ops.specs.Buckets.{Doubles, LinkChanges, LinkWrites, SeekChanges, SeekWrites, StoreChanges, double_answer, link_answer_of, seek_answer, store_answer, LacksSegment};
+    ghost use Rattle.map_ops.specs.Buckets.{Doubles, LinkChanges, SeekChanges, StoreChanges, double_answer, link_answer_of, seek_answer, store_answer, LacksSegment};
 
     /// An empty table of two buckets, the first of them initialised, with `callers` idle helpers.
     /// It can grow to `max` buckets, a power of two.
@@ -386,7 +386,8 @@ impl Table {
             ≡ seek_answer (size_of self.old) (stored_of self.old)
             (slice_get (helps_of self.old) helper) bucket }
         ensures changes { SeekChanges self.old self.new helper bucket result }
-        ensures writes { SeekWrites self.old self.new bucket result }
+        ensures regular { regular self.new ≡ regular self.old }
+        ensures linked { linked_of self.new ≡ linked_of self.old }
         ensures rises { table_changes self.old ≤ table_changes self.new }
         ensures follows { Follows self.old self.new }
     {
@@ -417,9 +418,7 @@ impl Table {
             → slice_get (helps_of self.old) helper ≡ Some (Sought bucket (table_changes self.old))
             → table_changes self.old < 2 ^ 64 - 1 → result ≢ Ok InitLink.Again }
         ensures changes { LinkChanges self.old self.new helper result }
-        ensures writes { (bucket changes : ℕ)
-            → slice_get (helps_of self.old) helper ≡ Some (Sought bucket changes)
-            → LinkWrites self.old self.new bucket result }
+        ensures regular { regular self.new ≡ regular self.old }
         ensures rises { table_changes self.old ≤ table_changes self.new }
         ensures follows { Follows self.old self.new }
     {

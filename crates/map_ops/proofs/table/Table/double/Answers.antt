@@ -3,7 +3,6 @@ use Rattle.list_steps.specs.Content.{pairs}
 use Rattle.bucket_table.specs.Answers as buckets
 use Rattle.bucket_table.specs.Directory.{limit_of}
 use Rattle.map_ops.proofs.ContentLemmas.{count_of-map_of, length-pairs, rises-pairs}
-use Rattle.map_ops.proofs.BucketLemmas.{double_changes}
 use Rattle.map_ops.proofs.table.Table.double.Goals as goal
 
 pub returns-clause-answer : goal.returns-clause-answer
@@ -12,4 +11,4 @@ returns-clause-answer c =
     rw (← c.self.view_is) (c.double.ensures.answer ∙ ap (λ (n : ℕ). buckets.double_answer c.self.inside.buckets.size (limit_of c.self.inside.buckets) n c.args.seen) count)
 
 pub returns-clause-changes : goal.returns-clause-changes
-returns-clause-changes c = rw (← c.self.view_is) (double_changes c.self.inside.list c.self.inside.buckets c.double.new.self c.double.result c.double.ensures.size)
+returns-clause-changes c = rw (← c.self.view_is) c.double.ensures.size

@@ -4,7 +4,6 @@ use Rattle.map_ops.specs.TableAt.{help_of, linked_of, table_of}
 use Rattle.map_ops.specs.Buckets.{answer_for, helper_fits}
 use Rattle.map_ops.proofs.BucketAnswers.{link_answers, helper_still_fits, fits_not_again, no_memory_alone}
 use Rattle.map_ops.proofs.BucketLemmas.{link_changes, link_even}
-use Rattle.map_ops.proofs.WriteLemmas.{link_writes}
 use Rattle.map_ops.proofs.table.Table.init_link.Goals as goal
 
 pub invariant_of-self : goal.invariant_of-self
@@ -29,10 +28,10 @@ returns-clause-held c = rw (← c.self.view_is) (λ bucket had below again.
     (sym (link_answers c.self.inside.list c.self.inside.buckets c.args.helper c.init_link.ensures.sound) ∙ ap answer_for (sym (c.init_link.ensures.answer (λ refused. cc (sym again ∙ c.answer_for.ensures ∙ ap answer_for refused)))) ∙ sym c.answer_for.ensures ∙ again))
 
 pub returns-clause-changes : goal.returns-clause-changes
-returns-clause-changes c = rw (c.answer_for.ensures, ← c.self.view_is) (link_changes c.self.inside.list c.init_link.new.list c.self.inside.buckets c.init_link.new.self c.args.helper c.init_link.result c.init_link.ensures.sound c.init_link.ensures.answer c.init_link.ensures.changes c.init_link.ensures.content)
+returns-clause-changes c = rw (c.answer_for.ensures, ← c.self.view_is) (link_changes c.self.inside.list c.init_link.new.list c.self.inside.buckets c.init_link.new.self c.args.helper c.init_link.result c.init_link.ensures.changes)
+
+pub returns-clause-regular : goal.returns-clause-regular
+returns-clause-regular c = rw (← c.self.view_is) c.init_link.ensures.content
 
 pub returns-clause-rises : goal.returns-clause-rises
 returns-clause-rises c = rw (← c.self.view_is) c.init_link.ensures.follows.changes
-
-pub returns-clause-writes : goal.returns-clause-writes
-returns-clause-writes c = rw (c.answer_for.ensures, ← c.self.view_is) (λ bucket noted had. link_writes c.self.inside.list c.init_link.new.list c.self.inside.buckets c.init_link.new.self c.args.helper bucket noted c.init_link.result had c.init_link.ensures.changes)
