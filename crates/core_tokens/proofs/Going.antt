@@ -1,36 +1,18 @@
 -- A call in progress, over its steps.
-use Rattle.std.proofs.Common.{◌≡◌, ℕ, Bool, true, false, if◌then◌else◌, nat_lt, List, ◌++◌, append_assoc, is_some, Option, Some, None, refl, sym, ap, subst, ◌∙◌}
-use Rattle.std.specs.Prelude.{unwrap_or}
-use Rattle.std.specs.List.{fold}
-use Rattle.std.specs.Option.{option_and_then}
-use Rattle.std.proofs.lemmas.List.Sums.{fold-append}
-use Rattle.txn_words.specs.declared.answer.Answer.{Answer}
-use Rattle.txn_words.specs.declared.answer.Answer.TheVariants as answers
-use Rattle.txn_words.specs.declared.entry.Entry.{Entry}
-use Rattle.txn_words.specs.declared.step.Step.{Step}
-use Rattle.txn_words.specs.declared.step.Step.TheVariants as steps
-use Rattle.txn_words.specs.Entries.{entries_of}
-use Rattle.txn_words.specs.Sizes.{Sizes}
-use Rattle.txn_words.specs.Shape.{Seat, closed_seat, row, seat_after}
-use Rattle.txn_drive.specs.declared.call.Call.{Call}
-use Rattle.txn_drive.specs.declared.drive.Drive.{Drive}
-use Rattle.txn_drive.specs.declared.phase.Phase.{Phase}
-use Rattle.txn_drive.specs.declared.phase.Phase.TheVariants.{Seeking, Doubling, Initialising}
-use Rattle.txn_drive.specs.declared.turn.Turn.{Turn}
-use Rattle.txn_drive.specs.declared.turn.Turn.TheVariants.{One, Two}
-use Rattle.txn_drive.specs.Drives.{step_in, step_of, sized_in, sized_of, told_in, told_of, turn_in, turn_of}
-use Rattle.txn_drive.specs.Made.{made}
-use Rattle.txn_drive.proofs.MadeLemmas.{made-told_of}
+use Rattle.std.proofs.Common.{if◌then◌else◌, ℕ, ◌++◌, ◌∙◌, ◌≡◌, List, None, Option, Some, ap, append_assoc, false, is_some, nat_lt, refl, subst, sym, true, unwrap_or}
+use Rattle.core_tokens.proofs.Vocabulary.{Answer, Call, Doubling, Drive, Entry, Initialising, One, Phase, Seat, Seeking, Sizes, State, Step, Turn, Two, closed_seat, entries_of, made, paired, seat_after, sized_in, sized_of, step_in, step_of, told_in, told_of, turn_in, turn_of}
 use Rattle.txn_drive.proofs.DriveLaws.{made-sized}
-use Rattle.boost_core.specs.State.{State}
+use Rattle.txn_drive.proofs.MadeLemmas.{made-told_of}
+use Rattle.core_tokens.proofs.Phases.{fits_told, seat_on, seat_on_more, seat_told, some_is}
 use Rattle.core_tokens.specs.Claims.{Trial}
-use Rattle.core_tokens.specs.Suits.{Fits, IsSized, IsInStep}
-use Rattle.core_tokens.specs.Holds.{TakesSecond, FitsIf, GoesOn}
-use Rattle.core_tokens.proofs.Phases.{seat_on, seat_told, fits_told}
+use Rattle.core_tokens.specs.Holds.{FitsIf, GoesOn, TakesSecond}
+use Rattle.core_tokens.specs.Suits.{Fits, IsInStep, IsSized}
+use Rattle.txn_words.specs.declared.answer.Answer.TheVariants as answers
+use Rattle.txn_words.specs.declared.step.Step.TheVariants as steps
 
-pub some_is : (o : Option Seat) → is_some o ≡ true → o ≡ Some (unwrap_or o closed_seat)
-some_is None is = absurd (cc is)
-some_is (Some s) is = refl
+-- What holds of each turn that may be taken holds of a seek that may be one of two steps.
+pub at_paired : (P : Turn → Type 0) (again : ℕ) (seeking acting : Step) → P (One seeking) → P (Two seeking acting) → P (paired again seeking acting)
+at_paired P again seeking acting one two = elim (nat_lt again 8) as (λ b. P (if b then One seeking else Two seeking acting)) [ true ↦ one | false ↦ two ]
 
 fits_on : (s : Seat) (d : Drive) (step : Step) (a : Answer) (o : Option Seat) → step_of d ≡ Some step → Fits s d.call d.phase → seat_on s (entries_of step a) ≡ o → FitsIf o d.call (told_in d.call d.phase a)
 fits_on s d step a None is fits on = tt
@@ -42,9 +24,7 @@ goes_told base seen seen' d e step a is whole seen_is told goes =
     let es = entries_of step a in
     let s = unwrap_or (seat_after seen) closed_seat in
     let at : seat_after seen ≡ Some s = some_is (seat_after seen) whole in
-    let after : seat_after seen' ≡ seat_on s es =
-    ap seat_after seen_is ∙ fold-append (λ seat e. option_and_then (λ (t : Seat). row t t.phase e) seat) (Some closed_seat) seen es
-    ∙ ap (λ o. fold (λ seat e. option_and_then (λ (t : Seat). row t t.phase e) seat) o es) at in
+    let after : seat_after seen' ≡ seat_on s es = ap seat_after seen_is ∙ seat_on_more seen es s at in
     let fits : FitsIf (seat_on s es) d.call (told_in d.call d.phase a) = fits_on s d step a (seat_on s es) is (subst (λ o. FitsIf o d.call d.phase) at goes.fits) refl in
     record {
       entries = seen_is ∙ ap (λ h. h ++ es) goes.entries ∙ append_assoc base (made d) es ∙ ap (λ h. base ++ h) (sym (made-told_of d step a is) ∙ ap made (sym told));
@@ -63,17 +43,10 @@ second_sized size d e a turn step next is two told placed =
 
 -- The second step of a turn is the drive's step after `placed`.
 second_in : (c : ℕ) (call : Call) (phase : Phase) (step next : Step) → turn_in c call phase ≡ Two step next → step_in c call (told_in call phase answers.Placed) ≡ Some next
-second_in c call (Seeking work again) step next is = by (nat_lt again 8) is
-  where
-    by : (b : Bool) → (if b then One (steps.Seek c) else Two (steps.Seek c) (steps.Act c)) ≡ Two step next → Some (steps.Act c) ≡ Some next
-    by true is = absurd (cc is)
-    by false is = cc is
-second_in c call (Initialising way again) step next is = by (nat_lt again 8) is
-  where
-    by : (b : Bool) → (if b then One (steps.InitSeek c way.bucket) else Two (steps.InitSeek c way.bucket) (steps.InitLink c)) ≡ Two step next → Some (steps.InitLink c) ≡ Some next
-    by true is = absurd (cc is)
-    by false is = cc is
-second_in c call phase step next is = absurd (cc is)
+second_in c call (Seeking work again) step next = at_paired (λ t. t ≡ Two step next → Some (steps.Act c) ≡ Some next) again (steps.Seek c) (steps.Act c) (λ is. absurd (cc is)) (λ is. cc is)
+second_in c call (Initialising way again) step next =
+    at_paired (λ t. t ≡ Two step next → Some (steps.InitLink c) ≡ Some next) again (steps.InitSeek c way.bucket) (steps.InitLink c) (λ is. absurd (cc is)) (λ is. cc is)
+second_in c call phase step next = λ is. absurd (cc is)
 
 pub second_step : (d e : Drive) (a : Answer) (turn : Turn) (step next : Step) → turn ≡ turn_of d → turn ≡ Two step next → e ≡ told_of d a → a ≡ answers.Placed → step_of e ≡ Some next
 second_step d e a turn step next is two told placed = ap step_of (told ∙ ap (told_of d) placed) ∙ second_in d.caller d.call d.phase step next (sym is ∙ two)

@@ -1,34 +1,16 @@
 -- A core and a caller stay in step over a step of the caller's drive.
-use Rattle.std.proofs.Common.{◌≡◌, ℕ, ◌+◌, ◌<◌, ◌==◌, ◌^◌, true, cond, List, [], ◌∷◌, ◌++◌, length, length-append, is_some, Option, Some, None, refl, sym, ap, subst, ◌∙◌, arith}
-use Rattle.std.specs.Prelude.{unwrap_or}
-use Rattle.std.specs.List.{fold, AllByRecursion}
-use Rattle.std.specs.Option.{option_and_then}
+use Rattle.std.proofs.Common.{[], ℕ, ◌++◌, ◌+◌, ◌<◌, ◌==◌, ◌^◌, ◌∙◌, ◌∷◌, ◌≡◌, List, Option, Some, ap, arith, cond, inl, inr, length, length-append, refl, subst, sym}
+use Rattle.core_tokens.proofs.Vocabulary.{AllByRecursion, Answer, Drive, Entry, IsShaped, IsWhole, Move, Sizes, State, Step, append-nil, caller_of, entries_of, has_seat, own, seat_after, seat_in, step_in, step_of, told_in}
 use Rattle.std.proofs.lemmas.Bool.{eq-eqb}
-use mathlib.Core.Logic.{inl, inr}
-use Rattle.std.proofs.lemmas.List.{append-nil}
 use Rattle.std.proofs.lemmas.List.Elements.{filter-append}
-use Rattle.std.proofs.lemmas.List.Sums.{fold-append}
-use Rattle.txn_words.specs.declared.answer.Answer.{Answer}
-use Rattle.txn_words.specs.declared.entry.Entry.{Entry}
-use Rattle.txn_words.specs.declared.step.Step.{Step}
-use Rattle.txn_words.specs.Kinds.{caller_of}
-use Rattle.txn_words.specs.Entries.{entries_of}
-use Rattle.txn_words.specs.Sizes.{Sizes}
-use Rattle.txn_words.specs.Shape.{Seat, closed_seat, row, seat_after, own, IsShaped}
-use Rattle.txn_trace.proofs.Running.{has_seat}
-use Rattle.txn_drive.specs.declared.drive.Drive.{Drive}
-use Rattle.txn_drive.specs.Drives.{step_in, step_of, told_in}
-use Rattle.boost_core.specs.State.{State, seat_in}
-use Rattle.boost_core.specs.Machine.{Move}
-use Rattle.boost_core.specs.Whole.{IsWhole}
-use Rattle.boost_core.proofs.Refused.{le_false}
 use Rattle.txn_drive.proofs.DriveLaws.{entries_callers}
-use Rattle.core_tokens.specs.Suits.{IsSized, undone_of, Suits, IsInStep}
+use Rattle.boost_core.proofs.Refused.{le_false}
+use Rattle.core_tokens.proofs.Claiming.{goes_cases, goes_over, suits_stale}
+use Rattle.core_tokens.proofs.Phases.{entries_if, fits_told, seat_on, seat_on_more, seat_told, some_is, undone_told}
+use Rattle.core_tokens.proofs.Suiting.{MoveIf, suits_fits, suits_told}
 use Rattle.core_tokens.specs.Claims.{Trial, claim_in}
 use Rattle.core_tokens.specs.Holds.{Takes}
-use Rattle.core_tokens.proofs.Claiming.{goes_cases, goes_over, suits_stale}
-use Rattle.core_tokens.proofs.Phases.{entries_if, seat_on, seat_told, fits_told, undone_told}
-use Rattle.core_tokens.proofs.Suiting.{MoveIf, suits_told, suits_fits}
+use Rattle.core_tokens.specs.Suits.{IsInStep, IsSized, Suits, undone_of}
 
 own_all : (w : ℕ) (es : List Entry) → AllByRecursion (λ e. caller_of e ≡ w) es → own w es ≡ es
 own_all w [] all = refl
@@ -38,12 +20,8 @@ own-mine : (w : ℕ) (h es : List Entry) → AllByRecursion (λ e. caller_of e �
 own-mine w h es all = filter-append (λ e. caller_of e == w) h es ∙ ap (λ xs. own w h ++ xs) (own_all w es all)
 
 -- The seat of a caller in a legal history.
-some_or : (o : Option Seat) → is_some o ≡ true → o ≡ Some (unwrap_or o closed_seat)
-some_or None is = absurd (cc is)
-some_or (Some s) is = refl
-
-pub seat_there : (h : List Entry) (c : ℕ) → IsShaped h → seat_after (own c h) ≡ Some (seat_in h c)
-seat_there h c shape = some_or (seat_after (own c h)) (has_seat h shape c)
+seat_there : (h : List Entry) (c : ℕ) → IsShaped h → seat_after (own c h) ≡ Some (seat_in h c)
+seat_there h c shape = some_is (seat_after (own c h)) (has_seat h shape c)
 
 pub in_step_told : (tried : Option Trial) (m n : State) (limits : Sizes) (c : ℕ) (seen seen' : List Entry) (d e : Drive) (step : Step) (a : Answer)
     → IsWhole m → IsWhole n → IsShaped m.history → IsShaped n.history → length seen' < 2 ^ 63 → IsSized m.size d.phase → step_of d ≡ Some step
@@ -60,8 +38,7 @@ in_step_told tried m n limits c seen seen' d e step a old whole shape shape' sma
     let s = seat_in m.history c in
     let next = seat_in n.history c in
     let goes : seat_on s es ≡ Some next =
-    ap (λ o. fold (λ seat e. option_and_then (λ (t : Seat). row t t.phase e) seat) o es) (sym (seat_there m.history c shape))
-    ∙ sym (fold-append (λ seat e. option_and_then (λ (t : Seat). row t t.phase e) seat) (Some closed_seat) (own c m.history) es) ∙ ap seat_after (sym own_is) ∙ seat_there n.history c shape' in
+    sym (seat_on_more (own c m.history) es s (seat_there m.history c shape)) ∙ ap seat_after (sym own_is) ∙ seat_there n.history c shape' in
     let phase : e.phase ≡ told_in d.call d.phase a = ap (λ (x : Drive). x.phase) takes.told in
     let call : e.call ≡ d.call = ap (λ (x : Drive). x.call) takes.told in
     let step_is : step_in c d.call d.phase ≡ Some step = ap (λ w. step_in w d.call d.phase) (sym ins.mine) ∙ is in

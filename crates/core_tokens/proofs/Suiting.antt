@@ -1,27 +1,14 @@
 -- A core and a drive stay in step over a move.
-use Rattle.std.proofs.Common.{◌≡◌, ℕ, ◌-◌, ◌<◌, ◌^◌, Bool, true, false, [], length, Option, Some, None, refl, sym, ap, subst, ◌∙◌, arith}
-use Rattle.std.specs.Prelude.{nat_le}
-use Rattle.std.proofs.lemmas.Bool.{false≢true}
-use Rattle.txn_words.specs.declared.answer.Answer.{Answer}
+use Rattle.std.proofs.Common.{[], ℕ, ◌-◌, ◌<◌, ◌^◌, ◌∙◌, ◌≡◌, Bool, None, Option, Some, ap, arith, false, length, nat_le, refl, subst, sym, true}
+use Rattle.core_tokens.proofs.Vocabulary.{Acting, Answer, Call, Doubling, Fresh, HelpSuits, Helped, Initialising, IsWhole, Linking, Move, Phase, Refused, Seat, Seeking, State, Step, Storing, false≢true, first_step, refusal_in, seat_in, sized_in, step_in, told_in}
 use Rattle.txn_words.specs.declared.refusal.Refusal.TheVariants.{NoMemory, StampsUsedUp}
-use Rattle.txn_words.specs.declared.step.Step.{Step}
-use Rattle.txn_words.specs.declared.step.Step.TheVariants as steps
-use Rattle.txn_words.specs.Shape.{Seat}
-use Rattle.txn_drive.specs.declared.call.Call.{Call}
-use Rattle.txn_drive.specs.declared.call.Call.TheVariants as calls
-use Rattle.txn_drive.specs.declared.phase.Phase.{Phase}
-use Rattle.txn_drive.specs.declared.phase.Phase.TheVariants.{Fresh, Seeking, Acting, Doubling, Initialising, Linking, Storing, Helped, Refused}
-use Rattle.txn_drive.specs.Drives.{first_step, sized_in, step_in, told_in}
-use Rattle.boost_core.specs.State.{State, seat_in}
-use Rattle.txn_words.specs.Seats.{refusal_in}
-use Rattle.boost_core.specs.Machine.{Move}
-use Rattle.boost_core.specs.Whole.{IsWhole}
-use Rattle.boost_core.specs.Helps.{HelpSuits}
 use Rattle.boost_core.proofs.InStep.{help_suits_told}
 use Rattle.core_tokens.proofs.Phases.{entries_if}
-use Rattle.core_tokens.specs.Suits.{is_help, Fits, undone_of, IsSized, Suits}
 use Rattle.core_tokens.proofs.Starting.{first_free, suits_first}
-use Rattle.core_tokens.proofs.Working.{suits_seek, suits_act}
+use Rattle.core_tokens.proofs.Working.{suits_act, suits_seek}
+use Rattle.core_tokens.specs.Suits.{Fits, IsSized, Suits, is_help, undone_of}
+use Rattle.txn_drive.specs.declared.call.Call.TheVariants as calls
+use Rattle.txn_words.specs.declared.step.Step.TheVariants as steps
 
 -- A phase of a call for help that suits the core suits the call.
 suits_help : (n : State) (s : Seat) (c key : ℕ) (phase : Phase) → HelpSuits n c phase → Suits n s c (calls.Help key) phase
@@ -71,12 +58,7 @@ suits_told m n c s call phase a within cursors old whole sized few suits fits sa
 -- Whether a seat refuses the first step of a call does not depend on the caller's number.
 no_caller : (half : Bool) (s : Seat) (c : ℕ) (call : Call) → refusal_in half s (first_step 0 call) ≡ refusal_in half s (first_step c call)
 no_caller half s c calls.Begin = refl
-no_caller half s c (calls.Op op) = refl
-no_caller half s c calls.Save = refl
-no_caller half s c (calls.Back n) = refl
-no_caller half s c calls.Commit = refl
-no_caller half s c calls.Abort = refl
-no_caller half s c (calls.Help key) = refl
+no_caller half s c call = refl
 
 -- A phase that suits a seat fits it.
 pub suits_fits : (m : State) (c : ℕ) (s : Seat) (call : Call) (phase : Phase) → Suits m s c call phase → Fits s call phase

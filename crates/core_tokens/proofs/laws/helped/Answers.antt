@@ -1,4 +1,4 @@
-use Rattle.core_tokens.proofs.Helped.{heads, stays, stored, at_once}
+use Rattle.core_tokens.proofs.Helped.{at_once, heads, stays, stored}
 use Rattle.core_tokens.proofs.laws.helped.Goals as goal
 
 pub returns-clause-heads : goal.returns-clause-heads

@@ -1,11 +1,9 @@
-use Rattle.std.proofs.Common.{◌≡◌, true, subst}
-use Rattle.txn_words.specs.Entries.{entries_of}
-use Rattle.txn_words.specs.Sizes.{Sizes, are_limits}
-use Rattle.core_tokens.specs.Claims.{claim_in}
-use Rattle.core_tokens.proofs.Claiming.{counted_more, goes_over}
-use Rattle.core_tokens.proofs.Smalls.{small_added}
-use Rattle.core_tokens.proofs.Stepping.{in_step_told}
+use Rattle.std.proofs.Common.{◌≡◌, subst, true}
+use Rattle.core_tokens.proofs.Vocabulary.{Sizes, are_limits, entries_of}
+use Rattle.core_tokens.proofs.Claiming.{counted_more, goes_over, small_added}
 use Rattle.core_tokens.proofs.Going.{goes_told}
+use Rattle.core_tokens.proofs.Stepping.{in_step_told}
+use Rattle.core_tokens.specs.Claims.{claim_in}
 use Rattle.core_tokens.proofs.turns.take.Goals as goal
 
 pub returns-clause-in_step : goal.returns-clause-in_step

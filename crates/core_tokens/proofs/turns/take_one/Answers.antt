@@ -1,7 +1,7 @@
-use Rattle.std.proofs.Common.{sym, subst}
-use Rattle.txn_drive.specs.declared.turn.Turn.{Turn}
+use Rattle.std.proofs.Common.{subst, sym}
+use Rattle.core_tokens.proofs.Vocabulary.{Turn}
+use Rattle.core_tokens.specs.Holds.{GoesOn, TakesTurn}
 use Rattle.core_tokens.specs.Suits.{IsInStep}
-use Rattle.core_tokens.specs.Holds.{TakesTurn, GoesOn}
 use Rattle.core_tokens.proofs.turns.take_one.Goals as goal
 
 pub returns : goal.returns

@@ -1,5 +1,5 @@
-use Rattle.std.proofs.Common.{ap, ◌∙◌}
-use Rattle.txn_drive.specs.Drives.{turn_of}
+use Rattle.std.proofs.Common.{◌∙◌, ap}
+use Rattle.core_tokens.proofs.Vocabulary.{turn_of}
 use Rattle.core_tokens.proofs.Going.{two_again}
 use Rattle.core_tokens.proofs.turns.take_pair.Goals as goal
 

@@ -1,8 +1,8 @@
-use Rattle.std.proofs.Common.{refl, sym, subst, ◌∙◌}
-use Rattle.txn_drive.specs.declared.turn.Turn.{Turn}
+use Rattle.std.proofs.Common.{◌∙◌, refl, subst, sym}
+use Rattle.core_tokens.proofs.Vocabulary.{Turn}
+use Rattle.core_tokens.proofs.Going.{no_second, second_sized, second_step}
+use Rattle.core_tokens.specs.Holds.{GoesOn, TakesSecond, TakesTurn}
 use Rattle.core_tokens.specs.Suits.{IsInStep}
-use Rattle.core_tokens.specs.Holds.{TakesTurn, TakesSecond, GoesOn}
-use Rattle.core_tokens.proofs.Going.{second_sized, second_step, no_second}
 use Rattle.core_tokens.proofs.turns.take_two.Goals as goal
 
 pub take-requires-in-Placed-clause-step : goal.take-requires-in-Placed-clause-step

@@ -1,9 +1,9 @@
-use Rattle.std.proofs.Common.{rules, refl, sym, ap, ◌∙◌}
+use Rattle.std.proofs.Common.{◌∙◌, ap, refl, rules, sym}
+use Rattle.core_tokens.proofs.Vocabulary.{Sizes}
 use Rattle.std.specs.List.{filter}
 use Rattle.txn_words.specs.Kinds.{is_commit}
-use Rattle.txn_words.specs.Sizes.{Sizes}
 use Rattle.core_tokens.proofs.Claiming.{may_next}
-use Rattle.core_tokens.proofs.Holding.{ins_sized, goes_on_sized, no_room_run, broken_run, broken_ends, held_no_room, held_took, held_in_step, goes_held}
+use Rattle.core_tokens.proofs.Holding.{broken_ends, goes_held, goes_on_sized, held_in_step, held_no_room, held_took, ins_sized, no_room_run, out_run}
 use Rattle.core_tokens.proofs.caller.Caller.hold.Goals as goal
 
 pub take_turn-requires-clause-may : goal.take_turn-requires-clause-may
@@ -16,7 +16,7 @@ take_turn-requires-clause-may g c = record {
 pub returns-then-self-clause-goes : goal.returns-then-self-clause-goes
 returns-then-self-clause-goes g c = λ base goes.
     let on = goes_on_sized base c.args.self.now c.args.self.now _ _ _ refl c.turn-turn.ensures.drive goes.on in
-    broken_run base _ _ on (ap (filter is_commit) c.turn-turn.ensures.made ∙ goes.quiet)
+    out_run base _ _ on (λ whole. ap (filter is_commit) c.turn-turn.ensures.made ∙ goes.quiet)
 
 pub returns-then-not-take_turn-clause-in_step : goal.returns-then-not-take_turn-clause-in_step
 returns-then-not-take_turn-clause-in_step g c = λ ins.

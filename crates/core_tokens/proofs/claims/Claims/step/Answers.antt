@@ -1,8 +1,8 @@
-use Rattle.std.proofs.Common.{sym, subst, ◌∙◌}
+use Rattle.std.proofs.Common.{◌∙◌, subst, sym}
+use Rattle.core_tokens.proofs.Vocabulary.{Goes}
 use Rattle.txn_words.specs.declared.step.Step.TheVariants.{Ask}
-use Rattle.boost_core.specs.Words.{Goes}
-use Rattle.core_tokens.specs.Claims.{claim_in}
 use Rattle.core_tokens.proofs.Claiming.{goes_over, plain_claim}
+use Rattle.core_tokens.specs.Claims.{claim_in}
 use Rattle.core_tokens.proofs.claims.Claims.step.Goals as goal
 
 pub returns-in-Ask-clause-words : goal.returns-in-Ask-clause-words

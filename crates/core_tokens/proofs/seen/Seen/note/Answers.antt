@@ -7,7 +7,7 @@ invariant_of-self g c =
     (rw c.packed.ensures at c.push_reserved.ensures.items) c.push_reserved.ensures.capacity c.enter-self-inside.ensures.is_allowed c.enter-self-inside.ensures.seat c.began_by-self-inside.ensures c.add.ensures.parts c.add.ensures.amount
 
 pub enter-self-inside-requires-clause-standing : goal.enter-self-inside-requires-clause-standing
-enter-self-inside-requires-clause-standing g c = standing_small _ _ _ _ _ _ _ c.self.invariant c.self.view_is c.requires.whole c.entries-seen.ensures.small
+enter-self-inside-requires-clause-standing g c = standing_small _ _ _ _ _ _ _ c.self.invariant c.self.view_is c.requires.whole
 
 pub packed-requires : goal.packed-requires
 packed-requires g c = c.requires.small c.in-Some.entry c.in-Some.ensures
