@@ -84,15 +84,9 @@ tried_sized_in : (tried : Option Trial) (stripes c size : ℕ) (call : Call) (ph
 tried_sized_in tried stripes c size call (Doubling seen) has = tt
 tried_sized_in tried stripes c size call phase has = has
 
-tried_sized : (tried : Option Trial) (stripes size : ℕ) (d : Drive) → HasTriedIf tried stripes (step_of d) → HasTriedIf tried stripes (step_of (sized_of size d))
-tried_sized tried stripes size d = tried_sized_in tried stripes d.caller size d.call d.phase
-
 -- The word of a drive's next step was tried if it was tried before the size was noted.
 pub may_next : {S : Type 0} (t k : Token S) (stripes size : ℕ) (d d' : Drive) → t ≡ k → stripes ≡ t.limits.stripes → d' ≡ sized_of size d → HasTriedNext k d → HasTriedIf t.claims.tried stripes (step_of d')
-may_next {S} t k stripes size d d' view as_many sized has =
-    let there : HasTriedNext t d = subst (λ (x : Token S). HasTriedNext x d) (sym view) has in
-    let at : HasTriedIf t.claims.tried stripes (step_of d) = subst (λ (n : ℕ). HasTriedIf t.claims.tried n (step_of d)) (sym as_many) there in
-    subst (λ (x : Drive). HasTriedIf t.claims.tried stripes (step_of x)) (sym sized) (tried_sized t.claims.tried stripes size d at)
+may_next t k stripes size d d' view as_many sized has = rw (sized, as_many, view) (tried_sized_in k.claims.tried k.limits.stripes d.caller size d.call d.phase has)
 
 -- A stale word ends an operation, since only its first step asks.
 stale_asks : (claim : Claim) (m : State) (step : Step) → IsTrue (is_stale claim m step) → is_ask step ≡ true

@@ -23,33 +23,22 @@ pub goes_told : (base seen seen' : List Entry) (d e : Drive) (step : Step) (a : 
 goes_told base seen seen' d e step a is whole seen_is told goes =
     let es = entries_of step a in
     let s = unwrap_or (seat_after seen) closed_seat in
-    let at : seat_after seen ≡ Some s = some_is (seat_after seen) whole in
-    let after : seat_after seen' ≡ seat_on s es = ap seat_after seen_is ∙ seat_on_more seen es s at in
-    let fits : FitsIf (seat_on s es) d.call (told_in d.call d.phase a) = fits_on s d step a (seat_on s es) is (subst (λ o. FitsIf o d.call d.phase) at goes.fits) refl in
-    record {
-      entries = seen_is ∙ ap (λ h. h ++ es) goes.entries ∙ append_assoc base (made d) es ∙ ap (λ h. base ++ h) (sym (made-told_of d step a is) ∙ ap made (sym told));
-      fits = subst (λ (x : Drive). FitsIf (seat_after seen') x.call x.phase) (sym told) (subst (λ o. FitsIf o d.call (told_in d.call d.phase a)) (sym after) fits);
-    }
+    let seat : seat_after seen ≡ Some s = some_is (seat_after seen) whole in
+    rw (seen_is, told) (record {
+      entries = ap (λ h. h ++ es) goes.entries ∙ append_assoc base (made d) es ∙ ap (λ h. base ++ h) (sym (made-told_of d step a is));
+      fits = subst (λ o. FitsIf o d.call (told_in d.call d.phase a)) (sym (seat_on_more seen es s seat)) (fits_on s d step a (seat_on s es) is (subst (λ o. FitsIf o d.call d.phase) seat goes.fits) refl);
+    })
 
--- After the first step of two no doubling is next.
-second_sized_in : (size c : ℕ) (call : Call) (phase : Phase) (step next : Step) → turn_in c call phase ≡ Two step next → IsSized size (told_in call phase answers.Placed)
-second_sized_in size c call (Seeking work again) step next is = tt
-second_sized_in size c call (Initialising way again) step next is = tt
-second_sized_in size c call phase step next is = absurd (cc is)
+-- The second step of a turn is the drive's step after `placed`, and no doubling.
+second_in : (size c : ℕ) (call : Call) (phase : Phase) (step next : Step) → turn_in c call phase ≡ Two step next → (step_in c call (told_in call phase answers.Placed) ≡ Some next) × IsSized size (told_in call phase answers.Placed)
+second_in size c call (Seeking work again) step next = at_paired (λ t. t ≡ Two step next → (Some (steps.Act c) ≡ Some next) × Unit) again (steps.Seek c) (steps.Act c) (λ is. absurd (cc is)) (λ is. (cc is, tt))
+second_in size c call (Initialising way again) step next =
+    at_paired (λ t. t ≡ Two step next → (Some (steps.InitLink c) ≡ Some next) × Unit) again (steps.InitSeek c way.bucket) (steps.InitLink c) (λ is. absurd (cc is)) (λ is. (cc is, tt))
+second_in size c call phase step next = λ is. absurd (cc is)
 
-pub second_sized : (size : ℕ) (d e : Drive) (a : Answer) (turn : Turn) (step next : Step) → turn ≡ turn_of d → turn ≡ Two step next → e ≡ told_of d a → a ≡ answers.Placed → IsSized size e.phase
-second_sized size d e a turn step next is two told placed =
-    subst (λ (x : Drive). IsSized size x.phase) (sym (told ∙ ap (told_of d) placed)) (second_sized_in size d.caller d.call d.phase step next (sym is ∙ two))
-
--- The second step of a turn is the drive's step after `placed`.
-second_in : (c : ℕ) (call : Call) (phase : Phase) (step next : Step) → turn_in c call phase ≡ Two step next → step_in c call (told_in call phase answers.Placed) ≡ Some next
-second_in c call (Seeking work again) step next = at_paired (λ t. t ≡ Two step next → Some (steps.Act c) ≡ Some next) again (steps.Seek c) (steps.Act c) (λ is. absurd (cc is)) (λ is. cc is)
-second_in c call (Initialising way again) step next =
-    at_paired (λ t. t ≡ Two step next → Some (steps.InitLink c) ≡ Some next) again (steps.InitSeek c way.bucket) (steps.InitLink c) (λ is. absurd (cc is)) (λ is. cc is)
-second_in c call phase step next = λ is. absurd (cc is)
-
-pub second_step : (d e : Drive) (a : Answer) (turn : Turn) (step next : Step) → turn ≡ turn_of d → turn ≡ Two step next → e ≡ told_of d a → a ≡ answers.Placed → step_of e ≡ Some next
-second_step d e a turn step next is two told placed = ap step_of (told ∙ ap (told_of d) placed) ∙ second_in d.caller d.call d.phase step next (sym is ∙ two)
+pub second_of : (size : ℕ) (d e : Drive) (a : Answer) (step next : Step) → Two step next ≡ turn_of d → e ≡ told_of d a → a ≡ answers.Placed → (step_of e ≡ Some next) × IsSized size e.phase
+second_of size d e a step next is told placed =
+    subst (λ x. (step_of x ≡ Some next) × IsSized size x.phase) (sym (told ∙ ap (told_of d) placed)) (second_in size d.caller d.call d.phase step next (sym is))
 
 -- A turn of two steps is the same for each size of the table.
 pub two_again : (size c : ℕ) (call : Call) (phase : Phase) (first second : Step) → Two first second ≡ turn_in c call phase → turn_in c call (sized_in size phase) ≡ Two first second
@@ -61,24 +50,20 @@ no_second tried m seen d next answers.Placed not_so = absurd (not_so refl)
 no_second tried m seen d next a not_so = (refl, refl, refl)
 
 -- The size is noted.
-pub goes_sized : (base seen : List Entry) (d : Drive) (size : ℕ) → GoesOn base seen d → GoesOn base seen (sized_of size d)
-goes_sized base seen d size goes = record {
+pub goes_sized : (base seen : List Entry) (d e : Drive) (size : ℕ) → e ≡ sized_of size d → GoesOn base seen d → GoesOn base seen e
+goes_sized base seen d e size is goes = rw is (record {
   entries = goes.entries ∙ ap (λ h. base ++ h) (sym (made-sized size d.caller d.call d.phase));
   fits = at (seat_after seen) d.phase goes.fits;
-}
+})
   where
     at : (o : Option Seat) (phase : Phase) → FitsIf o d.call phase → FitsIf o d.call (sized_in size phase)
     at None phase fits = tt
     at (Some s) (Doubling seen) fits = tt
     at (Some s) phase fits = fits
 
-pub in_step_sized : (m : State) (limits : Sizes) (c : ℕ) (seen : List Entry) (d : Drive) → IsInStep m limits c seen d → IsInStep m limits c seen (sized_of m.size d)
-in_step_sized m limits c seen d ins = at d.phase ins
+pub in_step_sized : (m : State) (limits : Sizes) (c : ℕ) (seen : List Entry) (d e : Drive) (size : ℕ) → size ≡ m.size → e ≡ sized_of size d → IsInStep m limits c seen d → IsSized m.size e.phase × IsInStep m limits c seen e
+in_step_sized m limits c seen d e size size_is is ins = rw (is, size_is) (at d.phase ins)
   where
-    at : (phase : Phase) → IsInStep m limits c seen (record d { phase = phase }) → IsInStep m limits c seen (record d { phase = sized_in m.size phase })
-    at (Doubling size) ins = record { same_limits = ins.same_limits; within = ins.within; same = ins.same; mine = ins.mine; suits = ins.suits; few = ins.few }
-    at phase ins = ins
-
-pub is_sized : (size : ℕ) (phase : Phase) → IsSized size (sized_in size phase)
-is_sized size (Doubling seen) = refl
-is_sized size phase = tt
+    at : (phase : Phase) → IsInStep m limits c seen (record d { phase = phase }) → IsSized m.size (sized_in m.size phase) × IsInStep m limits c seen (record d { phase = sized_in m.size phase })
+    at (Doubling size) ins = (refl, record { same_limits = ins.same_limits; within = ins.within; same = ins.same; mine = ins.mine; suits = ins.suits; few = ins.few })
+    at phase ins = (tt, ins)

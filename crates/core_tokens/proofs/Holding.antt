@@ -1,13 +1,12 @@
 -- The call after a hold, with core and token in step.
 use Rattle.std.proofs.Common.{[], ℕ, ◌++◌, ◌||◌, ◌∙◌, ◌≡◌, ◌≢◌, Bool, IfSome, List, None, Option, Some, ap, false, inl, inr, is_some, not, refl, subst, sym, true}
-use Rattle.core_tokens.proofs.Vocabulary.{Call, CommitNothing, Drive, End, Entry, First, Helped, IsQuiet, IsShaped, Last, Lost, Phase, Refused, Seat, Sizes, State, Turn, end_of, ended_by, false≢true, goes_on, has_seat, made, seat_after, seat_in, sized_of, turn_in, turn_of}
+use Rattle.core_tokens.proofs.Vocabulary.{Call, CommitNothing, Drive, End, Entry, First, Helped, IsQuiet, IsShaped, Last, Lost, Phase, Refused, Seat, Sizes, State, end_of, ended_by, false≢true, goes_on, has_seat, made, seat_after, seat_in, sized_of, turn_in}
 use Rattle.txn_drive.proofs.DriveLaws.{made_at_end}
 use Rattle.txn_drive.proofs.Quiet.{going_quiet, made_quiet}
 use Rattle.txn_words.specs.declared.refusal.Refusal.TheVariants.{NoMemory, OutOfStep}
-use Rattle.core_tokens.proofs.Going.{goes_sized, in_step_sized, is_sized}
-use Rattle.core_tokens.specs.Holds.{FoundOther, GoesOn, GoesTo, HadNoRoom, HasRun, Held, InStep, MayEnd, TakesTurn, TookTurn, end_in, is_out, odd_if, out_if}
-use Rattle.core_tokens.specs.Suits.{IsInStep, IsSized, Suits, is_odd, may_refuse}
-use Rattle.core_tokens.specs.Tokens.{IsSameCaller, IsSameClaims, Token}
+use Rattle.core_tokens.specs.Holds.{GoesOn, GoesTo, HasRun, Held, HeldBy, How, InStep, MayEnd, end_in, is_out, odd_if, out_if}
+use Rattle.core_tokens.specs.Suits.{IsInStep, Suits, is_odd, may_refuse}
+use Rattle.core_tokens.specs.Tokens.{Token}
 use Rattle.txn_drive.specs.declared.call.Call.TheVariants as calls
 use Rattle.txn_drive.specs.declared.«end».End.TheVariants as ends
 
@@ -65,18 +64,6 @@ not_out : (call : Call) (o : Option End) → odd_if call o ≡ false → IfSome 
 not_out call None plain = tt
 not_out call (Some outcome) plain = λ is. false≢true (sym plain ∙ ap (is_odd call) is ∙ no_out call)
 
-pub ins_sized : {S : Type 0} (m : State) (t k : Token S) (d d' : Drive) (size : ℕ) → t ≡ k → size ≡ m.size → d' ≡ sized_of size d → InStep m k d → IsInStep m t.limits t.number t.seen d' × IsSized m.size d'.phase
-ins_sized {S} m t k d d' size view size_is is ins =
-    let there : InStep m t d = subst (λ (x : Token S). InStep m x d) (sym view) ins in
-    let sized : d' ≡ sized_of m.size d = is ∙ ap (λ z. sized_of z d) size_is in (
-      subst (IsInStep m t.limits t.number t.seen) (sym sized) (in_step_sized m t.limits t.number t.seen d there.1),
-      subst (λ (x : Drive). IsSized m.size x.phase) (sym sized) (is_sized m.size d.phase),
-    )
-
-pub goes_on_sized : {S : Type 0} (base : List Entry) (t k : Token S) (d d' : Drive) (size : ℕ) → t ≡ k → d' ≡ sized_of size d → GoesOn base k.seen d → GoesOn base t.seen d'
-goes_on_sized {S} base t k d d' size view is goes =
-    subst (GoesOn base t.seen) (sym is) (goes_sized base t.seen d size (subst (λ (x : Token S). GoesOn base x.seen d) (sym view) goes))
-
 pub no_room_run : (base seen seen' : List Entry) (d e : Drive) → seen' ≡ seen → e ≡ d → (made d ≡ []) × (may_refuse d.call NoMemory ≡ true) → GoesOn base seen d → HasRun base seen' e.caller e.call (ends.Refused NoMemory)
 no_room_run base seen seen' d e same is starts goes = record {
   added = [];
@@ -86,38 +73,9 @@ no_room_run base seen seen' d e same is starts goes = record {
   quiet = λ whole. tt;
 }
 
-pub held_took : {S : Type 0} (m n : State) (t k l : Token S) (d d' e : Drive) (turn : Turn) (size : ℕ) (end r : Option End) (whole : Bool) → t ≡ k → t.broken ≡ false → size ≡ m.size → d' ≡ sized_of size d → turn ≡ turn_of d'
-    → m.limits.stripes ≡ t.limits.stripes → TakesTurn t.claims.tried m t.seen d' turn n l.seen e → whole ≡ is_some (seat_after l.seen) → end ≡ end_of e → l.broken ≡ (not whole || odd_if e.call end) → r ≡ end_in l.broken end
-    → IsSameCaller t l → IsSameClaims t l → l.side ≡ t.side → Held m k d r n l e
-held_took {S} m n t k l d d' e turn size end r whole view sound size_is is turn_is stripes took whole_is end_is broken ends_is whose claims side =
-    let sized : d' ≡ sized_of m.size d = is ∙ ap (λ z. sized_of z d) size_is in
-    subst (λ (x : Token S). Held m x d r n l e) view (
-      TookTurn,
-      record {
-        sound = sound;
-        stripes = stripes;
-        turn = subst (λ x. TakesTurn t.claims.tried m t.seen x (turn_of x) n l.seen e) sized (subst (λ x. TakesTurn t.claims.tried m t.seen d' x n l.seen e) turn_is took);
-        broken = broken ∙ (λ i. not (whole_is i) || odd_if e.call (end_is i));
-        ends = ends_is ∙ ap (end_in l.broken) end_is;
-        whose = whose;
-        claims = claims;
-        side = side;
-      },
-    )
-
--- A core with another number of stripes is not in step, and nothing is done on it.
-pub held_other : {S : Type 0} (m : State) (t k : Token S) (d d' : Drive) (size : ℕ) → t ≡ k → t.broken ≡ false → size ≡ m.size → d' ≡ sized_of size d → (m.limits.stripes ≡ t.limits.stripes → ⊥)
-    → Held m k d (Some (ends.Refused OutOfStep)) m (record t { broken = true }) d'
-held_other {S} m t k d d' size view sound size_is is other =
-    subst (λ (x : Token S). Held m x d (Some (ends.Refused OutOfStep)) m (record t { broken = true }) d') view
-    (FoundOther, (sound, other, refl, refl, refl, is ∙ ap (λ z. sized_of z d) size_is))
-
--- A hold without room.
-pub held_no_room : {S : Type 0} (m n : State) (t k : Token S) (d d' e : Drive) (size : ℕ) (seen : List Entry) → t ≡ k → t.broken ≡ false → size ≡ m.size → d' ≡ sized_of size d → n ≡ m → seen ≡ t.seen → e ≡ d'
-    → Held m k d (Some (ends.Refused NoMemory)) n (record t { seen = seen }) e
-held_no_room {S} m n t k d d' e size seen view sound size_is is core_is seen_is drive_is =
-    subst (λ (x : Token S). Held m x d (Some (ends.Refused NoMemory)) n (record t { seen = seen }) e) view
-    (HadNoRoom, (sound, refl, core_is, ap (λ (es : List Entry). record t { seen = es }) seen_is, drive_is ∙ is ∙ ap (λ z. sized_of z d) size_is))
+-- The drive was told the size before its hold.
+pub held_by : {S : Type 0} (how : How) (m n : State) (k l : Token S) (d d' e : Drive) (size : ℕ) (r : Option End) → size ≡ m.size → d' ≡ sized_of size d → HeldBy how m k d' r n l e → Held m k d r n l e
+held_by how m n k l d d' e size r size_is is held = (how, subst (λ x. HeldBy how m k x r n l e) (is ∙ ap (λ z. sized_of z d) size_is) held)
 
 pub other_in_step : {S : Type 0} (m : State) (t k : Token S) (d : Drive) → t ≡ k → (m.limits.stripes ≡ t.limits.stripes → ⊥) → InStep m k d → ⊥
 other_in_step {S} m t k d view other ins = other (ap (λ (z : Sizes). z.stripes) (ins.1.same_limits ∙ ap (λ (x : Token S). x.limits) (sym view)))

@@ -4,7 +4,7 @@ use Rattle.core_tokens.proofs.Vocabulary.{AllByRecursion, Answer, Entry, RoomySe
 use Rattle.std.specs.Global.{Vec}
 use Rattle.txn_trace.proofs.Room.{owed_by-row, reserved_enough, reserved_for}
 use Rattle.txn_words.proofs.Levels.{IsLevelIn, seat_leveled}
-use Rattle.txn_words.specs.declared.step.Step.TheVariants.{Abort, Act, Ask, Back, Begin, Commit, Save}
+use Rattle.txn_words.specs.declared.step.Step.TheVariants.{Begin}
 use Rattle.core_tokens.proofs.Phases.{seat_on_more}
 use Rattle.core_tokens.specs.Noted.{HasRoomFor, IsNoted, Noted, adds_entry, began_by, last_txn}
 use Rattle.txn_words.specs.declared.seat.Phase.TheVariants as seats
@@ -12,13 +12,7 @@ use Rattle.txn_words.specs.declared.seat.Phase.TheVariants as seats
 -- A step that has an entry may add one, and reserves enough for it.
 adds_if : (step : Step) (a : Answer) (e : Entry) → e ∷ [] ≡ entries_of step a → adds_entry step ≡ true
 adds_if (Begin c) a e is = refl
-adds_if (Ask c op) a e is = refl
-adds_if (Act c) a e is = refl
-adds_if (Save c) a e is = refl
-adds_if (Back c n) a e is = refl
-adds_if (Commit c) a e is = refl
-adds_if (Abort c) a e is = refl
-adds_if step a e is = absurd (cc is)
+adds_if step a e is = cc
 
 -- The number of entries owed after the entry.
 owed_row : (s : Seat) (e : Entry) (room : ℕ) (next : Option Seat) → row s s.phase e ≡ next → owed_by (Some s) + reserved_for e ≤ room → 0 < room → owed_by next + 1 ≤ room

@@ -1,7 +1,6 @@
 -- The room that a turn needs, and the calls to which room may be refused.
-use Rattle.std.proofs.Common.{[], ℕ, ◌<◌, ◌∙◌, ◌≡◌, ◌≤◌, Bool, Err, IfSome, List, None, Ok, Option, Result, Some, ap, arith, false, is_some, refl, subst, sym, true, unwrap_or}
+use Rattle.std.proofs.Common.{[], ℕ, ◌<◌, ◌∙◌, ◌≡◌, ◌≤◌, Bool, IfSome, List, None, Option, Some, ap, arith, false, is_some, refl, subst, sym, true, unwrap_or}
 use Rattle.core_tokens.proofs.Vocabulary.{Acting, Call, Doubling, Drive, Ended, Entry, Fresh, Initialising, Linking, One, Phase, Seat, Seeking, Standing, Step, Storing, Turn, Two, Work, closed_seat, false≢true, first_step, is_closed, made, made_in, owed_by, owed_in, refusal_in, reserved, seat_after, turn_in, turn_of}
-use Rattle.std.specs.Prelude.{OnErr, is_err}
 use Rattle.txn_words.specs.declared.refusal.Refusal.TheVariants.{NoMemory}
 use Rattle.boost_core.proofs.Refused.{abort_runs, commit_open}
 use Rattle.core_tokens.proofs.Going.{at_paired}
@@ -22,14 +21,8 @@ asked_of (Ended outcome) = None
 
 -- A step that adds no entry needs no more room than is owed.
 saves_none : (step : Step) → adds_entry step ≡ false → (reserved step ≡ 0) × (is_save step ≡ false)
-saves_none (steps.Begin c) is = absurd (false≢true (sym is))
-saves_none (steps.Ask c op) is = absurd (false≢true (sym is))
-saves_none (steps.Act c) is = absurd (false≢true (sym is))
-saves_none (steps.Save c) is = absurd (false≢true (sym is))
-saves_none (steps.Back c n) is = absurd (false≢true (sym is))
-saves_none (steps.Commit c) is = absurd (false≢true (sym is))
-saves_none (steps.Abort c) is = absurd (false≢true (sym is))
-saves_none step is = (refl, refl)
+saves_none (steps.Begin c) is = absurd (cc is)
+saves_none step is = (cc, cc)
 
 pub room_for_none : (n : Noted) (step : Step) → adds_entry step ≡ false → owed_by (seat_after n.entries) ≤ n.room → HasRoomFor n step
 room_for_none n step adds owes =
@@ -104,9 +97,5 @@ seeks_if c call (Seeking work again) = at_paired IsSeekIf again (steps.Seek c) (
 seeks_if c call (Initialising way again) = at_paired IsSeekIf again (steps.InitSeek c way.bucket) (steps.InitLink c) tt refl
 seeks_if c call phase = tt
 
-pub first_room : (n : Noted) (d : Drive) (turn : Turn) (step next : Step) → turn ≡ turn_of d → turn ≡ Two step next → owed_by (seat_after n.entries) ≤ n.room → HasRoomFor n step
-first_room n d turn step next is two owes = room_for_none n step (subst IsSeekIf (sym is ∙ two) (seeks_if d.caller d.call d.phase)) owes
-
-pub on_err : {A E P : Type 0} (r : Result A E) → is_err r ≡ true → OnErr r P → P
-on_err (Ok x) is p = absurd (cc is)
-on_err (Err e) is p = p
+pub first_room : (n : Noted) (d : Drive) (step next : Step) → Two step next ≡ turn_of d → owed_by (seat_after n.entries) ≤ n.room → HasRoomFor n step
+first_room n d step next is owes = room_for_none n step (subst IsSeekIf (sym is) (seeks_if d.caller d.call d.phase)) owes

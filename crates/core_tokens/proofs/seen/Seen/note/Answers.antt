@@ -8,6 +8,3 @@ invariant_of-self g c =
 
 pub enter-self-inside-requires-clause-standing : goal.enter-self-inside-requires-clause-standing
 enter-self-inside-requires-clause-standing g c = standing_small _ _ _ _ _ _ _ c.self.invariant c.self.view_is c.requires.whole
-
-pub packed-requires : goal.packed-requires
-packed-requires g c = c.requires.small c.in-Some.entry c.in-Some.ensures
