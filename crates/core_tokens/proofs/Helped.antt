@@ -29,13 +29,10 @@ abbrev Turned : Option Trial → State → List Entry → Drive → State → Li
 Turned tried m seen d n seen' e = TakesTurn tried m seen (sized_of m.size d) (turn_of (sized_of m.size d)) n seen' e
 
 took : {S : Type 0} (m n : State) (k l : Token S) (d e : Drive) (outcome : Option End) → IsPlain outcome → Held m k d outcome n l e → Turned k.claims.tried m k.seen d n l.seen e × (end_of e ≡ outcome)
-took {S} m n k l d e outcome plain held = by held.0 held.1
-  where
-    by : (how : How) → HeldBy how m k (sized_of m.size d) outcome n l e → Turned k.claims.tried m k.seen d n l.seen e × (end_of e ≡ outcome)
-    by WasBroken was = absurd (subst IsPlain was.1 plain)
-    by FoundOther was = absurd (subst IsPlain was.2 plain)
-    by HadNoRoom was = absurd (subst IsPlain was.1 plain)
-    by TookTurn was = (was.turn, ended_plain l.broken (end_of e) outcome plain was.ends)
+took m n k l d e outcome plain (WasBroken, was) = absurd (subst IsPlain was.1 plain)
+took m n k l d e outcome plain (FoundOther, was) = absurd (subst IsPlain was.2 plain)
+took m n k l d e outcome plain (HadNoRoom, was) = absurd (subst IsPlain was.1 plain)
+took m n k l d e outcome plain (TookTurn, was) = (was.turn, ended_plain l.broken (end_of e) outcome plain was.ends)
 
 -- A helper's drive.
 abbrev helping : ℕ → ℕ → Phase → Drive

@@ -65,13 +65,7 @@ not_out call None plain = tt
 not_out call (Some outcome) plain = λ is. false≢true (sym plain ∙ ap (is_odd call) is ∙ no_out call)
 
 pub no_room_run : (base seen seen' : List Entry) (d e : Drive) → seen' ≡ seen → e ≡ d → (made d ≡ []) × (may_refuse d.call NoMemory ≡ true) → GoesOn base seen d → HasRun base seen' e.caller e.call (ends.Refused NoMemory)
-no_room_run base seen seen' d e same is starts goes = record {
-  added = [];
-  entries = same ∙ goes.entries ∙ ap (λ h. base ++ h) starts.0;
-  made = refl;
-  may = ap not (ap (λ (x : Drive). may_refuse x.call NoMemory) is ∙ starts.1);
-  quiet = λ whole. tt;
-}
+no_room_run base seen seen' d e same is starts goes = rw is (record { added = []; entries = cc; made = refl; may = ap not starts.1; quiet = λ whole. tt })
 
 -- The drive was told the size before its hold.
 pub held_by : {S : Type 0} (how : How) (m n : State) (k l : Token S) (d d' e : Drive) (size : ℕ) (r : Option End) → size ≡ m.size → d' ≡ sized_of size d → HeldBy how m k d' r n l e → Held m k d r n l e

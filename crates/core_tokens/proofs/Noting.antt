@@ -31,37 +31,29 @@ standing_owed : (q : Standing) (standing : ℕ) (kept : List ℕ) → IsLevelIn 
 standing_owed seats.Closed standing kept is = let none = is.0 in omega (arith, none)
 standing_owed q standing kept is = omega arith
 
-pub standing_small : (es : Vec Entry) (p : RoomySeat) (w : Bool) (txn parts amount : ℕ) (n : Noted) → IsNoted es p w txn parts amount
-    → record { entries = es.items; room = vec_capacity es - vec_len es; save_room = p.room } ≡ n → is_some (seat_after n.entries) ≡ true → p.seat.standing < 2 ^ 64 - 1
-standing_small es p w txn parts amount n inv view whole =
-    let at = inv.seated (inv.fits ∙ ap (λ (m : Noted). is_some (seat_after m.entries)) view ∙ whole) in
+pub standing_small : (es : Vec Entry) (p : RoomySeat) (w : Bool) (txn parts amount : ℕ) → IsNoted es p w txn parts amount → is_some (seat_after es.items) ≡ true → p.seat.standing < 2 ^ 64 - 1
+standing_small es p w txn parts amount inv whole =
+    let at = inv.seated (inv.fits ∙ whole) in
     let owed : owed_by (seat_after es.items) ≡ owed_in p.seat.standing p.seat.phase = ap owed_by at in
     let most = standing_owed p.seat.phase p.seat.standing p.seat.kept (seat_leveled es.items p.seat at).within in
-    let room = inv.room in
-    let small = es.small in
-    omega (arith, owed, most, room, small)
+    omega (arith, owed, most, inv.room, es.small)
 
-pub noted : (es es' : Vec Entry) (p p' : RoomySeat) (e : Entry) (step : Step) (a : Answer) (w w' : Bool) (txn txn' parts parts' amount amount' : ℕ) (n : Noted)
-    → IsNoted es p w txn parts amount → record { entries = es.items; room = vec_capacity es - vec_len es; save_room = p.room } ≡ n
-    → is_some (seat_after n.entries) ≡ true → HasRoomFor n step → e ∷ [] ≡ entries_of step a
-    → es'.items ≡ es.items ++ e ∷ [] → vec_capacity es' ≡ vec_capacity es
+pub noted : (es es' : Vec Entry) (p p' : RoomySeat) (e : Entry) (step : Step) (a : Answer) (w w' : Bool) (txn txn' parts parts' amount amount' : ℕ)
+    → IsNoted es p w txn parts amount → is_some (seat_after es.items) ≡ true → HasRoomFor (record { entries = es.items; room = vec_capacity es - vec_len es; save_room = p.room }) step
+    → e ∷ [] ≡ entries_of step a → es'.items ≡ es.items ++ e ∷ [] → vec_capacity es' ≡ vec_capacity es
     → w' ≡ is_some (row p.seat p.seat.phase e) → (w' ≡ true → row p.seat p.seat.phase e ≡ Some p'.seat)
     → txn' ≡ began_by txn e → parts' ≡ parts → amount' ≡ amount + 1 → IsNoted es' p' w' txn' parts' amount'
-noted es es' p p' e step a w w' txn txn' parts parts' amount amount' n inv view whole room is items capacity fits seat last same counted =
-    let whole_is : w ≡ true = inv.fits ∙ ap (λ (m : Noted). is_some (seat_after m.entries)) view ∙ whole in
-    let at : seat_after es.items ≡ Some p.seat = inv.seated whole_is in
-    let there = subst (λ (m : Noted). HasRoomFor m step) (sym view) room in
+noted es es' p p' e step a w w' txn txn' parts parts' amount amount' inv whole room is items capacity fits seat last same counted =
+    let at = inv.seated (inv.fits ∙ whole) in
     let after : seat_after es'.items ≡ row p.seat p.seat.phase e = ap seat_after items ∙ seat_on_more es.items (e ∷ []) p.seat at in
-    let owes = owed_noted es.items p.seat e step a (vec_capacity es - vec_len es) at is there.all there.one in
+    let owes = owed_noted es.items p.seat e step a (vec_capacity es - vec_len es) at is room.all room.one in
     let owed_is : owed_by (seat_after es'.items) ≡ owed_by (seat_after (es.items ++ e ∷ [])) = ap (λ h. owed_by (seat_after h)) items in
     let length_is : length es'.items ≡ length es.items + 1 = ap length items ∙ length-append es.items (e ∷ []) in
-    let before = inv.room in
-    let counts = inv.counts in
     record {
-      fits = fits ∙ ap is_some (sym after);
+      fits = cc;
       seated = λ w_is. after ∙ seat w_is;
       last = last ∙ ap (λ t. began_by t e) inv.last ∙ sym (fold-append began_by 0 es.items (e ∷ [])) ∙ ap last_txn (sym items);
-      room = omega (arith, owes, owed_is, length_is, capacity, before);
-      one_part = same ∙ inv.one_part;
-      counts = omega (arith, counted, counts, length_is);
+      room = omega arith;
+      one_part = cc;
+      counts = omega arith;
     }

@@ -28,39 +28,30 @@ pub in_step_told : (tried : Option Trial) (m n : State) (limits : Sizes) (c : �
     → Takes tried m seen d step a n seen' e → IsInStep m limits c seen d → IsInStep n limits c seen' e
 in_step_told tried m n limits c seen seen' d e step a old whole shape shape' small sized is takes ins =
     let es = entries_of step a in
-    let callers : m.limits.callers ≡ limits.callers = ap (λ (x : Sizes). x.callers) ins.same_limits in
-    let below = ins.within in
-    let cursors = old.callers in
-    let mine = subst (λ w. AllByRecursion (λ e. caller_of e ≡ w) es) ins.mine (entries_callers d step a is) in
-    let over = goes_over (claim_in tried m step) m n step a takes.goes in
-    let history = over.history in
-    let own_is : own c n.history ≡ own c m.history ++ es = ap (own c) history ∙ own-mine c m.history es mine in
     let s = seat_in m.history c in
     let next = seat_in n.history c in
+    let over = goes_over (claim_in tried m step) m n step a takes.goes in
+    let callers : m.limits.callers ≡ limits.callers = ap (λ (x : Sizes). x.callers) ins.same_limits in
+    let mine = subst (λ w. AllByRecursion (λ e. caller_of e ≡ w) es) ins.mine (entries_callers d step a is) in
+    let own_is : own c n.history ≡ own c m.history ++ es = ap (own c) over.history ∙ own-mine c m.history es mine in
     let goes : seat_on s es ≡ Some next =
     sym (seat_on_more (own c m.history) es s (seat_there m.history c shape)) ∙ ap seat_after (sym own_is) ∙ seat_there n.history c shape' in
-    let phase : e.phase ≡ told_in d.call d.phase a = ap (λ (x : Drive). x.phase) takes.told in
-    let call : e.call ≡ d.call = ap (λ (x : Drive). x.call) takes.told in
     let step_is : step_in c d.call d.phase ≡ Some step = ap (λ w. step_in w d.call d.phase) (sym ins.mine) ∙ is in
     let fits = fits_told s next c d.call d.phase a (suits_fits m c s d.call d.phase ins.suits) (ap (λ o. seat_told s o a) step_is ∙ goes) in
-    let undone = undone_told c d.call d.phase a in
-    let added : length (entries_if (step_in c d.call d.phase) a) ≡ length es = ap (λ o. length (entries_if o a)) step_is in
+    let undone = rw step_is at (undone_told c d.call d.phase a) in
     let longer : length seen' ≡ length seen + length es = ap length takes.entries ∙ length-append seen es in
-    let few = ins.few in
-    let moved : Move m step a n → Suits n next c d.call (told_in d.call d.phase a) = λ move.
-    suits_told m n c next d.call d.phase a (le_false m.limits.callers c (omega (arith, below, callers))) (omega (arith, cursors, below, callers)) old whole sized
-    (omega (arith, few, longer, small)) ins.suits fits
-    (λ none. ap (λ h. seat_in h c) (history ∙ ap (λ xs. m.history ++ xs) (sym (ap (λ o. entries_if o a) step_is) ∙ none) ∙ append-nil m.history))
-    (subst (λ o. MoveIf m o a n) (sym step_is) move) in
     let suits : Suits n next c d.call (told_in d.call d.phase a) = elim (goes_cases (claim_in tried m step) m n step a takes.goes) [
       | inl stale ↦ suits_stale (claim_in tried m step) m n next c d.call d.phase step a step_is stale
-      | inr move ↦ moved move
+      | inr move ↦
+          suits_told m n c next d.call d.phase a (le_false m.limits.callers c (omega arith)) (omega arith) old whole sized (omega arith) ins.suits fits
+          (λ none. ap (λ h. seat_in h c) (over.history ∙ ap (λ xs. m.history ++ xs) (sym (ap (λ o. entries_if o a) step_is) ∙ none) ∙ append-nil m.history))
+          (subst (λ o. MoveIf m o a n) (sym step_is) move)
     ] in
-    record {
+    rw takes.told (record {
       same_limits = over.limits ∙ ins.same_limits;
-      within = below;
+      within = ins.within;
       same = own_is ∙ ap (λ xs. xs ++ es) ins.same ∙ sym takes.entries;
-      mine = ap (λ (x : Drive). x.caller) takes.told ∙ ins.mine;
-      suits = subst (λ (x : Drive). Suits n next c x.call x.phase) (sym takes.told) suits;
-      few = let undone_is : undone_of e.phase ≡ undone_of (told_in d.call d.phase a) = ap undone_of phase in omega (arith, undone_is, undone, added, longer, few);
-    }
+      mine = ins.mine;
+      suits = suits;
+      few = omega arith;
+    })

@@ -33,7 +33,7 @@ starts k call d limits number limits_are number_is drive none fits =
       going = record {
         on = record {
           entries = sym (ap (λ es. k.seen ++ es) none ∙ append-nil k.seen);
-          fits = subst (λ (x : Drive). FitsIf (seat_after k.seen) x.call x.phase) (sym new) fits;
+          fits = rw new fits;
         };
         quiet = new_quiet d none;
       };
@@ -45,8 +45,8 @@ starts k call d limits number limits_are number_is drive none fits =
 -- A hold that has not ended it, and the one that has.
 pub holds_on : {S : Type 0} (k between l : Token S) (call : Call) (half e : Drive) (m n : State) (r : Option End) → IsHolding k call between half → r ≡ None → Held m between half r n l e → IsHolding k call l e
 holds_on k between l call half e m n r on none held =
-    record { holds = suc on.holds; held = (between, half, m, n, on.held, subst (λ o. Held m between half o n l e) none held) }
+    record { holds = suc on.holds; held = (between, half, m, n, on.held, rw none at held) }
 
 pub is_held : {S : Type 0} (k between l : Token S) (call : Call) (half e : Drive) (m n : State) (r : Option End) (outcome : End) → IsHolding k call between half → r ≡ Some outcome → Held m between half r n l e → IsHeld k call outcome l
 is_held k between l call half e m n r outcome on is held =
-    record { between = between; half = half; holding = on; before = m; after = n; last = e; held = subst (λ o. Held m between half o n l e) is held }
+    record { between = between; half = half; holding = on; before = m; after = n; last = e; held = rw is at held }

@@ -34,8 +34,4 @@ tries_of words stripes stripe r q before (Another word) tries = record {
 }
 
 pub returns-clause-tries : goal.returns-clause-tries
-returns-clause-tries c =
-    let words = c.self.inside.words.value in
-    let stripes = stripes_of words in
-    subst (λ k. Tries k c.args.stripe (claims_with words.table.shared.table_id stripes c.take.new.self (trial_of c.args.stripe (Some c.in_ok-tried.tried)))) c.self.view_is
-    (tries_of words.table.shared.table_id stripes c.args.stripe c.self.inside.rights c.take.new.self (trial_of c.self.inside.stripe c.self.inside.tried) c.in_ok-tried.tried c.in_ok-tried.ensures.tries)
+returns-clause-tries c = rw (← c.self.view_is) (tries_of _ _ c.args.stripe c.self.inside.rights c.take.new.self _ c.in_ok-tried.tried c.in_ok-tried.ensures.tries)
