@@ -1,6 +1,9 @@
 -- The outcome of a step of a caller, by the claim of its last trial.
-use Rattle.std.proofs.Common.{[], ℕ, ◌++◌, ◌+◌, ◌<◌, ◌∙◌, ◌∷◌, ◌≡◌, ◌⊎◌, Bool, IsTrue, List, None, Option, Some, ap, arith, false, inl, inr, length, length-append, refl, subst, sym, true}
-use Rattle.core_tokens.proofs.Vocabulary.{Answer, Call, Claim, Doubling, Drive, Entry, Fresh, Goes, IsStale, Move, Op, Phase, Refusal, Seat, State, Step, append-nil, are_limits, caller_of, entries_of, false≢true, first_step, holder_by, is_ask, is_stale, sized_in, sized_of, step_in, step_of, told_first, told_in}
+use Rattle.std.proofs.Common.{[], ℕ, ◌++◌, ◌+◌, ◌<◌, ◌∙◌, ◌∷◌, ◌≡◌, ◌⊎◌, Bool, IsTrue, List, None, Option, Some, ap, arith, false, inl, inr}
+use Rattle.std.proofs.Common.{length, length-append, refl, subst, sym, true}
+use Rattle.core_tokens.proofs.Vocabulary.{Answer, Call, Claim, Doubling, Drive, Entry, Fresh, Goes, IsStale, Move, Op, Phase, Refusal, Seat}
+use Rattle.core_tokens.proofs.Vocabulary.{State, Step, append-nil, are_limits, caller_of, entries_of, false≢true, first_step, holder_by}
+use Rattle.core_tokens.proofs.Vocabulary.{is_ask, is_stale, sized_in, sized_of, step_in, step_of, told_first, told_in}
 use Rattle.std.proofs.lemmas.List.Elements.{All-pop}
 use Rattle.std.specs.List.{All}
 use Rattle.txn_trace.specs.Legal.{IsLegal}

@@ -1,6 +1,9 @@
 -- A call in progress, over its steps.
-use Rattle.std.proofs.Common.{if◌then◌else◌, ℕ, ◌++◌, ◌∙◌, ◌≡◌, List, None, Option, Some, ap, append_assoc, false, is_some, nat_lt, refl, subst, sym, true, unwrap_or}
-use Rattle.core_tokens.proofs.Vocabulary.{Answer, Call, Doubling, Drive, Entry, Initialising, One, Phase, Seat, Seeking, Sizes, State, Step, Turn, Two, closed_seat, entries_of, made, paired, seat_after, sized_in, sized_of, step_in, step_of, told_in, told_of, turn_in, turn_of}
+use Rattle.std.proofs.Common.{if◌then◌else◌, ℕ, ◌++◌, ◌∙◌, ◌≡◌, List, None, Option, Some, ap, append_assoc, false, is_some, nat_lt, refl}
+use Rattle.std.proofs.Common.{subst, sym, true, unwrap_or}
+use Rattle.core_tokens.proofs.Vocabulary.{Answer, Call, Doubling, Drive, Entry, Initialising, One, Phase, Seat, Seeking, Sizes, State, Step}
+use Rattle.core_tokens.proofs.Vocabulary.{Turn, Two, closed_seat, entries_of, made, paired, seat_after, sized_in, sized_of, step_in}
+use Rattle.core_tokens.proofs.Vocabulary.{step_of, told_in, told_of, turn_in, turn_of}
 use Rattle.txn_drive.proofs.DriveLaws.{made-sized}
 use Rattle.txn_drive.proofs.MadeLemmas.{made-told_of}
 use Rattle.core_tokens.proofs.Phases.{fits_told, seat_on, seat_on_more, seat_told, some_is}

@@ -1,13 +1,15 @@
 -- The holds of a call for help keep to the bucket of its key, and the last one leaves that bucket
 -- stored.
 use Rattle.std.proofs.Common.{ℕ, ◌%◌, ◌∙◌, ◌≡◌, Bool, List, None, Option, Some, ap, false, refl, subst, sym, true}
-use Rattle.core_tokens.proofs.Vocabulary.{Answer, Call, Claim, Doubling, Drive, End, Entry, Goes, HelpSuits, Helped, Initialising, IsWhole, Linking, Move, Phase, Refused, Seat, State, Step, Storing, Way, end_of, ended_by, false≢true, goes_on, is_ask, is_set, seat_in, sized_of, told_in, told_init_seek, turn_in, turn_of}
+use Rattle.core_tokens.proofs.Vocabulary.{Answer, Call, Claim, Doubling, Drive, End, Entry, Goes, HelpSuits, Helped, Initialising, IsWhole}
+use Rattle.core_tokens.proofs.Vocabulary.{Linking, Move, Phase, Refused, Seat, State, Step, Storing, Way, end_of, ended_by, false≢true}
+use Rattle.core_tokens.proofs.Vocabulary.{goes_on, is_ask, is_set, seat_in, sized_of, told_in, told_init_seek, turn_in, turn_of}
 use Rattle.boost_core.proofs.InStep.{Reaches, double_reaches, link_reaches, seek_reaches, store_reaches}
 use Rattle.core_tokens.proofs.Claiming.{plain_claim}
 use Rattle.core_tokens.proofs.Going.{at_paired}
 use Rattle.core_tokens.specs.Claims.{Trial, claim_in}
 use Rattle.core_tokens.specs.Helps.{Begins, Heads, IsDoubling, IsTo}
-use Rattle.core_tokens.specs.Holds.{FoundOther, HadNoRoom, Held, HeldBy, How, InStep, Takes, TakesSecond, TakesTurn, TookTurn, WasBroken, end_in}
+use Rattle.core_tokens.specs.Holds.{FoundOther, HadNoRoom, Held, InStep, Takes, TakesSecond, TakesTurn, TookTurn, WasBroken, end_in}
 use Rattle.core_tokens.specs.Suits.{Suits}
 use Rattle.core_tokens.specs.Tokens.{Token}
 use Rattle.txn_drive.specs.declared.call.Call.TheVariants as calls

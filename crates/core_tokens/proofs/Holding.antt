@@ -1,6 +1,10 @@
 -- The call after a hold, with core and token in step.
-use Rattle.std.proofs.Common.{[], ℕ, ◌++◌, ◌||◌, ◌∙◌, ◌≡◌, ◌≢◌, Bool, IfSome, List, None, Option, Some, ap, false, inl, inr, is_some, not, refl, subst, sym, true}
-use Rattle.core_tokens.proofs.Vocabulary.{Call, CommitNothing, Drive, End, Entry, First, Helped, IsQuiet, IsShaped, Last, Lost, Phase, Refused, Seat, Sizes, State, end_of, ended_by, false≢true, goes_on, has_seat, made, seat_after, seat_in, sized_of, turn_in}
+use Rattle.std.proofs.Common.{[], ℕ, ◌||◌, ◌∙◌, ◌≡◌, ◌≢◌, Bool, IfSome, List, None, Option, Some, ap, false, inl, inr, is_some, not, refl}
+use Rattle.std.proofs.Common.{subst, sym, true}
+use Rattle.core_tokens.proofs.Vocabulary.{Call, CommitNothing, Drive, End, Entry, First, Helped, IsQuiet, IsShaped, Last, Lost, Phase}
+use Rattle.core_tokens.proofs.Vocabulary.{Refused, Seat, Sizes, State, end_of, ended_by, false≢true, goes_on, has_seat, made, seat_after}
+use Rattle.core_tokens.proofs.Vocabulary.{seat_in, sized_of, turn_in}
+use Rattle.std.proofs.lemmas.Bool.{or_parts}
 use Rattle.txn_drive.proofs.DriveLaws.{made_at_end}
 use Rattle.txn_drive.proofs.Quiet.{going_quiet, made_quiet}
 use Rattle.txn_words.specs.declared.refusal.Refusal.TheVariants.{NoMemory, OutOfStep}
@@ -40,15 +44,11 @@ goes_end base seen e false (Some outcome) is goes plain odd =
     let end = plain_end e.call outcome (made e) (plain refl) in
     record { added = made e; entries = goes.entries; made = made_at_end e outcome is; may = end.0; quiet = λ whole. end.1 }
 
-or_false : (a b : Bool) → (a || b) ≡ false → (a ≡ false) × (b ≡ false)
-or_false true b is = absurd (cc is)
-or_false false b is = (refl, is)
-
 pub goes_held : (base seen : List Entry) (e : Drive) (b whole : Bool) (end r : Option End) → whole ≡ is_some (seat_after seen) → end ≡ end_of e → b ≡ (not whole || odd_if e.call end) → r ≡ end_in b end
     → GoesOn base seen e → GoesTo base seen e r
 goes_held base seen e b whole end r whole_is is broken ends goes =
     subst (GoesTo base seen e) (sym ends) (
-    goes_end base seen e b end (sym is) goes (λ no. (or_false (not whole) (odd_if e.call end) (sym broken ∙ no)).1)
+    goes_end base seen e b end (sym is) goes (λ no. (or_parts (not whole) (odd_if e.call end) (sym broken ∙ no)).1)
     (λ yes has. let at : whole ≡ true = whole_is ∙ has in sym (sym yes ∙ broken ∙ (λ i. not (at i) || odd_if e.call end))))
 
 suits_plain_in : (m : State) (s : Seat) (c : ℕ) (call : Call) (phase : Phase) → Suits m s c call phase → odd_if call (ended_by (turn_in c call phase)) ≡ false
@@ -68,8 +68,8 @@ pub no_room_run : (base seen seen' : List Entry) (d e : Drive) → seen' ≡ see
 no_room_run base seen seen' d e same is starts goes = rw is (record { added = []; entries = cc; made = refl; may = ap not starts.1; quiet = λ whole. tt })
 
 -- The drive was told the size before its hold.
-pub held_by : {S : Type 0} (how : How) (m n : State) (k l : Token S) (d d' e : Drive) (size : ℕ) (r : Option End) → size ≡ m.size → d' ≡ sized_of size d → HeldBy how m k d' r n l e → Held m k d r n l e
-held_by how m n k l d d' e size r size_is is held = (how, subst (λ x. HeldBy how m k x r n l e) (is ∙ ap (λ z. sized_of z d) size_is) held)
+pub held_sized : {S : Type 0} (how : How) (m n : State) (k l : Token S) (d d' e : Drive) (size : ℕ) (r : Option End) → size ≡ m.size → d' ≡ sized_of size d → HeldBy how m k d' r n l e → Held m k d r n l e
+held_sized how m n k l d d' e size r size_is is held = (how, subst (λ x. HeldBy how m k x r n l e) (is ∙ ap (λ z. sized_of z d) size_is) held)
 
 pub other_in_step : {S : Type 0} (m : State) (t k : Token S) (d : Drive) → t ≡ k → (m.limits.stripes ≡ t.limits.stripes → ⊥) → InStep m k d → ⊥
 other_in_step {S} m t k d view other ins = other (ap (λ (z : Sizes). z.stripes) (ins.1.same_limits ∙ ap (λ (x : Token S). x.limits) (sym view)))
@@ -88,4 +88,4 @@ held_in_step n limits number seen b e end r whole ins shape whole_is end_is brok
 pub broken_ends : (b whole : Bool) (call : Call) (end r : Option End) → b ≡ (not whole || odd_if call end) → r ≡ end_in b end → b ≡ out_if r
 broken_ends true whole call end r broken ends_so = ap out_if (sym ends_so)
 broken_ends false whole call None r broken ends_so = ap out_if (sym ends_so)
-broken_ends false whole call (Some outcome) r broken ends_so = (plain_end call outcome [] (or_false (not whole) (is_odd call outcome) (sym broken)).1).2 ∙ ap out_if (sym ends_so)
+broken_ends false whole call (Some outcome) r broken ends_so = (plain_end call outcome [] (or_parts (not whole) (is_odd call outcome) (sym broken)).1).2 ∙ ap out_if (sym ends_so)

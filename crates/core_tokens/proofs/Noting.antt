@@ -1,12 +1,14 @@
 -- One more entry that a caller sees.
-use Rattle.std.proofs.Common.{[], ℕ, ◌++◌, ◌+◌, ◌-◌, ◌<◌, ◌^◌, ◌∙◌, ◌∷◌, ◌≡◌, ◌≤◌, Bool, List, None, Option, Some, ap, arith, is_some, length, length-append, refl, subst, sym, true, vec_capacity, vec_len}
-use Rattle.core_tokens.proofs.Vocabulary.{AllByRecursion, Answer, Entry, RoomySeat, Seat, Standing, Step, entries_of, fold-append, owed_by, owed_in, reserved, row, seat_after}
+use Rattle.std.proofs.Common.{[], ℕ, ◌++◌, ◌+◌, ◌-◌, ◌<◌, ◌^◌, ◌∙◌, ◌∷◌, ◌≡◌, ◌≤◌, Bool, List, None, Option, Some, ap, arith, is_some}
+use Rattle.std.proofs.Common.{length, length-append, refl, subst, sym, true, vec_capacity, vec_len}
+use Rattle.core_tokens.proofs.Vocabulary.{AllByRecursion, Answer, Entry, RoomySeat, Seat, Standing, Step, entries_of, fold-append, owed_by}
+use Rattle.core_tokens.proofs.Vocabulary.{owed_in, reserved, row, seat_after}
 use Rattle.std.specs.Global.{Vec}
 use Rattle.txn_trace.proofs.Room.{owed_by-row, reserved_enough, reserved_for}
 use Rattle.txn_words.proofs.Levels.{IsLevelIn, seat_leveled}
 use Rattle.txn_words.specs.declared.step.Step.TheVariants.{Begin}
 use Rattle.core_tokens.proofs.Phases.{seat_on_more}
-use Rattle.core_tokens.specs.Noted.{HasRoomFor, IsNoted, Noted, adds_entry, began_by, last_txn}
+use Rattle.core_tokens.specs.Noted.{HasRoomFor, IsNoted, adds_entry, began_by, last_txn}
 use Rattle.txn_words.specs.declared.seat.Phase.TheVariants as seats
 
 -- A step that has an entry may add one, and reserves enough for it.

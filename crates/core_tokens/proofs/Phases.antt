@@ -1,7 +1,11 @@
 -- A drive that is told an answer fits its caller's seat, if the step's entries have rows.
-use Rattle.std.proofs.Common.{[], if◌then◌else◌, ℕ, ◌%◌, ◌++◌, ◌+◌, ◌-◌, ◌^◌, ◌∙◌, ◌≡◌, ◌≤◌, Bool, List, None, Option, Some, ap, arith, cond, false, is_some, length, nat_lt, refl, slice_index, subst, sym, true, unwrap_or}
-use Rattle.core_tokens.proofs.Vocabulary.{Acting, Answer, Busy, Call, Doubling, Entry, Fresh, Initialising, Last, Leaving, Linking, Lost, Operation, Phase, Seat, Seeking, Standing, Step, Storing, Work, closed_seat, counted, entries_of, first_step, fold, fold-append, option_and_then, row, seat_after, step_in, told_first, told_in, told_seek, undone_in, undone_more}
-use Rattle.txn_drive.specs.Drives.{heading, towards}
+use Rattle.std.proofs.Common.{[], if◌then◌else◌, ℕ, ◌%◌, ◌++◌, ◌+◌, ◌-◌, ◌^◌, ◌∙◌, ◌≡◌, ◌≤◌, Bool, List, None, Option, Some, ap, arith}
+use Rattle.std.proofs.Common.{cond, false, is_some, length, nat_lt, refl, slice_index, subst, sym, true, unwrap_or}
+use Rattle.core_tokens.proofs.Vocabulary.{Acting, Answer, Busy, Call, Doubling, Entry, Fresh, Initialising, Last, Leaving, Linking, Lost}
+use Rattle.core_tokens.proofs.Vocabulary.{Operation, Phase, Refusal, Seat, Seeking, Standing, Step, Storing, Work, closed_seat, counted}
+use Rattle.core_tokens.proofs.Vocabulary.{entries_of, first_step, fold, fold-append, option_and_then, row, seat_after, step_in, told_first}
+use Rattle.core_tokens.proofs.Vocabulary.{told_in, told_seek, undone_in, undone_more}
+use Rattle.txn_drive.specs.Drives.{heading, refused_help, towards}
 use Rattle.txn_words.specs.declared.refusal.Refusal.TheVariants.{NothingToSeek}
 use Rattle.boost_core.proofs.InStep.{at_heading, at_refused, at_towards}
 use Rattle.core_tokens.specs.Suits.{Fits, undone_of, work_phase}
@@ -89,45 +93,41 @@ fits_undone s call Operation fits = tt
 fits_undone s call (Busy x k) fits = at_counted (Fits s call) k (Busy x (k + 1)) (Busy x k) (work_more call x k (k + 1) ∙ fits) tt
 fits_undone s call (Leaving k) fits = at_counted (Fits s call) k (Leaving (k + 1)) (Leaving k) (leave_more call k (k + 1) ∙ fits) tt
 
--- The phases in which no work is done: no call comes back to its work from them.
+-- The phases in which no work is done: no call comes back to its work from them, so they fit each
+-- seat, and no change was taken back.
 abbrev Aside : Phase → Type 0
 Aside (Seeking work again) = ⊥
 Aside (Acting work again) = ⊥
 Aside Fresh = ⊥
 Aside phase = Unit {0}
 
-fits_aside : (s : Seat) (call : Call) (phase : Phase) → Aside phase → Fits s call phase
-fits_aside s call (Seeking work again) aside = absurd aside
-fits_aside s call (Acting work again) aside = absurd aside
-fits_aside s call Fresh aside = absurd aside
-fits_aside s call phase aside = tt
+abbrev IsFree : Phase → Type 0
+IsFree phase = ((s : Seat) (call : Call) → Fits s call phase) × (undone_of phase ≡ 0)
 
-undone_aside : (phase : Phase) → Aside phase → undone_of phase ≡ 0
-undone_aside (Seeking work again) aside = absurd aside
-undone_aside (Acting work again) aside = absurd aside
-undone_aside phase aside = refl
+free_towards : (last bucket : ℕ) → IsFree (towards last bucket)
+free_towards last bucket = at_towards IsFree last bucket (λ same. (λ s call. tt, refl)) (λ other. (λ s call. tt, refl))
 
-aside_towards : (last bucket : ℕ) → Aside (towards last bucket)
-aside_towards last bucket = at_towards Aside last bucket (λ same. tt) (λ other. tt)
+free_heading : (key size : ℕ) → IsFree (heading key size)
+free_heading key size = at_heading IsFree key size (free_towards 0 (key % size)) (λ none. (λ s call. tt, refl))
 
-aside_heading : (key size : ℕ) → Aside (heading key size)
-aside_heading key size = at_heading Aside key size (aside_towards 0 (key % size)) (λ none. tt)
+free_refused : (r : Refusal) → IsFree (refused_help r)
+free_refused r = at_refused IsFree r (λ r. (λ s call. tt, refl))
 
-aside_told : (phase : Phase) (call : Call) (a : Answer) → Aside phase → Aside (told_in call phase a)
-aside_told Fresh call a aside = absurd aside
-aside_told (Seeking work again) call a aside = absurd aside
-aside_told (Acting work again) call a aside = absurd aside
-aside_told (Doubling seen) (calls.Help key) (answers.Moved size) aside = aside_heading key size
-aside_told (Doubling seen) (calls.Help key) (answers.Doubled size) aside = aside_heading key size
-aside_told (Doubling seen) (calls.Help key) answers.AtLimit aside = aside_heading key seen
-aside_told (Doubling seen) (calls.Help key) answers.Light aside = aside_heading key seen
-aside_told (Doubling seen) (calls.Help key) (answers.Refused r) aside = at_refused Aside r (λ r. tt)
-aside_told (Initialising way again) call answers.Ready aside = aside_towards way.bucket way.target
-aside_told (Initialising way again) call (answers.Refused r) aside = at_refused Aside r (λ r. tt)
-aside_told (Linking way again) call (answers.Refused r) aside = at_refused Aside r (λ r. tt)
-aside_told (Storing way) call answers.Stored aside = aside_towards way.bucket way.target
-aside_told (Storing way) call (answers.Refused r) aside = at_refused Aside r (λ r. tt)
-aside_told phase call a aside = tt
+free_told : (phase : Phase) (call : Call) (a : Answer) → Aside phase → IsFree (told_in call phase a)
+free_told Fresh call a aside = absurd aside
+free_told (Seeking work again) call a aside = absurd aside
+free_told (Acting work again) call a aside = absurd aside
+free_told (Doubling seen) (calls.Help key) (answers.Moved size) aside = free_heading key size
+free_told (Doubling seen) (calls.Help key) (answers.Doubled size) aside = free_heading key size
+free_told (Doubling seen) (calls.Help key) answers.AtLimit aside = free_heading key seen
+free_told (Doubling seen) (calls.Help key) answers.Light aside = free_heading key seen
+free_told (Doubling seen) (calls.Help key) (answers.Refused r) aside = free_refused r
+free_told (Initialising way again) call answers.Ready aside = free_towards way.bucket way.target
+free_told (Initialising way again) call (answers.Refused r) aside = free_refused r
+free_told (Linking way again) call (answers.Refused r) aside = free_refused r
+free_told (Storing way) call answers.Stored aside = free_towards way.bucket way.target
+free_told (Storing way) call (answers.Refused r) aside = free_refused r
+free_told phase call a aside = (λ s call. tt, refl)
 
 -- The entries of a phase's step, and the seat after them.
 abbrev pub entries_if : Option Step → Answer → List Entry
@@ -147,14 +147,12 @@ fits_told s next c call (Seeking work again) a fits is = at_seek (Fits next call
 fits_told s next c call (Acting work again) answers.Again fits is = same_phase call work s next fits is
 fits_told s next c call (Acting work again) answers.Undone fits is = fits_undone next call work (fits ∙ row_phase s next (entries.Undone c) s.phase refl is)
 fits_told s next c call (Acting work again) a fits is = tt
-fits_told s next c call phase a fits is = fits_aside next call (told_in call phase a) (aside_told phase call a tt)
+fits_told s next c call phase a fits is = (free_told phase call a tt).0 next call
 
 -- The number of changes that a drive has taken back rises with the entries.
 undone_first : (call : Call) (a : Answer) → undone_of (told_first call a) ≡ 0
 undone_first (calls.Op op) answers.Asked = refl
-undone_first (calls.Op op) (answers.Busy x) = refl
-undone_first (calls.Back n) answers.Leaving = refl
-undone_first calls.Abort answers.Leaving = refl
+undone_first call answers.Leaving = refl
 undone_first call a = refl
 
 undone_back : (work : Work) → undone_of (undone_more work) ≤ undone_in work + 1
@@ -170,4 +168,4 @@ undone_told c call Fresh a = none_undone _ _ (undone_first call a)
 undone_told c call (Seeking work again) a = at_seek (λ p. undone_of p ≤ undone_in work + 0) work again a (omega arith) (omega arith)
 undone_told c call (Acting work again) answers.Undone = undone_back work
 undone_told c call (Acting work again) a = omega arith
-undone_told c call phase a = none_undone _ _ (undone_aside (told_in call phase a) (aside_told phase call a tt))
+undone_told c call phase a = none_undone _ _ (free_told phase call a tt).1

@@ -1,6 +1,9 @@
 -- The room that a turn needs, and the calls to which room may be refused.
-use Rattle.std.proofs.Common.{[], ℕ, ◌<◌, ◌∙◌, ◌≡◌, ◌≤◌, Bool, IfSome, List, None, Option, Some, ap, arith, false, is_some, refl, subst, sym, true, unwrap_or}
-use Rattle.core_tokens.proofs.Vocabulary.{Acting, Call, Doubling, Drive, Ended, Entry, Fresh, Initialising, Linking, One, Phase, Seat, Seeking, Standing, Step, Storing, Turn, Two, Work, closed_seat, false≢true, first_step, is_closed, made, made_in, owed_by, owed_in, refusal_in, reserved, seat_after, turn_in, turn_of}
+use Rattle.std.proofs.Common.{[], ℕ, ◌<◌, ◌∙◌, ◌≡◌, ◌≤◌, Bool, IfSome, List, None, Option, Some, ap, arith, false, is_some, refl, subst}
+use Rattle.std.proofs.Common.{sym, true, unwrap_or}
+use Rattle.core_tokens.proofs.Vocabulary.{Acting, Call, Doubling, Drive, Ended, Entry, Fresh, Initialising, Linking, One, Phase, Seat}
+use Rattle.core_tokens.proofs.Vocabulary.{Seeking, Standing, Step, Storing, Turn, Two, Work, closed_seat, false≢true, first_step, is_closed}
+use Rattle.core_tokens.proofs.Vocabulary.{made, made_in, owed_by, owed_in, refusal_in, reserved, seat_after, turn_in, turn_of}
 use Rattle.txn_words.specs.declared.refusal.Refusal.TheVariants.{NoMemory}
 use Rattle.boost_core.proofs.Refused.{abort_runs, commit_open}
 use Rattle.core_tokens.proofs.Going.{at_paired}
@@ -47,10 +50,10 @@ room_owed n s step at there free save owes =
     }
 
 -- Room is refused only to a call that has not begun, and that may be refused memory.
-abbrev Starts : ℕ → Call → Phase → Type 0
-Starts c call phase = (made_in c call phase ≡ []) × (may_refuse call NoMemory ≡ true)
+abbrev HasNotBegun : ℕ → Call → Phase → Type 0
+HasNotBegun c call phase = (made_in c call phase ≡ []) × (may_refuse call NoMemory ≡ true)
 
-no_room_first : (n : Noted) (s : Seat) (c : ℕ) (call : Call) (half : Bool) → seat_after n.entries ≡ Some s → owed_by (seat_after n.entries) ≤ n.room → refusal_in half s (first_step 0 call) ≡ None → (HasRoomFor n (first_step c call) → ⊥) → Starts c call Fresh
+no_room_first : (n : Noted) (s : Seat) (c : ℕ) (call : Call) (half : Bool) → seat_after n.entries ≡ Some s → owed_by (seat_after n.entries) ≤ n.room → refusal_in half s (first_step 0 call) ≡ None → (HasRoomFor n (first_step c call) → ⊥) → HasNotBegun c call Fresh
 no_room_first n s c calls.Commit half at owes none full = absurd (full (room_owed n s (steps.Commit c) at (ap is_closed (commit_open half s 0 none)) refl refl owes))
 no_room_first n s c calls.Abort half at owes none full = absurd (full (room_owed n s (steps.Abort c) at (abort_runs half s 0 none).0 refl refl owes))
 no_room_first n s c (calls.Help key) half at owes none full = absurd (full (room_for_none n (steps.Double 0) refl owes))
@@ -77,7 +80,7 @@ room_in n s c call (Storing way) at owes fits = room_for_none n (steps.InitStore
 room_in n s c call phase at owes fits = tt
 
 no_room_in : (n : Noted) (s : Seat) (c : ℕ) (call : Call) (phase : Phase) (step : Step) → seat_after n.entries ≡ Some s → owed_by (seat_after n.entries) ≤ n.room → Fits s call phase → asked_of (turn_in c call phase) ≡ Some step
-    → (HasRoomFor n step → ⊥) → Starts c call phase
+    → (HasRoomFor n step → ⊥) → HasNotBegun c call phase
 no_room_in n s c call Fresh step at owes fits is full = no_room_first n s c call fits.0 at owes fits.1 (subst (λ o. IfSome o (HasRoomFor n) → ⊥) (sym is) full)
 no_room_in n s c call phase step at owes fits is full = absurd (full (subst (λ o. IfSome o (HasRoomFor n)) is (room_in n s c call phase at owes fits)))
 

@@ -1,6 +1,7 @@
 -- A core and a drive stay in step over the first step of a call.
 use Rattle.std.proofs.Common.{ℕ, ◌∙◌, ◌≡◌, None, Some, ap, cond, false, nat_le, not, refl, true}
-use Rattle.core_tokens.proofs.Vocabulary.{Answer, Call, IsAllowed, Refusal, Seat, State, first_step, never_refused, or_else, refusal_in, refusal_parts, seat_in, told_first}
+use Rattle.core_tokens.proofs.Vocabulary.{Answer, Call, IsAllowed, Refusal, Seat, State, first_step, never_refused, or_else, refusal_in}
+use Rattle.core_tokens.proofs.Vocabulary.{refusal_parts, seat_in, told_first}
 use Rattle.txn_words.specs.declared.refusal.Refusal.TheVariants.{NoMemory, StampsUsedUp}
 use Rattle.boost_core.specs.Refusals.{MayLack, refusal_of}
 use Rattle.core_tokens.specs.Suits.{Fits, Suits, is_help, is_odd, may_refuse}

@@ -1,6 +1,8 @@
 -- A core and a caller stay in step over a step of the caller's drive.
-use Rattle.std.proofs.Common.{[], ℕ, ◌++◌, ◌+◌, ◌<◌, ◌==◌, ◌^◌, ◌∙◌, ◌∷◌, ◌≡◌, List, Option, Some, ap, arith, cond, inl, inr, length, length-append, refl, subst, sym}
-use Rattle.core_tokens.proofs.Vocabulary.{AllByRecursion, Answer, Drive, Entry, IsShaped, IsWhole, Move, Sizes, State, Step, append-nil, caller_of, entries_of, has_seat, own, seat_after, seat_in, step_in, step_of, told_in}
+use Rattle.std.proofs.Common.{[], ℕ, ◌++◌, ◌+◌, ◌<◌, ◌==◌, ◌^◌, ◌∙◌, ◌∷◌, ◌≡◌, List, Option, Some, ap, arith, cond, inl, inr, length}
+use Rattle.std.proofs.Common.{length-append, refl, subst, sym}
+use Rattle.core_tokens.proofs.Vocabulary.{AllByRecursion, Answer, Drive, Entry, IsShaped, IsWhole, Sizes, State, Step, append-nil}
+use Rattle.core_tokens.proofs.Vocabulary.{caller_of, entries_of, has_seat, own, seat_after, seat_in, step_in, step_of, told_in}
 use Rattle.std.proofs.lemmas.Bool.{eq-eqb}
 use Rattle.std.proofs.lemmas.List.Elements.{filter-append}
 use Rattle.txn_drive.proofs.DriveLaws.{entries_callers}
@@ -10,7 +12,7 @@ use Rattle.core_tokens.proofs.Phases.{entries_if, fits_told, seat_on, seat_on_mo
 use Rattle.core_tokens.proofs.Suiting.{MoveIf, suits_fits, suits_told}
 use Rattle.core_tokens.specs.Claims.{Trial, claim_in}
 use Rattle.core_tokens.specs.Holds.{Takes}
-use Rattle.core_tokens.specs.Suits.{IsInStep, IsSized, Suits, undone_of}
+use Rattle.core_tokens.specs.Suits.{IsInStep, IsSized, Suits}
 
 own_all : (w : ℕ) (es : List Entry) → AllByRecursion (λ e. caller_of e ≡ w) es → own w es ≡ es
 own_all w [] all = refl
@@ -20,8 +22,8 @@ own-mine : (w : ℕ) (h es : List Entry) → AllByRecursion (λ e. caller_of e �
 own-mine w h es all = filter-append (λ e. caller_of e == w) h es ∙ ap (λ xs. own w h ++ xs) (own_all w es all)
 
 -- The seat of a caller in a legal history.
-seat_there : (h : List Entry) (c : ℕ) → IsShaped h → seat_after (own c h) ≡ Some (seat_in h c)
-seat_there h c shape = some_is (seat_after (own c h)) (has_seat h shape c)
+legal_seat : (h : List Entry) (c : ℕ) → IsShaped h → seat_after (own c h) ≡ Some (seat_in h c)
+legal_seat h c shape = some_is (seat_after (own c h)) (has_seat h shape c)
 
 pub in_step_told : (tried : Option Trial) (m n : State) (limits : Sizes) (c : ℕ) (seen seen' : List Entry) (d e : Drive) (step : Step) (a : Answer)
     → IsWhole m → IsWhole n → IsShaped m.history → IsShaped n.history → length seen' < 2 ^ 63 → IsSized m.size d.phase → step_of d ≡ Some step
@@ -35,7 +37,7 @@ in_step_told tried m n limits c seen seen' d e step a old whole shape shape' sma
     let mine = subst (λ w. AllByRecursion (λ e. caller_of e ≡ w) es) ins.mine (entries_callers d step a is) in
     let own_is : own c n.history ≡ own c m.history ++ es = ap (own c) over.history ∙ own-mine c m.history es mine in
     let goes : seat_on s es ≡ Some next =
-    sym (seat_on_more (own c m.history) es s (seat_there m.history c shape)) ∙ ap seat_after (sym own_is) ∙ seat_there n.history c shape' in
+    sym (seat_on_more (own c m.history) es s (legal_seat m.history c shape)) ∙ ap seat_after (sym own_is) ∙ legal_seat n.history c shape' in
     let step_is : step_in c d.call d.phase ≡ Some step = ap (λ w. step_in w d.call d.phase) (sym ins.mine) ∙ is in
     let fits = fits_told s next c d.call d.phase a (suits_fits m c s d.call d.phase ins.suits) (ap (λ o. seat_told s o a) step_is ∙ goes) in
     let undone = rw step_is at (undone_told c d.call d.phase a) in
@@ -43,7 +45,7 @@ in_step_told tried m n limits c seen seen' d e step a old whole shape shape' sma
     let suits : Suits n next c d.call (told_in d.call d.phase a) = elim (goes_cases (claim_in tried m step) m n step a takes.goes) [
       | inl stale ↦ suits_stale (claim_in tried m step) m n next c d.call d.phase step a step_is stale
       | inr move ↦
-          suits_told m n c next d.call d.phase a (le_false m.limits.callers c (omega arith)) (omega arith) old whole sized (omega arith) ins.suits fits
+          suits_told m n c next d.call (le_false m.limits.callers c (omega arith)) old whole d.phase a (omega arith) sized (omega arith) ins.suits fits
           (λ none. ap (λ h. seat_in h c) (over.history ∙ ap (λ xs. m.history ++ xs) (sym (ap (λ o. entries_if o a) step_is) ∙ none) ∙ append-nil m.history))
           (subst (λ o. MoveIf m o a n) (sym step_is) move)
     ] in

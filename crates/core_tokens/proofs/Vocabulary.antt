@@ -17,13 +17,15 @@ pub use Rattle.txn_words.specs.declared.refusal.Refusal.{Refusal}
 pub use Rattle.txn_words.specs.declared.seat.Phase.{Phase as Standing}
 pub use Rattle.txn_words.specs.declared.step.Step.{Step}
 pub use Rattle.txn_trace.proofs.Running.{has_seat}
-pub use Rattle.txn_drive.specs.Drives.{first_step, step_in, step_of, sized_in, sized_of, told_first, told_seek, counted, undone_more, told_act, told_in, told_of, told_init_seek, paired, turn_in, turn_of, end_of, ended_by, end_last}
+pub use Rattle.txn_drive.specs.Drives.{first_step, step_in, step_of, sized_in, sized_of, told_first, told_seek, counted, undone_more}
+pub use Rattle.txn_drive.specs.Drives.{told_act, told_in, told_of, told_init_seek, paired, turn_in, turn_of, end_of, ended_by, end_last}
 pub use Rattle.txn_drive.specs.Made.{made, made_in, undone_in, IsMade, CommitNothing, IsQuiet}
 pub use Rattle.txn_drive.specs.declared.call.Call.{Call}
 pub use Rattle.txn_drive.specs.declared.drive.Drive.{Drive}
 pub use Rattle.txn_drive.specs.declared.«end».End.{End}
 pub use Rattle.txn_drive.specs.declared.phase.Phase.{Phase}
-pub use Rattle.txn_drive.specs.declared.phase.Phase.TheVariants.{Fresh, Seeking, Acting, Doubling, Initialising, Linking, Storing, First, Last, Lost, Helped, Refused}
+pub use Rattle.txn_drive.specs.declared.phase.Phase.TheVariants.{Fresh, Seeking, Acting, Doubling, Initialising, Linking, Storing, First}
+pub use Rattle.txn_drive.specs.declared.phase.Phase.TheVariants.{Last, Lost, Helped, Refused}
 pub use Rattle.txn_drive.specs.declared.phase.Work.{Work}
 pub use Rattle.txn_drive.specs.declared.phase.Work.TheVariants.{Operation, Busy, Leaving}
 pub use Rattle.txn_drive.specs.declared.turn.Turn.{Turn}

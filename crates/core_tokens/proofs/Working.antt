@@ -1,6 +1,10 @@
 -- A core and a drive stay in step over the steps of an operation and of a return.
-use Rattle.std.proofs.Common.{if◌then◌else◌, ℕ, ◌&&◌, ◌+◌, ◌-◌, ◌<◌, ◌^◌, ◌||◌, ◌∙◌, ◌≡◌, Bool, List, None, Option, Some, ap, cond, false, inl, inr, is_some, length, lt-ltb, nat_le, not, refl, subst, sym, true}
-use Rattle.core_tokens.proofs.Vocabulary.{Answer, Busy, Call, IsAllowed, Last, Leaving, Move, Op, Operation, Refusal, Seat, Seeking, Standing, State, Work, caller_changes, counted, end_last, false≢true, has_job, has_target, is_closed, is_leaving, is_waiting, never_refused, or_else, refusal_parts, seat_in, told_act, told_seek, undone_in, undone_more}
+use Rattle.std.proofs.Common.{if◌then◌else◌, ℕ, ◌&&◌, ◌+◌, ◌-◌, ◌<◌, ◌^◌, ◌||◌, ◌∙◌, ◌≡◌, Bool, List, None, Option, Some, ap, cond, false}
+use Rattle.std.proofs.Common.{inl, inr, is_some, length, lt-ltb, nat_le, not, refl, subst, sym, true}
+use Rattle.core_tokens.proofs.Vocabulary.{Answer, Busy, Call, IsAllowed, Last, Leaving, Move, Op, Operation, Refusal, Seat, Seeking}
+use Rattle.core_tokens.proofs.Vocabulary.{Standing, State, Work, caller_changes, counted, end_last, false≢true, has_job, has_target}
+use Rattle.core_tokens.proofs.Vocabulary.{is_closed, is_leaving, is_waiting, never_refused, or_else, refusal_parts, seat_in, told_act}
+use Rattle.core_tokens.proofs.Vocabulary.{told_seek, undone_in, undone_more}
 use Rattle.std.proofs.lemmas.Bool.{and_parts}
 use Rattle.txn_trace.specs.Now.{now}
 use Rattle.txn_words.specs.Map.{Map}
@@ -75,19 +79,17 @@ ReplyIf (Some q) m r = IsReply q m r
 
 done_plain : (call : Call) (work : Work) (m : Map) (r : Option ℕ) → ReplyIf (work_phase call work) m r → is_odd call (end_last call work (answers.Done r)) ≡ false
 done_plain (calls.Op op) Operation m r reply = refl
-done_plain (calls.Back n) (Leaving k) m r reply = absurd reply
-done_plain calls.Abort (Leaving k) m r reply = absurd reply
+done_plain call (Leaving k) m r reply = absurd reply
 done_plain call work m r reply = absurd reply
 
 returned_plain : (call : Call) (work : Work) (n : ℕ) → passes (is_back_at n) (work_phase call work) ≡ true → is_odd call (end_last call work (answers.Returned n)) ≡ false
-returned_plain (calls.Op op) Operation n back = absurd (false≢true back)
 returned_plain (calls.Back level) (Leaving k) n back = ap (λ b. is_odd (calls.Back level) (if b then ends.Answered (answers.Returned n) else ends.Refused OutOfStep)) back
-returned_plain calls.Abort (Leaving k) n back = absurd (false≢true back)
+returned_plain call Operation n back = absurd (false≢true back)
 returned_plain call work n back = absurd (false≢true back)
 
 aborted_plain : (call : Call) (work : Work) → passes is_at_end (work_phase call work) ≡ true → is_odd call (end_last call work answers.Aborted) ≡ false
 aborted_plain (calls.Op op) (Busy x k) ended = refl
-aborted_plain (calls.Back level) (Leaving k) ended = absurd (false≢true ended)
+aborted_plain call Operation ended = absurd (false≢true ended)
 aborted_plain calls.Abort (Leaving k) ended = refl
 aborted_plain call work ended = absurd (false≢true ended)
 

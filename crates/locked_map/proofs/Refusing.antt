@@ -1,5 +1,6 @@
 -- The refusal of help for its key.
-use Rattle.std.proofs.Common.{◌≡◌, ◌↔◌, ◌∙◌, ℕ, Bool, true, false, if◌then◌else◌, List, Option, Some, None, Result, Ok, Err, inl, inr, is_some, refl, sym, ap, subst}
+use Rattle.std.proofs.Common.{◌≡◌, ◌↔◌, ◌∙◌, ℕ, Bool, true, false, if◌then◌else◌, List, Option, Some, None, Result, Ok, Err, inl, inr}
+use Rattle.std.proofs.Common.{is_some, refl, sym, ap, subst}
 use Rattle.std.proofs.lemmas.Bool.{false≢true}
 use Rattle.txn_words.specs.declared.refusal.Refusal.TheVariants.{BadKey}
 use Rattle.txn_words.specs.Shape.{Seat, seat_after}
@@ -12,9 +13,8 @@ use Rattle.map_answers.specs.declared.stop.Stop.{Stop}
 use Rattle.map_answers.specs.declared.stop.Stop.TheVariants as stops
 
 help_at : (half b : Bool) (o : Option Seat) (key : ℕ) → b ≡ false → is_some o ≡ true → refused_at half b o (calls.Help key) ≡ (if is_bad_key half key then Some BadKey else None)
-help_at half true o key sound whole = absurd (false≢true (sym sound))
-help_at half false None key sound whole = absurd (false≢true whole)
-help_at half false (Some s) key sound whole = refl
+help_at half b None key sound whole = absurd (cc whole)
+help_at half b (Some s) key sound whole = rw sound
 
 bad_only : (bad : Bool) → (if bad then Some BadKey else None) ≡ Some BadKey → bad ≡ true
 bad_only true is = refl

@@ -1,5 +1,8 @@
-use Rattle.core_tokens.proofs.Helped.{stays, stored}
+use Rattle.core_tokens.proofs.Helped.{heads, stays, stored}
 use Rattle.core_tokens.proofs.laws.helped.Goals as goal
+
+pub returns-clause-heads : goal.returns-clause-heads
+returns-clause-heads g c = heads
 
 pub returns-clause-stays : goal.returns-clause-stays
 returns-clause-stays g c = stays

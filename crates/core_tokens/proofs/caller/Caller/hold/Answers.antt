@@ -1,16 +1,16 @@
 use Rattle.std.proofs.Common.{refl}
 use Rattle.core_tokens.proofs.Going.{goes_sized, in_step_sized}
-use Rattle.core_tokens.proofs.Holding.{goes_held, held_by, held_in_step, no_room_run}
+use Rattle.core_tokens.proofs.Holding.{goes_held, held_in_step, held_sized, no_room_run}
 use Rattle.core_tokens.specs.Holds.{FoundOther, HadNoRoom, TookTurn}
 use Rattle.core_tokens.proofs.caller.Caller.hold.Goals as goal
 
 pub returns-then-stripes-clause-held : goal.returns-then-stripes-clause-held
-returns-then-stripes-clause-held g c = rw (← c.self.view_is) (held_by FoundOther _ _ _ _ _ _ _ _ _ c.size.ensures c.turn-turn.ensures.drive (c.if-self.false, λ same. c.if-stripes.true (cc), refl, refl, refl, refl))
+returns-then-stripes-clause-held g c = rw (← c.self.view_is) (held_sized FoundOther _ _ _ _ _ _ _ _ _ c.size.ensures c.turn-turn.ensures.drive (c.if-self.false, λ same. c.if-stripes.true (cc), refl, refl, refl, refl))
 
 pub returns-then-not-take_turn-clause-held : goal.returns-then-not-take_turn-clause-held
 returns-then-not-take_turn-clause-held g c =
     let none = c.take_turn.ensures.no_room c.if-not-take_turn.true in
-    rw (← c.self.view_is) (held_by HadNoRoom _ _ _ _ _ _ _ _ _ c.size.ensures c.turn-turn.ensures.drive (c.if-self.false, refl, none.0, rw none.1, none.2))
+    rw (← c.self.view_is) (held_sized HadNoRoom _ _ _ _ _ _ _ _ _ c.size.ensures c.turn-turn.ensures.drive (c.if-self.false, refl, none.0, rw none.1, none.2))
 
 pub returns-then-not-take_turn-clause-in_step : goal.returns-then-not-take_turn-clause-in_step
 returns-then-not-take_turn-clause-in_step g c = rw (← c.self.view_is) (λ ins.
@@ -24,7 +24,7 @@ returns-then-not-take_turn-clause-goes g c = rw (← c.self.view_is) (λ base go
     no_room_run base _ _ _ _ none.1 none.2 (c.take_turn.ensures.starts c.if-not-take_turn.true base on) on)
 
 pub returns-clause-held : goal.returns-clause-held
-returns-clause-held g c = rw (← c.self.view_is) (held_by TookTurn _ _ _ _ _ _ _ _ _ c.size.ensures c.turn-turn.ensures.drive (record {
+returns-clause-held g c = rw (← c.self.view_is) (held_sized TookTurn _ _ _ _ _ _ _ _ _ c.size.ensures c.turn-turn.ensures.drive (record {
   sound = c.if-self.false;
   stripes = cc;
   turn = rw (← c.turn-turn.ensures.turn) (c.take_turn.ensures.took c.if-not-take_turn.false);

@@ -1,7 +1,7 @@
-use Rattle.std.proofs.Common.{◌∙◌, ◌≡◌, Bool, None, Option, Some, ap, false, is_some, refl, subst, sym, true}
-use Rattle.core_tokens.proofs.Vocabulary.{Call, Refusal, Seat, first_step, refusal_in, seat_after}
+use Rattle.std.proofs.Common.{◌∙◌, ◌≡◌, Bool, None, Option, Some, ap, false, is_some, refl, true}
+use Rattle.core_tokens.proofs.Vocabulary.{Call, Refusal, Seat, first_step, refusal_in}
 use Rattle.std.specs.Option.{option_or}
-use Rattle.core_tokens.specs.Ready.{refused_at, refused_by, refused_help}
+use Rattle.core_tokens.specs.Ready.{refused_at, refused_help}
 use Rattle.core_tokens.proofs.caller.Caller.refusal.Goals as goal
 
 -- The refusal of a call, from those of its seat and of help.

@@ -1,10 +1,10 @@
-use Rattle.std.proofs.Common.{ℕ, Option, Some, arith, inl, inr, subst}
+use Rattle.std.proofs.Common.{ℕ, Option, Some, arith, inl, inr}
 use Rattle.std.proofs.lemmas.Bool.{cases_lt}
 use Rattle.txn_words.specs.Held.{times}
 use Rattle.atomic_table.specs.Seated.{TableId}
 use Rattle.core_tokens.specs.Claims.{Claimed, InHand, Trial, Tries, WasFree, WasHeld, trial, trial_of}
 use Rattle.key_words.specs.Rule.{Holds}
-use Rattle.key_words.specs.Seats.{known, stripes_of}
+use Rattle.key_words.specs.Seats.{known}
 use Rattle.key_words.specs.declared.rights.Rights.{Rights}
 use Rattle.key_words.specs.declared.taken.Tried.{Tried}
 use Rattle.key_words.specs.declared.taken.Tried.TheVariants.{Another, Mine}
