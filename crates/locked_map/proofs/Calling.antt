@@ -1,11 +1,9 @@
 -- The caller after a call, from the end that its holds have brought.
-use Rattle.std.proofs.Common.{◌≡◌, ◌∙◌, ℕ, ◌+◌, ◌≤◌, Bool, true, false, not, List, [], ◌∷◌, ◌++◌, Option, None, inl, inr, is_some, length}
-use Rattle.std.proofs.Common.{take, refl, sym, ap, subst}
-use Rattle.std.specs.Prelude.{slice_get}
-use Rattle.std.proofs.lemmas.Bool.{false≢true}
+use Rattle.std.proofs.Common.{◌≡◌, ℕ, Bool, true, false, List, [], Option, None, inl, inr}
+use Rattle.std.proofs.Common.{refl, sym}
+use Rattle.std.proofs.lemmas.Bool.{not-false}
 use Rattle.std.proofs.lemmas.List.{append-nil}
 use Rattle.txn_words.specs.declared.answer.Answer.TheVariants as answers
-use Rattle.txn_words.specs.declared.entry.Entry.{Entry}
 use Rattle.txn_words.specs.declared.refusal.Refusal.{Refusal}
 use Rattle.txn_words.specs.declared.refusal.Refusal.TheVariants.{NoMemory, OutOfStep}
 use Rattle.txn_words.specs.Shape.{Seat, seat_after}
@@ -13,14 +11,13 @@ use Rattle.txn_drive.specs.declared.call.Call.{Call}
 use Rattle.txn_drive.specs.declared.call.Call.TheVariants as calls
 use Rattle.txn_drive.specs.declared.«end».End.{End}
 use Rattle.txn_drive.specs.declared.«end».End.TheVariants as ends
-use Rattle.txn_drive.specs.Made.{IsMade}
 use Rattle.undo_log.specs.SideValue.{Leveled}
-use Rattle.locked_map.specs.Calls.{Ended, Failed, FellOut, FoundNone, IsDone, IsHeld, Passed, Ran, WasRefused, WentOn}
+use Rattle.locked_map.specs.Calls.{Ended, Failed, IsDone, IsHeld, Passed, Ran, WasRefused, WentOn}
 use Rattle.core_tokens.specs.Ready.{IsUnready, Lacks, refused_at, refused_by}
 use Rattle.core_tokens.specs.Claims.{Readies, claims_at}
 use Rattle.core_tokens.specs.Holds.{HasRun, is_out}
 use Rattle.core_tokens.specs.Sides.{Follows}
-use Rattle.undo_log.specs.Sides.{IsBackAt, IsSameSide}
+use Rattle.undo_log.specs.Sides.{IsSameSide}
 use Rattle.core_tokens.specs.Suits.{may_refuse}
 use Rattle.core_tokens.specs.Tokens.{Token, IsSameCaller, IsSameSeen}
 
@@ -42,25 +39,6 @@ module _ {S : Type 0} (words : S → List ℕ) (k r h l : Token S) (call : Call)
   side_is : (outcome : End) → Follows words outcome h.side l.side → Follows words outcome k.side l.side
   side_is outcome follows = follows_on words outcome k.side r.side l.side side (rw held_side at follows)
 
-  seen_is : (added : List Entry) → h.seen ≡ r.seen ++ added → l.seen ≡ k.seen ++ added
-  seen_is added entries = cc
-
-  ran_of : (outcome : End) → is_out outcome ≡ false → h.broken ≡ is_out outcome → HasRun r.seen h.seen r.number call outcome → IsHeld r call outcome h → Follows words outcome h.side l.side → l.claims ≡ claims_at outcome h.claims → Ran words k call outcome l
-  ran_of outcome plain broken run held follows claims = record {
-    free = free;
-    whose = whose;
-    sound = cc;
-    added = run.added;
-    entries = seen_is run.added run.entries;
-    made = rw same.whose.number at run.made;
-    side = side_is outcome follows;
-    went = went_on outcome held claims;
-  }
-
-  plain_may : (b : Bool) → not b ≡ false → b ≡ true
-  plain_may true is = refl
-  plain_may false is = absurd (false≢true (sym is))
-
   pub ended_of : (outcome : End) → h.broken ≡ is_out outcome → HasRun r.seen h.seen r.number call outcome → IsHeld r call outcome h → Follows words outcome h.side l.side → l.claims ≡ claims_at outcome h.claims → Ended words k call outcome l
   ended_of (ends.Refused OutOfStep) broken run held follows claims = inr (
     free,
@@ -68,7 +46,7 @@ module _ {S : Type 0} (words : S → List ℕ) (k r h l : Token S) (call : Call)
       whose = whose;
       broken = cc;
       added = run.added;
-      entries = seen_is run.added run.entries;
+      entries = cc;
       quiet = λ whole. run.quiet (rw followed.seen at whole);
       side = side_is (ends.Refused OutOfStep) follows;
       cause = inr (went_on (ends.Refused OutOfStep) held claims);
@@ -77,15 +55,24 @@ module _ {S : Type 0} (words : S → List ℕ) (k r h l : Token S) (call : Call)
   ended_of (ends.Refused refusal) broken run held follows claims = inr (
     free,
     record {
-      may = plain_may (may_refuse call refusal) run.may;
+      may = not-false (may_refuse call refusal) run.may;
       whose = whose;
       sound = cc;
-      seen = followed.seen ∙ run.entries ∙ ap (λ es. r.seen ++ es) run.made ∙ append-nil r.seen ∙ same.seen;
+      seen = cc (run.made, append-nil r.seen);
       side = side_is (ends.Refused refusal) follows;
       cause = inr (went_on (ends.Refused refusal) held claims);
     },
   )
-  ended_of outcome broken run held follows claims = ran_of outcome refl broken run held follows claims
+  ended_of outcome broken run held follows claims = record {
+    free = free;
+    whose = whose;
+    sound = cc;
+    added = run.added;
+    entries = cc;
+    made = rw same.whose.number at run.made;
+    side = side_is outcome follows;
+    went = went_on outcome held claims;
+  }
 
 -- A call that did what it was asked to do.
 pub passed_of : {S : Type 0} (words : S → List ℕ) (k l : Token S) (call : Call) (outcome : End) → IsDone outcome → Ran words k call outcome l → Passed k call l

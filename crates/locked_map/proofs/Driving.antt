@@ -1,5 +1,5 @@
 -- A call in progress, from hold to hold.
-use Rattle.std.proofs.Common.{◌≡◌, ◌∙◌, ℕ, suc, [], ◌++◌, Option, Some, None, refl, sym, ap, subst}
+use Rattle.std.proofs.Common.{◌≡◌, ℕ, suc, [], Option, Some, None, refl, ap}
 use Rattle.std.proofs.lemmas.List.{append-nil}
 use Rattle.std.specs.List.{filter}
 use Rattle.txn_words.specs.Kinds.{is_commit}
@@ -29,16 +29,10 @@ pub record Starts {S : Type 0} (k : Token S) (call : Call) (d : Drive) : Type 0 
 pub starts : {S : Type 0} (k : Token S) (call : Call) (d : Drive) (limits : Sizes) (number : ℕ) → limits ≡ k.limits → number ≡ k.number → d ≡ new_drive limits.half number call → made d ≡ []
     → FitsIf (seat_after k.seen) call (first_phase k.limits.half call) → Starts k call d
 starts k call d limits number limits_are number_is drive none fits =
-    let new : d ≡ new_drive k.limits.half k.number call = drive ∙ (λ i. new_drive (limits_are i).half (number_is i) call) in record {
-      going = record {
-        on = record {
-          entries = sym (ap (λ es. k.seen ++ es) none ∙ append-nil k.seen);
-          fits = rw new fits;
-        };
-        quiet = new_quiet d none;
-      };
-      whose = ap (λ (x : Drive). x.caller) new;
-      what = ap (λ (x : Drive). x.call) new;
+    let new : d ≡ new_drive k.limits.half k.number call = rw (drive, limits_are, number_is) in record {
+      going = record { on = record { entries = cc (append-nil k.seen); fits = rw new fits }; quiet = new_quiet d none };
+      whose = rw new;
+      what = rw new;
       holding = record { holds = 0; held = (refl, new) };
     }
 

@@ -1,6 +1,6 @@
 -- The refusal of help for its key.
-use Rattle.std.proofs.Common.{◌≡◌, ◌↔◌, ◌∙◌, ℕ, Bool, true, false, if◌then◌else◌, List, Option, Some, None, Result, Ok, Err, inl, inr}
-use Rattle.std.proofs.Common.{is_some, refl, sym, ap, subst}
+use Rattle.std.proofs.Common.{◌≡◌, ◌↔◌, ◌∙◌, ℕ, Bool, true, false, if◌then◌else◌, List, Option, Some, None, Result, Err, inl, inr}
+use Rattle.std.proofs.Common.{is_some, refl, sym, ap}
 use Rattle.std.proofs.lemmas.Bool.{false≢true}
 use Rattle.txn_words.specs.declared.refusal.Refusal.TheVariants.{BadKey}
 use Rattle.txn_words.specs.Shape.{Seat, seat_after}
