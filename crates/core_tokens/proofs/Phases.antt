@@ -48,7 +48,7 @@ row_phase_is s q e at = tt
 row_phase : (s next : Seat) (e : Entry) (q : Standing) → phase_after s.phase e ≡ Some q → row s s.phase e ≡ Some next → Some q ≡ Some next.phase
 row_phase s next e q after is = ap Some (sym (subst (PhaseIs (Some q)) is (subst (λ o. PhaseIs o (row s s.phase e)) after (row_phase_is s s.phase e refl))))
 
--- The seat after entries.
+-- The seat after further entries.
 abbrev pub seat_on : Seat → List Entry → Option Seat
 seat_on s es = fold (λ seat e. option_and_then (λ t. row t t.phase e) seat) (Some s) es
 

@@ -40,55 +40,56 @@ open_owes : (standing : ℕ) (q : Standing) → is_closed q ≡ false → 0 < ow
 open_owes standing seats.Closed is = absurd (false≢true (sym is))
 open_owes standing q is = omega arith
 
-room_owed : (n : Noted) (s : Seat) (step : Step) → seat_after n.entries ≡ Some s → is_closed s.phase ≡ false → reserved step ≡ 0 → is_save step ≡ false → owed_by (seat_after n.entries) ≤ n.room → HasRoomFor n step
-room_owed n s step at there free save owes =
-    let owed_is : owed_by (seat_after n.entries) ≡ owed_in s.standing s.phase = ap owed_by at in
-    let some = open_owes s.standing s.phase there in record {
-      all = omega (arith, free, owes);
-      one = λ is. omega (arith, owed_is, some, owes);
-      save = λ is. absurd (false≢true (sym save ∙ is));
-    }
-
 -- Room is refused only to a call that has not begun, and that may be refused memory.
 abbrev HasNotBegun : ℕ → Call → Phase → Type 0
 HasNotBegun c call phase = (made_in c call phase ≡ []) × (may_refuse call NoMemory ≡ true)
-
-no_room_first : (n : Noted) (s : Seat) (c : ℕ) (call : Call) (half : Bool) → seat_after n.entries ≡ Some s → owed_by (seat_after n.entries) ≤ n.room → refusal_in half s (first_step 0 call) ≡ None → (HasRoomFor n (first_step c call) → ⊥) → HasNotBegun c call Fresh
-no_room_first n s c calls.Commit half at owes none full = absurd (full (room_owed n s (steps.Commit c) at (ap is_closed (commit_open half s 0 none)) refl refl owes))
-no_room_first n s c calls.Abort half at owes none full = absurd (full (room_owed n s (steps.Abort c) at (abort_runs half s 0 none).0 refl refl owes))
-no_room_first n s c (calls.Help key) half at owes none full = absurd (full (room_for_none n (steps.Double 0) refl owes))
-no_room_first n s c call half at owes none full = (refl, refl)
-
-act_room : (n : Noted) (s : Seat) (c : ℕ) (call : Call) (work : Work) → seat_after n.entries ≡ Some s → owed_by (seat_after n.entries) ≤ n.room → work_phase call work ≡ Some s.phase → HasRoomFor n (steps.Act c)
-act_room n s c call work at owes fits = room_owed n s (steps.Act c) at (subst IsAtWork fits (at_work call work)).0 refl refl owes
 
 -- Each turn but the first has its room.
 abbrev HasRoomIn : Noted → ℕ → Call → Phase → Type 0
 HasRoomIn n c call Fresh = Unit {0}
 HasRoomIn n c call phase = IfSome (asked_of (turn_in c call phase)) (HasRoomFor n)
 
-room_in : (n : Noted) (s : Seat) (c : ℕ) (call : Call) (phase : Phase) → seat_after n.entries ≡ Some s → owed_by (seat_after n.entries) ≤ n.room → Fits s call phase → HasRoomIn n c call phase
-room_in n s c call Fresh at owes fits = tt
-room_in n s c call (Seeking work again) at owes fits =
-    at_paired (λ t. IfSome (asked_of t) (HasRoomFor n)) again (steps.Seek c) (steps.Act c) (room_for_none n (steps.Seek c) refl owes) (act_room n s c call work at owes fits)
-room_in n s c call (Acting work again) at owes fits = act_room n s c call work at owes fits
-room_in n s c call (Doubling size) at owes fits = room_for_none n (steps.Double size) refl owes
-room_in n s c call (Initialising way again) at owes fits =
-    at_paired (λ t. IfSome (asked_of t) (HasRoomFor n)) again (steps.InitSeek c way.bucket) (steps.InitLink c) (room_for_none n (steps.InitSeek c way.bucket) refl owes) (room_for_none n (steps.InitLink c) refl owes)
-room_in n s c call (Linking way again) at owes fits = room_for_none n (steps.InitLink c) refl owes
-room_in n s c call (Storing way) at owes fits = room_for_none n (steps.InitStore c) refl owes
-room_in n s c call phase at owes fits = tt
+module _ (n : Noted) (s : Seat) (c : ℕ) (at : seat_after n.entries ≡ Some s) (owes : owed_by (seat_after n.entries) ≤ n.room) where
+  room_owed : (step : Step) → is_closed s.phase ≡ false → reserved step ≡ 0 → is_save step ≡ false → HasRoomFor n step
+  room_owed step there free save =
+      let owed_is : owed_by (seat_after n.entries) ≡ owed_in s.standing s.phase = ap owed_by at in
+      let some = open_owes s.standing s.phase there in record {
+        all = omega (arith, free, owes);
+        one = λ is. omega (arith, owed_is, some, owes);
+        save = λ is. absurd (false≢true (sym save ∙ is));
+      }
 
-no_room_in : (n : Noted) (s : Seat) (c : ℕ) (call : Call) (phase : Phase) (step : Step) → seat_after n.entries ≡ Some s → owed_by (seat_after n.entries) ≤ n.room → Fits s call phase → asked_of (turn_in c call phase) ≡ Some step
-    → (HasRoomFor n step → ⊥) → HasNotBegun c call phase
-no_room_in n s c call Fresh step at owes fits is full = no_room_first n s c call fits.0 at owes fits.1 (subst (λ o. IfSome o (HasRoomFor n) → ⊥) (sym is) full)
-no_room_in n s c call phase step at owes fits is full = absurd (full (subst (λ o. IfSome o (HasRoomFor n)) is (room_in n s c call phase at owes fits)))
+  act_room : (call : Call) (work : Work) → work_phase call work ≡ Some s.phase → HasRoomFor n (steps.Act c)
+  act_room call work fits = room_owed (steps.Act c) (subst IsAtWork fits (at_work call work)).0 refl refl
+
+  room_in : (call : Call) (phase : Phase) → Fits s call phase → HasRoomIn n c call phase
+  room_in call Fresh fits = tt
+  room_in call (Seeking work again) fits =
+      at_paired (λ t. IfSome (asked_of t) (HasRoomFor n)) again (steps.Seek c) (steps.Act c) (room_for_none n (steps.Seek c) refl owes) (act_room call work fits)
+  room_in call (Acting work again) fits = act_room call work fits
+  room_in call (Doubling size) fits = room_for_none n (steps.Double size) refl owes
+  room_in call (Initialising way again) fits =
+      at_paired (λ t. IfSome (asked_of t) (HasRoomFor n)) again (steps.InitSeek c way.bucket) (steps.InitLink c)
+      (room_for_none n (steps.InitSeek c way.bucket) refl owes) (room_for_none n (steps.InitLink c) refl owes)
+  room_in call (Linking way again) fits = room_for_none n (steps.InitLink c) refl owes
+  room_in call (Storing way) fits = room_for_none n (steps.InitStore c) refl owes
+  room_in call phase fits = tt
+
+  no_room_first : (call : Call) (half : Bool) → refusal_in half s (first_step 0 call) ≡ None → (HasRoomFor n (first_step c call) → ⊥) → HasNotBegun c call Fresh
+  no_room_first calls.Commit half none full = absurd (full (room_owed (steps.Commit c) (ap is_closed (commit_open half s 0 none)) refl refl))
+  no_room_first calls.Abort half none full = absurd (full (room_owed (steps.Abort c) (abort_runs half s 0 none).0 refl refl))
+  no_room_first (calls.Help key) half none full = absurd (full (room_for_none n (steps.Double 0) refl owes))
+  no_room_first call half none full = (refl, refl)
+
+  no_room_in : (call : Call) (phase : Phase) (step : Step) → Fits s call phase → asked_of (turn_in c call phase) ≡ Some step → (HasRoomFor n step → ⊥) → HasNotBegun c call phase
+  no_room_in call Fresh step fits is full = no_room_first call fits.0 fits.1 (subst (λ o. IfSome o (HasRoomFor n) → ⊥) (sym is) full)
+  no_room_in call phase step fits is full = absurd (full (subst (λ o. IfSome o (HasRoomFor n)) is (room_in call phase fits)))
 
 pub no_room_starts : (n : Noted) (base : List Entry) (d : Drive) (step : Step) (turn : Turn) → turn ≡ turn_of d → asked_of turn ≡ Some step → is_some (seat_after n.entries) ≡ true → owed_by (seat_after n.entries) ≤ n.room
     → (HasRoomFor n step → ⊥) → GoesOn base n.entries d → (made d ≡ []) × (may_refuse d.call NoMemory ≡ true)
 no_room_starts n base d step turn is asked whole owes full goes =
     let at = some_is (seat_after n.entries) whole in
-    no_room_in n (unwrap_or (seat_after n.entries) closed_seat) d.caller d.call d.phase step at owes (subst (λ o. FitsIf o d.call d.phase) at goes.fits) (ap asked_of (sym is) ∙ asked) full
+    no_room_in n (unwrap_or (seat_after n.entries) closed_seat) d.caller at owes d.call d.phase step (subst (λ o. FitsIf o d.call d.phase) at goes.fits) (ap asked_of (sym is) ∙ asked) full
 
 -- The first of two steps adds no entry.
 abbrev IsSeekIf : Turn → Type 0

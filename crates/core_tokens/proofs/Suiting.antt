@@ -48,8 +48,8 @@ module _ (m n : State) (c : ℕ) (s : Seat) (call : Call) (within : nat_le m.lim
       → Fits s call (told_in call phase a) → (entries_if (step_in c call phase) a ≡ [] → s ≡ seat_in m.history c) → MoveIf m (step_in c call phase) a n → Suits n s c call (told_in call phase a)
   suits_told Fresh a cursors sized few suits fits same move = suits_first m n c s call a (first_free m c call within suits.1 suits.0) suits.1 move.allowed fits
   suits_told (Seeking work again) a cursors sized few suits fits same move =
-      suits_seek m n c s call work again a within cursors (same refl) (suits ∙ ap (λ (t : Seat). Some t.phase) (sym (same refl))) move
-  suits_told (Acting work again) a cursors sized few suits fits same move = suits_act m n c s call work again a within few suits.0 suits.1 move fits
+      suits_seek m n c s call within work again a cursors (same refl) (suits ∙ ap (λ (t : Seat). Some t.phase) (sym (same refl))) move
+  suits_told (Acting work again) a cursors sized few suits fits same move = suits_act m n c s call within work again a few suits.0 suits.1 move fits
   suits_told (Doubling size) a cursors sized few suits fits same move = suits_helper m n c s call (Doubling size) _ a within old whole sized suits.0 suits.1 refl move
   suits_told (Initialising way again) a cursors sized few suits fits same move = suits_helper m n c s call (Initialising way again) _ a within old whole sized suits.0 suits.1 refl move
   suits_told (Linking way again) a cursors sized few suits fits same move = suits_helper m n c s call (Linking way again) _ a within old whole sized suits.0 suits.1 refl move

@@ -1,6 +1,6 @@
 -- A core and a drive stay in step over the steps of an operation and of a return.
-use Rattle.std.proofs.Common.{if◌then◌else◌, ℕ, ◌&&◌, ◌+◌, ◌-◌, ◌<◌, ◌^◌, ◌||◌, ◌∙◌, ◌≡◌, Bool, List, None, Option, Some, ap, cond, false}
-use Rattle.std.proofs.Common.{inl, inr, is_some, length, lt-ltb, nat_le, not, refl, subst, sym, true}
+use Rattle.std.proofs.Common.{if◌then◌else◌, ℕ, ◌&&◌, ◌+◌, ◌-◌, ◌<◌, ◌^◌, ◌||◌, ◌∙◌, ◌≡◌, Bool, None, Option, Some, ap, cond, false, inl}
+use Rattle.std.proofs.Common.{inr, is_some, length, lt-ltb, nat_le, not, refl, subst, sym, true}
 use Rattle.core_tokens.proofs.Vocabulary.{Answer, Busy, Call, IsAllowed, Last, Leaving, Move, Op, Operation, Refusal, Seat, Seeking}
 use Rattle.core_tokens.proofs.Vocabulary.{Standing, State, Work, caller_changes, counted, end_last, false≢true, has_job, has_target}
 use Rattle.core_tokens.proofs.Vocabulary.{is_closed, is_leaving, is_waiting, never_refused, or_else, refusal_parts, seat_in, told_act}
@@ -49,26 +49,7 @@ seek_refused m c r within there (inl is) =
     ∙ (λ i. cond (within i) (Some refusals.NoSuchCaller) (or_else (cond (there i) (Some refusals.NotOpen) (cond (not (has_target (seat_in m.history c))) (Some NothingToSeek) None)) None))) ∙ is)
 seek_refused m c r within there (inr lack) = absurd lack.1
 
-nothing_suits : (n : State) (c : ℕ) (s : Seat) (call : Call) (work : Work) (again : ℕ) → work_phase call work ≡ Some s.phase → has_target s ≡ false → Suits n s c call (told_seek work again (answers.Refused NothingToSeek))
-nothing_suits n c s call Operation again fits none = absurd (false≢true (sym none ∙ ap (λ q. is_waiting q || has_job s) (asking call s.phase fits).1))
-nothing_suits n c s call work again fits none = (fits, ap (λ b. b && not (is_some (caller_changes n.cursors c))) none)
-
-placed_suits : (n : State) (c : ℕ) (s : Seat) (call : Call) (work : Work) (again : ℕ) → work_phase call work ≡ Some s.phase → is_some (caller_changes n.cursors c) ≡ true → Suits n s c call (told_seek work again answers.Placed)
-placed_suits n c s call Operation again fits there = (fits, ap (λ b. has_target s && not b) there ∙ and_none (has_target s))
-placed_suits n c s call work again fits there = (fits, ap (λ b. has_target s && not b) there ∙ and_none (has_target s))
-
-pub suits_seek : (m n : State) (c : ℕ) (s : Seat) (call : Call) (work : Work) (again : ℕ) (a : Answer) → nat_le m.limits.callers c ≡ false → c < length m.cursors → s ≡ seat_in m.history c
-    → work_phase call work ≡ Some s.phase → Move m (steps.Seek c) a n → Suits n s c call (told_seek work again a)
-suits_seek m n c s call work again answers.Placed within there is fits move =
-    placed_suits n c s call work again fits
-    (ap (λ (cursors : List (Option ℕ)). is_some (caller_changes cursors c)) (ap (λ (x : State). x.cursors) move.state) ∙ ap is_some (set_there m.cursors c (Some n.changes) None there))
-suits_seek m n c s call work again (answers.Refused r) within there is fits move =
-    let open_so = (subst IsAtWork (fits ∙ ap (λ (t : Seat). Some t.phase) is) (at_work call work)).0 in
-    let nothing = seek_refused m c r within open_so move.allowed in
-    subst (λ r. Suits n s c call (told_seek work again (answers.Refused r))) (sym nothing.1) (nothing_suits n c s call work again fits (ap has_target is ∙ nothing.0))
-suits_seek m n c s call work again a within there is fits move = absurd move.allowed.1
-
--- The end of a call by an act: `passes` says that the seat's phase lets the act end it so.
+-- The end of a call by an act. The work has a phase, and it passes the test of the answer.
 abbrev passes : (Standing → Bool) → Option Standing → Bool
 passes test None = false
 passes test (Some q) = test q
@@ -93,27 +74,48 @@ aborted_plain call Operation ended = absurd (false≢true ended)
 aborted_plain calls.Abort (Leaving k) ended = refl
 aborted_plain call work ended = absurd (false≢true ended)
 
--- A count that fits in 64 bits goes on.
-counted_suits : (n : State) (c : ℕ) (s : Seat) (call : Call) (k : ℕ) (more work : Work) → k < 2 ^ 64 - 1 → Fits s call (counted k more work) → Suits n s c call (counted k more work)
-counted_suits n c s call k more work few =
-    subst (λ b. Fits s call (if b then Seeking more 0 else Last work answers.Undone) → Suits n s c call (if b then Seeking more 0 else Last work answers.Undone)) (sym (lt-ltb k (2 ^ 64 - 1) few)) (λ fits. fits)
+-- `s` is the caller's seat after the move.
+module _ (m n : State) (c : ℕ) (s : Seat) (call : Call) (within : nat_le m.limits.callers c ≡ false) where
+  -- A seek finds nothing only if no change is left to take back.
+  nothing_suits : (work : Work) (again : ℕ) → work_phase call work ≡ Some s.phase → has_target s ≡ false → Suits n s c call (told_seek work again (answers.Refused NothingToSeek))
+  nothing_suits Operation again fits none = absurd (false≢true (sym none ∙ ap (λ q. is_waiting q || has_job s) (asking call s.phase fits).1))
+  nothing_suits work again fits none = (fits, ap (λ b. b && not (is_some (caller_changes n.cursors c))) none)
 
-undone_suits : (n : State) (c : ℕ) (s t : Seat) (call : Call) (work : Work) → undone_in work < 2 ^ 64 - 1 → work_phase call work ≡ Some t.phase → has_job t ≡ true → Fits s call (undone_more work) → Suits n s c call (undone_more work)
-undone_suits n c s t call Operation few at job fits = absurd (false≢true (ap (λ q. has_job (record t { phase = q })) (sym (asking call t.phase at).1) ∙ job))
-undone_suits n c s t call (Busy x k) few at job fits = counted_suits n c s call k (Busy x (k + 1)) (Busy x k) few fits
-undone_suits n c s t call (Leaving k) few at job fits = counted_suits n c s call k (Leaving (k + 1)) (Leaving k) few fits
+  placed_suits : (work : Work) (again : ℕ) → work_phase call work ≡ Some s.phase → is_some (caller_changes n.cursors c) ≡ true → Suits n s c call (told_seek work again answers.Placed)
+  placed_suits Operation again fits there = (fits, ap (λ b. has_target s && not b) there ∙ and_none (has_target s))
+  placed_suits work again fits there = (fits, ap (λ b. has_target s && not b) there ∙ and_none (has_target s))
 
-pub suits_act : (m n : State) (c : ℕ) (s : Seat) (call : Call) (work : Work) (again : ℕ) (a : Answer) → nat_le m.limits.callers c ≡ false → undone_in work < 2 ^ 64 - 1
-    → work_phase call work ≡ Some (seat_in m.history c).phase → lacks_in (seat_in m.history c) (is_some (caller_changes m.cursors c)) (steps.Act c) ≡ false → Move m (steps.Act c) a n
-    → Fits s call (told_act work again a) → Suits n s c call (told_act work again a)
-suits_act m n c s call work again (answers.Refused r) within few at cursor move fits =
-    let busy = subst IsAtWork at (at_work call work) in
-    absurd (never_refused m (steps.Act c) r (act_free m c within busy.0 busy.1 cursor) move.allowed)
-suits_act m n c s call work again answers.Again within few at cursor move fits = fits
-suits_act m n c s call work again (answers.Done r) within few at cursor move fits = done_plain call work _ r (subst (λ o. ReplyIf o (now m.history) r) (sym at) move.allowed.1)
-suits_act m n c s call work again answers.Undone within few at cursor move fits = undone_suits n c s (seat_in m.history c) call work few at move.allowed.1 fits
-suits_act m n c s call work again (answers.Returned k) within few at cursor move fits =
-    returned_plain call work k (ap (passes (is_back_at k)) at ∙ (and_parts (not (has_job (seat_in m.history c))) (is_back_at k (seat_in m.history c).phase) move.allowed.1).1)
-suits_act m n c s call work again answers.Aborted within few at cursor move fits =
-    aborted_plain call work (ap (passes is_at_end) at ∙ (and_parts (not (has_job (seat_in m.history c))) (is_at_end (seat_in m.history c).phase) move.allowed.1).1)
-suits_act m n c s call work again a within few at cursor move fits = absurd move.allowed.1
+  pub suits_seek : (work : Work) (again : ℕ) (a : Answer) → c < length m.cursors → s ≡ seat_in m.history c → work_phase call work ≡ Some s.phase → Move m (steps.Seek c) a n
+      → Suits n s c call (told_seek work again a)
+  suits_seek work again answers.Placed there is fits move =
+      placed_suits work again fits (ap (λ (x : State). is_some (caller_changes x.cursors c)) move.state ∙ ap is_some (set_there m.cursors c (Some n.changes) None there))
+  suits_seek work again (answers.Refused r) there is fits move =
+      let open_so = (subst IsAtWork (fits ∙ ap (λ (t : Seat). Some t.phase) is) (at_work call work)).0 in
+      let nothing = seek_refused m c r within open_so move.allowed in
+      subst (λ r. Suits n s c call (told_seek work again (answers.Refused r))) (sym nothing.1) (nothing_suits work again fits (ap has_target is ∙ nothing.0))
+  suits_seek work again a there is fits move = absurd move.allowed.1
+
+  -- A count that fits in 64 bits goes on.
+  counted_suits : (k : ℕ) (more work : Work) → k < 2 ^ 64 - 1 → Fits s call (counted k more work) → Suits n s c call (counted k more work)
+  counted_suits k more work few =
+      subst (λ b. Fits s call (if b then Seeking more 0 else Last work answers.Undone) → Suits n s c call (if b then Seeking more 0 else Last work answers.Undone)) (sym (lt-ltb k (2 ^ 64 - 1) few))
+      (λ fits. fits)
+
+  undone_suits : (t : Seat) (work : Work) → undone_in work < 2 ^ 64 - 1 → work_phase call work ≡ Some t.phase → has_job t ≡ true → Fits s call (undone_more work) → Suits n s c call (undone_more work)
+  undone_suits t Operation few at job fits = absurd (false≢true (ap (λ q. has_job (record t { phase = q })) (sym (asking call t.phase at).1) ∙ job))
+  undone_suits t (Busy x k) few at job fits = counted_suits k (Busy x (k + 1)) (Busy x k) few fits
+  undone_suits t (Leaving k) few at job fits = counted_suits k (Leaving (k + 1)) (Leaving k) few fits
+
+  pub suits_act : (work : Work) (again : ℕ) (a : Answer) → undone_in work < 2 ^ 64 - 1 → work_phase call work ≡ Some (seat_in m.history c).phase
+      → lacks_in (seat_in m.history c) (is_some (caller_changes m.cursors c)) (steps.Act c) ≡ false → Move m (steps.Act c) a n → Fits s call (told_act work again a) → Suits n s c call (told_act work again a)
+  suits_act work again (answers.Refused r) few at cursor move fits =
+      let busy = subst IsAtWork at (at_work call work) in
+      absurd (never_refused m (steps.Act c) r (act_free m c within busy.0 busy.1 cursor) move.allowed)
+  suits_act work again answers.Again few at cursor move fits = fits
+  suits_act work again (answers.Done r) few at cursor move fits = done_plain call work _ r (subst (λ o. ReplyIf o (now m.history) r) (sym at) move.allowed.1)
+  suits_act work again answers.Undone few at cursor move fits = undone_suits (seat_in m.history c) work few at move.allowed.1 fits
+  suits_act work again (answers.Returned k) few at cursor move fits =
+      returned_plain call work k (ap (passes (is_back_at k)) at ∙ (and_parts (not (has_job (seat_in m.history c))) (is_back_at k (seat_in m.history c).phase) move.allowed.1).1)
+  suits_act work again answers.Aborted few at cursor move fits =
+      aborted_plain call work (ap (passes is_at_end) at ∙ (and_parts (not (has_job (seat_in m.history c))) (is_at_end (seat_in m.history c).phase) move.allowed.1).1)
+  suits_act work again a few at cursor move fits = absurd move.allowed.1
