@@ -64,7 +64,7 @@ plain_claim (Some trial) m step other = refl
 
 -- A total that counts the entries still counts them after a step.
 pub counted_more : (h more es : List Entry) (total next : ℕ) → total ≡ length h → next ≡ total + length es → more ≡ h ++ es → next ≡ length more
-counted_more h more es total next counts adds is = let longer : length more ≡ length h + length es = ap length is ∙ length-append h es in omega (arith, counts, adds, longer)
+counted_more h more es total next counts adds is = omega (arith, counts, adds, simp length-append at (ap length is))
 
 -- If the word of an operation's stripe was tried, it was tried for each step of the operation's
 -- drive.

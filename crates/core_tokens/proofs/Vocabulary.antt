@@ -19,7 +19,7 @@ pub use Rattle.txn_words.specs.declared.step.Step.{Step}
 pub use Rattle.txn_trace.proofs.Running.{has_seat}
 pub use Rattle.txn_drive.specs.Drives.{first_step, step_in, step_of, sized_in, sized_of, told_first, told_seek, counted, undone_more}
 pub use Rattle.txn_drive.specs.Drives.{told_act, told_in, told_of, told_init_seek, paired, turn_in, turn_of, end_of, ended_by, end_last}
-pub use Rattle.txn_drive.specs.Made.{made, made_in, undone_in, IsMade, CommitNothing, IsQuiet}
+pub use Rattle.txn_drive.specs.Made.{made, made_in, undone_in, CommitNothing, IsQuiet}
 pub use Rattle.txn_drive.specs.declared.call.Call.{Call}
 pub use Rattle.txn_drive.specs.declared.drive.Drive.{Drive}
 pub use Rattle.txn_drive.specs.declared.«end».End.{End}
