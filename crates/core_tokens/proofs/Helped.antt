@@ -1,36 +1,21 @@
 -- The holds of a call for help keep to the bucket of its key, and the last one leaves that bucket
 -- stored.
-use Rattle.std.proofs.Common.{◌≡◌, ℕ, ◌%◌, nat_lt, Bool, true, false, if◌then◌else◌, List, Option, Some, None, refl, sym, ap, subst, ◌∙◌}
-use Rattle.std.proofs.lemmas.Bool.{false≢true}
-use Rattle.txn_words.specs.declared.answer.Answer.{Answer}
-use Rattle.txn_words.specs.declared.answer.Answer.TheVariants as answers
-use Rattle.txn_words.specs.declared.entry.Entry.{Entry}
-use Rattle.txn_words.specs.declared.step.Step.{Step}
-use Rattle.txn_words.specs.declared.step.Step.TheVariants as steps
-use Rattle.txn_words.specs.Shape.{Seat}
-use Rattle.txn_drive.specs.declared.call.Call.{Call}
-use Rattle.txn_drive.specs.declared.call.Call.TheVariants as calls
-use Rattle.txn_drive.specs.declared.drive.Drive.{Drive}
-use Rattle.txn_drive.specs.declared.«end».End.{End}
-use Rattle.txn_drive.specs.declared.«end».End.TheVariants as ends
-use Rattle.txn_drive.specs.declared.phase.Phase.{Phase}
-use Rattle.txn_drive.specs.declared.phase.Phase.TheVariants.{Doubling, Initialising, Linking, Storing, Helped, Refused}
-use Rattle.txn_drive.specs.declared.turn.Turn.TheVariants.{One, Two}
-use Rattle.txn_drive.specs.declared.way.Way.{Way}
-use Rattle.txn_drive.specs.Drives.{sized_of, turn_in, turn_of, told_of, end_of, ended_by, told_help, told_init_seek, told_link, told_store}
-use Rattle.boost_core.specs.State.{State, seat_in, is_set}
-use Rattle.boost_core.specs.Machine.{Move}
-use Rattle.boost_core.specs.Whole.{IsWhole}
-use Rattle.boost_core.specs.Words.{Goes, is_ask}
-use Rattle.boost_core.specs.declared.claim.Claim.{Claim}
-use Rattle.boost_core.specs.Helps.{HelpSuits}
-use Rattle.boost_core.proofs.InStep.{Reaches, double_reaches, seek_reaches, link_reaches, store_reaches}
+use Rattle.std.proofs.Common.{ℕ, ◌%◌, ◌∙◌, ◌≡◌, Bool, List, None, Option, Some, ap, false, refl, subst, sym, true}
+use Rattle.core_tokens.proofs.Vocabulary.{Answer, Call, Claim, Doubling, Drive, End, Entry, Goes, HelpSuits, Helped, Initialising, IsWhole}
+use Rattle.core_tokens.proofs.Vocabulary.{Linking, Move, Phase, Refused, Seat, State, Step, Storing, Way, end_of, ended_by, false≢true}
+use Rattle.core_tokens.proofs.Vocabulary.{goes_on, is_ask, is_set, seat_in, sized_of, told_in, told_init_seek, turn_in, turn_of}
+use Rattle.boost_core.proofs.InStep.{Reaches, double_reaches, link_reaches, seek_reaches, store_reaches}
+use Rattle.core_tokens.proofs.Claiming.{plain_claim}
+use Rattle.core_tokens.proofs.Going.{at_paired}
 use Rattle.core_tokens.specs.Claims.{Trial, claim_in}
 use Rattle.core_tokens.specs.Helps.{Begins, Heads, IsDoubling, IsTo}
-use Rattle.core_tokens.specs.Holds.{How, WasBroken, FoundOther, HadNoRoom, TookTurn, Held, HeldBy, InStep, TakesSecond, TakesTurn, end_in}
+use Rattle.core_tokens.specs.Holds.{FoundOther, HadNoRoom, Held, InStep, Takes, TakesSecond, TakesTurn, TookTurn, WasBroken, end_in}
 use Rattle.core_tokens.specs.Suits.{Suits}
 use Rattle.core_tokens.specs.Tokens.{Token}
-use Rattle.core_tokens.proofs.Claiming.{plain_claim}
+use Rattle.txn_drive.specs.declared.call.Call.TheVariants as calls
+use Rattle.txn_drive.specs.declared.«end».End.TheVariants as ends
+use Rattle.txn_words.specs.declared.answer.Answer.TheVariants as answers
+use Rattle.txn_words.specs.declared.step.Step.TheVariants as steps
 
 -- A hold that did not end its call, or ended it well, has taken its turn.
 abbrev IsPlain : Option End → Type 0
@@ -46,13 +31,10 @@ abbrev Turned : Option Trial → State → List Entry → Drive → State → Li
 Turned tried m seen d n seen' e = TakesTurn tried m seen (sized_of m.size d) (turn_of (sized_of m.size d)) n seen' e
 
 took : {S : Type 0} (m n : State) (k l : Token S) (d e : Drive) (outcome : Option End) → IsPlain outcome → Held m k d outcome n l e → Turned k.claims.tried m k.seen d n l.seen e × (end_of e ≡ outcome)
-took {S} m n k l d e outcome plain held = by held.0 held.1
-  where
-    by : (how : How) → HeldBy how m k (sized_of m.size d) outcome n l e → Turned k.claims.tried m k.seen d n l.seen e × (end_of e ≡ outcome)
-    by WasBroken was = absurd (subst IsPlain was.1 plain)
-    by FoundOther was = absurd (subst IsPlain was.2 plain)
-    by HadNoRoom was = absurd (subst IsPlain was.1 plain)
-    by TookTurn was = (was.turn, ended_plain l.broken (end_of e) outcome plain was.ends)
+took m n k l d e outcome plain (WasBroken, was) = absurd (subst IsPlain was.1 plain)
+took m n k l d e outcome plain (FoundOther, was) = absurd (subst IsPlain was.2 plain)
+took m n k l d e outcome plain (HadNoRoom, was) = absurd (subst IsPlain was.1 plain)
+took m n k l d e outcome plain (TookTurn, was) = (was.turn, ended_plain l.broken (end_of e) outcome plain was.ends)
 
 -- A helper's drive.
 abbrev helping : ℕ → ℕ → Phase → Drive
@@ -68,51 +50,45 @@ moved tried m n step a plain goes = subst (λ (claim : Claim). Goes claim m step
 abbrev Told : Type 0 → State → ℕ → ℕ → Drive → Type 0
 Told known n key bucket e = (e.call ≡ calls.Help key) × Reaches known n bucket e.phase
 
-told_is : (known : Type 0) (n : State) (c key bucket : ℕ) (phase : Phase) (e : Drive) → e ≡ helping c key phase → Reaches known n bucket phase → Told known n key bucket e
-told_is known n c key bucket phase e is reaches = subst (Told known n key bucket) (sym is) (refl, reaches)
+-- `n`, `seen'` and `e` are core, entries and drive after a turn.
+module _ (known : Type 0) (tried : Option Trial) (c key bucket : ℕ) (n : State) (seen' : List Entry) (e : Drive) where
+  -- After the last step of the turn.
+  took_last : {m : State} {seen : List Entry} {phase : Phase} {step : Step} {a : Answer} → is_ask step ≡ false → Takes tried m seen (helping c key phase) step a n seen' e
+      → (Move m step a n → Reaches known n bucket (told_in (calls.Help key) phase a)) → Told known n key bucket e
+  took_last {m} {seen} {phase} {step} {a} plain takes reaches =
+      subst (Told known n key bucket) (sym takes.told) (refl, reaches (moved tried m n step a plain takes.goes))
 
-second_reaches : (known : Type 0) (tried : Option Trial) (m n : State) (seen seen' : List Entry) (c key bucket : ℕ) (way : Way) (again : ℕ) (a : Answer) (half e : Drive) → way.target ≡ bucket → half ≡ helping c key (told_init_seek way again a)
-    → Reaches known m bucket (told_init_seek way again a) → TakesSecond tried m seen half (steps.InitLink c) a n seen' e → Told known n key bucket e
-second_reaches known tried m n seen seen' c key bucket way again answers.Placed half e to is reaches second =
-    told_is known n c key bucket (told_link way again second.0) e (second.1.told ∙ ap (λ (x : Drive). told_of x second.0) is) (link_reaches known n bucket way again second.0 to)
-second_reaches known tried m n seen seen' c key bucket way again a half e to is reaches second =
-    told_is known n c key bucket (told_init_seek way again a) e (second.2 ∙ is) (subst (λ x. Reaches known x bucket (told_init_seek way again a)) (sym second.0) reaches)
+  took_second : (m : State) (seen : List Entry) (way : Way) (again : ℕ) (a : Answer) → way.target ≡ bucket → Reaches known m bucket (told_init_seek way again a)
+      → TakesSecond tried m seen (helping c key (told_init_seek way again a)) (steps.InitLink c) a n seen' e → Told known n key bucket e
+  took_second m seen way again answers.Placed to reaches second = took_last refl second.1 (λ move. link_reaches known n bucket way again second.0 to)
+  took_second m seen way again a to reaches second =
+      subst (Told known n key bucket) (sym second.2) (refl, subst (λ x. Reaches known x bucket (told_init_seek way again a)) (sym second.0) reaches)
 
--- The call keeps to its bucket over each turn; its first turn gives it the bucket.
-keeps : (known : Type 0) (tried : Option Trial) (m n : State) (seen seen' : List Entry) (c key bucket : ℕ) (phase : Phase) (e : Drive) → (known → IsWhole m × HelpSuits m c phase) → IsTo bucket phase → Turned tried m seen (helping c key phase) n seen' e → Told known n key bucket e
-keeps known tried m n seen seen' c key bucket (Initialising way again) e suits to turned = at (nat_lt again 8) turned
-  where
-    at : (b : Bool) → TakesTurn tried m seen (helping c key (Initialising way again)) (if b then One (steps.InitSeek c way.bucket) else Two (steps.InitSeek c way.bucket) (steps.InitLink c)) n seen' e → Told known n key bucket e
-    at true turned =
-        told_is known n c key bucket (told_init_seek way again turned.0) e turned.1.told (seek_reaches known m n c bucket way again turned.0 to (moved tried m n (steps.InitSeek c way.bucket) turned.0 refl turned.1.goes))
-    at false turned =
-        second_reaches known tried turned.1 n turned.2 seen' c key bucket way again turned.0 turned.3 e to turned.4.told
-        (seek_reaches known m turned.1 c bucket way again turned.0 to (moved tried m turned.1 (steps.InitSeek c way.bucket) turned.0 refl turned.4.goes)) turned.5
-keeps known tried m n seen seen' c key bucket (Linking way again) e suits to turned = told_is known n c key bucket (told_link way again turned.0) e turned.1.told (link_reaches known n bucket way again turned.0 to)
-keeps known tried m n seen seen' c key bucket (Storing way) e suits to turned =
-    told_is known n c key bucket (told_store way turned.0) e turned.1.told (store_reaches known m n c bucket way turned.0 suits to (moved tried m n (steps.InitStore c) turned.0 refl turned.1.goes))
-keeps known tried m n seen seen' c key bucket phase e suits to turned = absurd to
+  -- The call keeps to its bucket over each turn.
+  keeps : (m : State) (seen : List Entry) (phase : Phase) → (known → IsWhole m × HelpSuits m c phase) → IsTo bucket phase → Turned tried m seen (helping c key phase) n seen' e → Told known n key bucket e
+  keeps m seen (Initialising way again) suits to turned =
+      at_paired (λ t. TakesTurn tried m seen (helping c key (Initialising way again)) t n seen' e → Told known n key bucket e) again (steps.InitSeek c way.bucket) (steps.InitLink c)
+      (λ one. took_last refl one.1 (seek_reaches known m n c bucket way again one.0 to))
+      (λ two. took_second two.1 two.2 way again two.0 to (seek_reaches known m two.1 c bucket way again two.0 to (moved tried m two.1 (steps.InitSeek c way.bucket) two.0 refl two.4.goes))
+      (subst (λ x. TakesSecond tried two.1 two.2 x (steps.InitLink c) two.0 n seen' e) two.4.told two.5)) turned
+  keeps m seen (Linking way again) suits to turned = took_last refl turned.1 (λ move. link_reaches known n bucket way again turned.0 to)
+  keeps m seen (Storing way) suits to turned = took_last refl turned.1 (store_reaches known m n c bucket way turned.0 suits to)
+  keeps m seen phase suits to turned = absurd to
 
+-- The first turn of the call gives it its bucket.
 begun : (known : Type 0) (tried : Option Trial) (m n : State) (seen seen' : List Entry) (c key : ℕ) (phase : Phase) (e : Drive) → (known → is_set n.stored 0 ≡ true) → IsDoubling phase → Turned tried m seen (helping c key phase) n seen' e → Told known n key (key % n.size) e
-begun known tried m n seen seen' c key (Doubling size) e first doubling turned =
-    told_is known n c key (key % n.size) (told_help key m.size turned.0) e turned.1.told (double_reaches known m n key turned.0 (λ k same. first k) (moved tried m n (steps.Double m.size) turned.0 refl turned.1.goes))
+begun known tried m n seen seen' c key (Doubling size) e first doubling turned = took_last known tried c key (key % n.size) n seen' e refl turned.1 (double_reaches known m n key turned.0 (λ k same. first k))
 begun known tried m n seen seen' c key phase e first doubling turned = absurd doubling
 
 -- Such a call that has not ended is on its way, and one that has ended well is at its end.
 going : (known : Type 0) (n : State) (c bucket : ℕ) (call : Call) (phase : Phase) → Reaches known n bucket phase → ended_by (turn_in c call phase) ≡ None → IsTo bucket phase
-going known n c bucket call (Initialising way again) reaches none = reaches
-going known n c bucket call (Linking way again) reaches none = reaches
-going known n c bucket call (Storing way) reaches none = reaches
 going known n c bucket call Helped reaches none = absurd (cc none)
 going known n c bucket call (Refused r) reaches none = absurd (cc none)
-going known n c bucket call phase reaches none = absurd reaches
+going known n c bucket call phase reaches none = reaches
 
 at_end : (n : State) (c bucket : ℕ) (call : Call) (phase : Phase) → Reaches (Unit {0}) n bucket phase → ended_by (turn_in c call phase) ≡ Some ends.Helped → is_set n.stored bucket ≡ true
-at_end n c bucket call (Initialising way again) reaches well = at (nat_lt again 8) well
-  where
-    at : (b : Bool) → ended_by (if b then One (steps.InitSeek c way.bucket) else Two (steps.InitSeek c way.bucket) (steps.InitLink c)) ≡ Some ends.Helped → is_set n.stored bucket ≡ true
-    at true well = absurd (cc well)
-    at false well = absurd (cc well)
+at_end n c bucket call (Initialising way again) reaches well =
+    absurd (cc (goes_on (record { caller = c; call = call; phase = Initialising way again }) (steps.InitSeek c way.bucket) refl, well))
 at_end n c bucket call (Linking way again) reaches well = absurd (cc well)
 at_end n c bucket call (Storing way) reaches well = absurd (cc well)
 at_end n c bucket call Helped reaches well = reaches tt
@@ -128,7 +104,7 @@ first_hold {S} known key m n k l d e outcome plain first begins held =
 later_hold : {S : Type 0} (known : Type 0) (key size : ℕ) (m n : State) (k l : Token S) (d e : Drive) (outcome : Option End) → IsPlain outcome → (known → IsWhole m × HelpSuits m d.caller d.phase) → Heads key size d → Held m k d outcome n l e → Told known n key (key % size) e × (end_of e ≡ outcome)
 later_hold {S} known key size m n k l d e outcome plain suits heads held =
     let turned = took m n k l d e outcome plain held in
-    (keeps known k.claims.tried m n k.seen l.seen d.caller key (key % size) d.phase e suits heads.1 (subst (λ (x : Drive). Turned k.claims.tried m k.seen x n l.seen e) (helping_is d key heads.0) turned.0), turned.1)
+    (keeps known k.claims.tried d.caller key (key % size) n l.seen e m k.seen d.phase suits heads.1 (subst (λ (x : Drive). Turned k.claims.tried m k.seen x n l.seen e) (helping_is d key heads.0) turned.0), turned.1)
 
 pub heads : {S : Type 0} (key : ℕ) (m n : State) (k l : Token S) (d e : Drive) → Begins key d → Held m k d None n l e → Heads key n.size e
 heads {S} key m n k l d e begins held =

@@ -1,198 +1,91 @@
 -- The call after a hold, with core and token in step.
-use Rattle.std.proofs.Common.{◌≡◌, ◌≢◌, ℕ, ◌||◌, nat_lt, Bool, true, false, not, if◌then◌else◌, List, [], ◌++◌, is_some, IfSome, Option, Some, None, refl, sym, ap, subst, ◌∙◌}
-use Rattle.std.proofs.lemmas.Bool.{false≢true}
-use Rattle.txn_words.specs.declared.entry.Entry.{Entry}
-use Rattle.txn_words.specs.declared.refusal.Refusal.TheVariants.{OutOfStep, NoMemory}
-use Rattle.txn_words.specs.declared.step.Step.TheVariants as steps
-use Rattle.txn_words.specs.Sizes.{Sizes}
-use Rattle.txn_words.specs.Shape.{Seat, seat_after, IsShaped}
-use Rattle.txn_trace.proofs.Running.{has_seat}
-use Rattle.txn_drive.specs.declared.call.Call.{Call}
-use Rattle.txn_drive.specs.declared.call.Call.TheVariants as calls
-use Rattle.txn_drive.specs.declared.drive.Drive.{Drive}
-use Rattle.txn_drive.specs.declared.«end».End.{End}
-use Rattle.txn_drive.specs.declared.«end».End.TheVariants as ends
-use Rattle.txn_drive.specs.declared.phase.Phase.{Phase}
-use Rattle.txn_drive.specs.declared.phase.Phase.TheVariants.{Fresh, Seeking, Acting, Doubling, Initialising, Linking, Storing, First, Last, Lost, Helped, Refused}
-use Rattle.txn_drive.specs.declared.turn.Turn.{Turn}
-use Rattle.txn_drive.specs.declared.turn.Turn.TheVariants.{One, Two}
-use Rattle.txn_drive.specs.Drives.{sized_of, turn_in, turn_of, end_of, ended_by}
-use Rattle.txn_drive.specs.Made.{made, IsMade, CommitNothing, IsQuiet}
+use Rattle.std.proofs.Common.{[], ℕ, ◌||◌, ◌∙◌, ◌≡◌, ◌≢◌, Bool, IfSome, List, None, Option, Some, ap, false, inl, inr, is_some, not, refl}
+use Rattle.std.proofs.Common.{subst, sym, true}
+use Rattle.core_tokens.proofs.Vocabulary.{Call, CommitNothing, Drive, End, Entry, First, Helped, IsQuiet, IsShaped, Last, Lost, Phase}
+use Rattle.core_tokens.proofs.Vocabulary.{Refused, Seat, Sizes, State, end_of, ended_by, false≢true, goes_on, has_seat, made, seat_after}
+use Rattle.core_tokens.proofs.Vocabulary.{seat_in, sized_of, turn_in}
+use Rattle.std.proofs.lemmas.Bool.{or_parts}
 use Rattle.txn_drive.proofs.DriveLaws.{made_at_end}
-use Rattle.boost_core.specs.State.{State, seat_in}
-use Rattle.core_tokens.specs.Tokens.{Token, IsSameCaller, IsSameClaims}
-use Rattle.core_tokens.specs.Suits.{may_refuse, is_odd, IsSized, Suits, IsInStep}
-use Rattle.core_tokens.specs.Holds.{FoundOther, HadNoRoom, TookTurn, TakesTurn, Held, InStep, odd_if, end_in, is_out, out_if, GoesOn, GoesTo, HasRun, MayEnd}
-use Rattle.txn_drive.proofs.Quiet.{going_quiet}
-use Rattle.core_tokens.proofs.Quiet.{odd_quiet}
-use Rattle.core_tokens.proofs.Going.{goes_sized, in_step_sized, is_sized}
+use Rattle.txn_drive.proofs.Quiet.{going_quiet, made_quiet}
+use Rattle.txn_words.specs.declared.refusal.Refusal.TheVariants.{NoMemory, OutOfStep}
+use Rattle.core_tokens.specs.Holds.{GoesOn, GoesTo, HasRun, Held, HeldBy, How, InStep, MayEnd, end_in, is_out, odd_if, out_if}
+use Rattle.core_tokens.specs.Suits.{IsInStep, Suits, is_odd, may_refuse}
+use Rattle.core_tokens.specs.Tokens.{Token}
+use Rattle.txn_drive.specs.declared.call.Call.TheVariants as calls
+use Rattle.txn_drive.specs.declared.«end».End.TheVariants as ends
 
 -- The end of a hold that took its turn.
 no_out : (call : Call) → is_odd call (ends.Refused OutOfStep) ≡ true
 no_out calls.Begin = refl
-no_out (calls.Op op) = refl
-no_out calls.Save = refl
-no_out (calls.Back n) = refl
-no_out calls.Commit = refl
-no_out calls.Abort = refl
-no_out (calls.Help key) = refl
+no_out call = refl
 
-may_end : (call : Call) (outcome : End) → is_odd call outcome ≡ false → MayEnd call outcome
-may_end call (ends.Refused OutOfStep) plain = tt
-may_end call (ends.Refused r) plain = plain
-may_end call outcome plain = plain
+-- An end that the call may have: it may end so, whatever it has committed, and not out of step.
+plain_end : (call : Call) (outcome : End) (es : List Entry) → is_odd call outcome ≡ false → MayEnd call outcome × IsQuiet outcome es × (false ≡ is_out outcome)
+plain_end call (ends.Refused OutOfStep) es plain = absurd (false≢true (sym plain ∙ no_out call))
+plain_end call (ends.Refused r) es plain = (plain, tt, refl)
+plain_end call outcome es plain = (plain, tt, refl)
 
-quiet_plain : (call : Call) (outcome : End) (es : List Entry) → is_odd call outcome ≡ false → IsQuiet outcome es
-quiet_plain call (ends.Refused OutOfStep) es plain = absurd (false≢true (sym plain ∙ no_out call))
-quiet_plain call (ends.Refused r) es plain = tt
-quiet_plain call outcome es plain = tt
+-- A call that ends out of step has committed nothing; nor has one whose drive has an end that it
+-- may not have.
+pub out_run : (base seen : List Entry) (e : Drive) → GoesOn base seen e → (is_some (seat_after seen) ≡ true → CommitNothing (made e)) → HasRun base seen e.caller e.call (ends.Refused OutOfStep)
+out_run base seen e goes quiet = record { added = made e; entries = goes.entries; made = tt; may = tt; quiet = quiet }
+
+odd_quiet : (e : Drive) (end : Option End) → end_of e ≡ end → odd_if e.call end ≡ true → CommitNothing (made e)
+odd_quiet e end is odd = elim (made_quiet e) [
+  | inl quiet ↦ quiet
+  | inr committed ↦ absurd (false≢true (sym (ap (odd_if e.call) (sym is ∙ committed.1)) ∙ odd))
+]
 
 goes_end : (base seen : List Entry) (e : Drive) (b : Bool) (end : Option End) → end_of e ≡ end → GoesOn base seen e → (b ≡ false → odd_if e.call end ≡ false)
     → (b ≡ true → is_some (seat_after seen) ≡ true → odd_if e.call end ≡ true) → GoesTo base seen e (end_in b end)
-goes_end base seen e true end is goes plain odd = record {
-  added = made e;
-  entries = goes.entries;
-  made = out_made e.caller e.call (made e);
-  may = tt;
-  quiet = λ whole. odd_quiet e end is (odd refl whole);
-}
-  where
-    out_made : (c : ℕ) (call : Call) (h : List Entry) → IsMade c call (ends.Refused OutOfStep) h
-    out_made c call h = tt
+goes_end base seen e true end is goes plain odd = out_run base seen e goes (λ whole. odd_quiet e end is (odd refl whole))
 goes_end base seen e false None is goes plain odd = record { on = goes; quiet = going_quiet e is }
-goes_end base seen e false (Some outcome) is goes plain odd = record {
-  added = made e;
-  entries = goes.entries;
-  made = made_at_end e outcome is;
-  may = may_end e.call outcome (plain refl);
-  quiet = λ whole. quiet_plain e.call outcome (made e) (plain refl);
-}
-
-or_false : (a b : Bool) → (a || b) ≡ false → (a ≡ false) × (b ≡ false)
-or_false true b is = absurd (cc is)
-or_false false b is = (refl, is)
+goes_end base seen e false (Some outcome) is goes plain odd =
+    let end = plain_end e.call outcome (made e) (plain refl) in
+    record { added = made e; entries = goes.entries; made = made_at_end e outcome is; may = end.0; quiet = λ whole. end.1 }
 
 pub goes_held : (base seen : List Entry) (e : Drive) (b whole : Bool) (end r : Option End) → whole ≡ is_some (seat_after seen) → end ≡ end_of e → b ≡ (not whole || odd_if e.call end) → r ≡ end_in b end
     → GoesOn base seen e → GoesTo base seen e r
 goes_held base seen e b whole end r whole_is is broken ends goes =
     subst (GoesTo base seen e) (sym ends) (
-    goes_end base seen e b end (sym is) goes (λ no. (or_false (not whole) (odd_if e.call end) (sym broken ∙ no)).1)
+    goes_end base seen e b end (sym is) goes (λ no. (or_parts (not whole) (odd_if e.call end) (sym broken ∙ no)).1)
     (λ yes has. let at : whole ≡ true = whole_is ∙ has in sym (sym yes ∙ broken ∙ (λ i. not (at i) || odd_if e.call end))))
 
 suits_plain_in : (m : State) (s : Seat) (c : ℕ) (call : Call) (phase : Phase) → Suits m s c call phase → odd_if call (ended_by (turn_in c call phase)) ≡ false
-suits_plain_in m s c call Fresh suits = refl
-suits_plain_in m s c call (Seeking work again) suits = elim (nat_lt again 8) as (λ b. odd_if call (ended_by (if b then One (steps.Seek c) else Two (steps.Seek c) (steps.Act c))) ≡ false) [ true ↦ refl | false ↦ refl ]
-suits_plain_in m s c call (Acting work again) suits = refl
-suits_plain_in m s c call (Doubling size) suits = refl
-suits_plain_in m s c call (Initialising way again) suits =
-    elim (nat_lt again 8) as (λ b. odd_if call (ended_by (if b then One (steps.InitSeek c way.bucket) else Two (steps.InitSeek c way.bucket) (steps.InitLink c))) ≡ false) [ true ↦ refl | false ↦ refl ]
-suits_plain_in m s c call (Linking way again) suits = refl
-suits_plain_in m s c call (Storing way) suits = refl
 suits_plain_in m s c call (First a) suits = suits
 suits_plain_in m s c call (Last work a) suits = suits
 suits_plain_in m s c call (Lost work) suits = absurd suits.1
 suits_plain_in m s c (calls.Help key) Helped suits = refl
 suits_plain_in m s c call Helped suits = absurd (false≢true suits.0)
 suits_plain_in m s c call (Refused r) suits = suits
-
-pub record EndsInStep (b : Bool) (r : Option End) : Type 0 where
-  pub sound : b ≡ false
-  pub plain : IfSome r (λ e. e ≢ ends.Refused OutOfStep)
+suits_plain_in m s c call phase suits = ap (odd_if call) (goes_on (record { caller = c; call = call; phase = phase }) _ refl)
 
 not_out : (call : Call) (o : Option End) → odd_if call o ≡ false → IfSome o (λ e. e ≢ ends.Refused OutOfStep)
 not_out call None plain = tt
 not_out call (Some outcome) plain = λ is. false≢true (sym plain ∙ ap (is_odd call) is ∙ no_out call)
 
-pub ends_in_step : (n : State) (limits : Sizes) (c : ℕ) (seen : List Entry) (e : Drive) (b whole : Bool) (end r : Option End) → IsInStep n limits c seen e → whole ≡ true → end ≡ end_of e → b ≡ (not whole || odd_if e.call end)
-    → r ≡ end_in b end → EndsInStep b r
-ends_in_step n limits c seen e b whole end r ins whole_is is broken ends_so =
-    let plain : odd_if e.call end ≡ false = ap (odd_if e.call) is ∙ suits_plain_in n (seat_in n.history c) e.caller e.call e.phase (subst (λ w. Suits n (seat_in n.history c) w e.call e.phase) (sym ins.mine) ins.suits) in
-    let sound : b ≡ false = broken ∙ (λ i. not (whole_is i) || plain i) in record {
-      sound = sound;
-      plain = subst (λ o. IfSome o (λ e. e ≢ ends.Refused OutOfStep)) (sym (ends_so ∙ ap (λ x. end_in x end) sound)) (not_out e.call end plain);
-    }
-
-pub ins_sized : {S : Type 0} (m : State) (t k : Token S) (d d' : Drive) (size : ℕ) → t ≡ k → size ≡ m.size → d' ≡ sized_of size d → InStep m k d → IsInStep m t.limits t.number t.seen d' × IsSized m.size d'.phase
-ins_sized {S} m t k d d' size view size_is is ins =
-    let there : InStep m t d = subst (λ (x : Token S). InStep m x d) (sym view) ins in
-    let sized : d' ≡ sized_of m.size d = is ∙ ap (λ z. sized_of z d) size_is in (
-      subst (IsInStep m t.limits t.number t.seen) (sym sized) (in_step_sized m t.limits t.number t.seen d there.1),
-      subst (λ (x : Drive). IsSized m.size x.phase) (sym sized) (is_sized m.size d.phase),
-    )
-
-pub goes_on_sized : {S : Type 0} (base : List Entry) (t k : Token S) (d d' : Drive) (size : ℕ) → t ≡ k → d' ≡ sized_of size d → GoesOn base k.seen d → GoesOn base t.seen d'
-goes_on_sized {S} base t k d d' size view is goes =
-    subst (GoesOn base t.seen) (sym is) (goes_sized base t.seen d size (subst (λ (x : Token S). GoesOn base x.seen d) (sym view) goes))
-
--- A call whose token was broken before the turn ends out of step.
-pub broken_run : (base seen : List Entry) (e : Drive) → GoesOn base seen e → CommitNothing (made e) → HasRun base seen e.caller e.call (ends.Refused OutOfStep)
-broken_run base seen e goes quiet = record { added = made e; entries = goes.entries; made = out_made e.caller e.call (made e); may = tt; quiet = λ whole. quiet }
-  where
-    out_made : (c : ℕ) (call : Call) (h : List Entry) → IsMade c call (ends.Refused OutOfStep) h
-    out_made c call h = tt
-
 pub no_room_run : (base seen seen' : List Entry) (d e : Drive) → seen' ≡ seen → e ≡ d → (made d ≡ []) × (may_refuse d.call NoMemory ≡ true) → GoesOn base seen d → HasRun base seen' e.caller e.call (ends.Refused NoMemory)
-no_room_run base seen seen' d e same is starts goes = record {
-  added = [];
-  entries = same ∙ goes.entries ∙ ap (λ h. base ++ h) starts.0;
-  made = none_made e.caller e.call;
-  may = ap not (ap (λ (x : Drive). may_refuse x.call NoMemory) is ∙ starts.1);
-  quiet = λ whole. tt;
-}
-  where
-    none_made : (c : ℕ) (call : Call) → IsMade c call (ends.Refused NoMemory) []
-    none_made c call = refl
+no_room_run base seen seen' d e same is starts goes = rw is (record { added = []; entries = cc; made = refl; may = ap not starts.1; quiet = λ whole. tt })
 
-pub held_took : {S : Type 0} (m n : State) (t k l : Token S) (d d' e : Drive) (turn : Turn) (size : ℕ) (end r : Option End) (whole : Bool) → t ≡ k → t.broken ≡ false → size ≡ m.size → d' ≡ sized_of size d → turn ≡ turn_of d'
-    → m.limits.stripes ≡ t.limits.stripes → TakesTurn t.claims.tried m t.seen d' turn n l.seen e → whole ≡ is_some (seat_after l.seen) → end ≡ end_of e → l.broken ≡ (not whole || odd_if e.call end) → r ≡ end_in l.broken end
-    → IsSameCaller t l → IsSameClaims t l → l.side ≡ t.side → Held m k d r n l e
-held_took {S} m n t k l d d' e turn size end r whole view sound size_is is turn_is stripes took whole_is end_is broken ends_is whose claims side =
-    let sized : d' ≡ sized_of m.size d = is ∙ ap (λ z. sized_of z d) size_is in
-    subst (λ (x : Token S). Held m x d r n l e) view (
-      TookTurn,
-      record {
-        sound = sound;
-        stripes = stripes;
-        turn = subst (λ x. TakesTurn t.claims.tried m t.seen x (turn_of x) n l.seen e) sized (subst (λ x. TakesTurn t.claims.tried m t.seen d' x n l.seen e) turn_is took);
-        broken = broken ∙ (λ i. not (whole_is i) || odd_if e.call (end_is i));
-        ends = ends_is ∙ ap (end_in l.broken) end_is;
-        whose = whose;
-        claims = claims;
-        side = side;
-      },
-    )
-
--- A core with another number of stripes is not in step, and nothing is done on it.
-pub held_other : {S : Type 0} (m : State) (t k : Token S) (d d' : Drive) (size : ℕ) → t ≡ k → t.broken ≡ false → size ≡ m.size → d' ≡ sized_of size d → (m.limits.stripes ≡ t.limits.stripes → ⊥)
-    → Held m k d (Some (ends.Refused OutOfStep)) m (record t { broken = true }) d'
-held_other {S} m t k d d' size view sound size_is is other =
-    subst (λ (x : Token S). Held m x d (Some (ends.Refused OutOfStep)) m (record t { broken = true }) d') view
-    (FoundOther, (sound, other, refl, refl, refl, is ∙ ap (λ z. sized_of z d) size_is))
-
--- A hold without room.
-pub held_no_room : {S : Type 0} (m n : State) (t k : Token S) (d d' e : Drive) (size : ℕ) (seen : List Entry) → t ≡ k → t.broken ≡ false → size ≡ m.size → d' ≡ sized_of size d → n ≡ m → seen ≡ t.seen → e ≡ d'
-    → Held m k d (Some (ends.Refused NoMemory)) n (record t { seen = seen }) e
-held_no_room {S} m n t k d d' e size seen view sound size_is is core_is seen_is drive_is =
-    subst (λ (x : Token S). Held m x d (Some (ends.Refused NoMemory)) n (record t { seen = seen }) e) view
-    (HadNoRoom, (sound, refl, core_is, ap (λ (es : List Entry). record t { seen = es }) seen_is, drive_is ∙ is ∙ ap (λ z. sized_of z d) size_is))
+-- The drive was told the size before its hold.
+pub held_sized : {S : Type 0} (how : How) (m n : State) (k l : Token S) (d d' e : Drive) (size : ℕ) (r : Option End) → size ≡ m.size → d' ≡ sized_of size d → HeldBy how m k d' r n l e → Held m k d r n l e
+held_sized how m n k l d d' e size r size_is is held = (how, subst (λ x. HeldBy how m k x r n l e) (is ∙ ap (λ z. sized_of z d) size_is) held)
 
 pub other_in_step : {S : Type 0} (m : State) (t k : Token S) (d : Drive) → t ≡ k → (m.limits.stripes ≡ t.limits.stripes → ⊥) → InStep m k d → ⊥
 other_in_step {S} m t k d view other ins = other (ap (λ (z : Sizes). z.stripes) (ins.1.same_limits ∙ ap (λ (x : Token S). x.limits) (sym view)))
 
+-- A core and a token that are in step stay so, and the end is not that they are out of step.
 pub held_in_step : (n : State) (limits : Sizes) (number : ℕ) (seen : List Entry) (b : Bool) (e : Drive) (end r : Option End) (whole : Bool) → IsInStep n limits number seen e → IsShaped n.history
     → whole ≡ is_some (seat_after seen) → end ≡ end_of e → b ≡ (not whole || odd_if e.call end) → r ≡ end_in b end → ((b ≡ false) × IsInStep n limits number seen e) × IfSome r (λ x. x ≢ ends.Refused OutOfStep)
 held_in_step n limits number seen b e end r whole ins shape whole_is end_is broken ends_is =
-    let seat : is_some (seat_after seen) ≡ true = ap (λ h. is_some (seat_after h)) (sym ins.same) ∙ has_seat n.history shape number in
-    let ended = ends_in_step n limits number seen e b whole end r ins (whole_is ∙ seat) end_is broken ends_is in
-    ((ended.sound, ins), ended.plain)
+    let seat : whole ≡ true = whole_is ∙ ap (λ h. is_some (seat_after h)) (sym ins.same) ∙ has_seat n.history shape number in
+    let suits = subst (λ w. Suits n (seat_in n.history number) w e.call e.phase) (sym ins.mine) ins.suits in
+    let plain : odd_if e.call end ≡ false = ap (odd_if e.call) end_is ∙ suits_plain_in n (seat_in n.history number) e.caller e.call e.phase suits in
+    let sound : b ≡ false = broken ∙ (λ i. not (seat i) || plain i) in
+    ((sound, ins), subst (λ o. IfSome o (λ x. x ≢ ends.Refused OutOfStep)) (sym (ends_is ∙ ap (λ x. end_in x end) sound)) (not_out e.call end plain))
 
 -- A token breaks exactly if its hold ends with `OutOfStep`.
-plain_in : (call : Call) (outcome : End) → is_odd call outcome ≡ false → false ≡ is_out outcome
-plain_in call (ends.Refused OutOfStep) plain = absurd (false≢true (sym plain ∙ no_out call))
-plain_in call (ends.Refused r) plain = refl
-plain_in call outcome plain = refl
-
 pub broken_ends : (b whole : Bool) (call : Call) (end r : Option End) → b ≡ (not whole || odd_if call end) → r ≡ end_in b end → b ≡ out_if r
 broken_ends true whole call end r broken ends_so = ap out_if (sym ends_so)
 broken_ends false whole call None r broken ends_so = ap out_if (sym ends_so)
-broken_ends false whole call (Some outcome) r broken ends_so = plain_in call outcome (or_false (not whole) (is_odd call outcome) (sym broken)).1 ∙ ap out_if (sym ends_so)
+broken_ends false whole call (Some outcome) r broken ends_so = (plain_end call outcome [] (or_parts (not whole) (is_odd call outcome) (sym broken)).1).2 ∙ ap out_if (sym ends_so)

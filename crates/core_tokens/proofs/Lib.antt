@@ -1,3 +1,4 @@
+pub mod Vocabulary
 pub mod Noting
 pub mod Claiming
 pub mod Phases
@@ -5,12 +6,7 @@ pub mod Starting
 pub mod Working
 pub mod Suiting
 pub mod Stepping
-pub mod Quiet
 pub mod Going
 pub mod SeenRoom
 pub mod Holding
-pub mod Refusing
-pub mod Readying
-pub mod Trying
 pub mod Helped
-pub mod Smalls

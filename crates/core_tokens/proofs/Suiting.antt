@@ -1,27 +1,16 @@
 -- A core and a drive stay in step over a move.
-use Rattle.std.proofs.Common.{◌≡◌, ℕ, ◌-◌, ◌<◌, ◌^◌, Bool, true, false, [], length, Option, Some, None, refl, sym, ap, subst, ◌∙◌, arith}
-use Rattle.std.specs.Prelude.{nat_le}
-use Rattle.std.proofs.lemmas.Bool.{false≢true}
-use Rattle.txn_words.specs.declared.answer.Answer.{Answer}
+use Rattle.std.proofs.Common.{[], ℕ, ◌-◌, ◌<◌, ◌^◌, ◌∙◌, ◌≡◌, Bool, None, Option, Some, ap, arith, false, length, nat_le, refl, subst, sym}
+use Rattle.std.proofs.Common.{true}
+use Rattle.core_tokens.proofs.Vocabulary.{Acting, Answer, Call, Doubling, Fresh, HelpSuits, Helped, Initialising, IsWhole, Linking, Move}
+use Rattle.core_tokens.proofs.Vocabulary.{Phase, Refused, Seat, Seeking, State, Step, Storing, false≢true, first_step, refusal_in, seat_in}
+use Rattle.core_tokens.proofs.Vocabulary.{sized_in, step_in, told_in}
 use Rattle.txn_words.specs.declared.refusal.Refusal.TheVariants.{NoMemory, StampsUsedUp}
-use Rattle.txn_words.specs.declared.step.Step.{Step}
-use Rattle.txn_words.specs.declared.step.Step.TheVariants as steps
-use Rattle.txn_words.specs.Shape.{Seat}
-use Rattle.txn_drive.specs.declared.call.Call.{Call}
-use Rattle.txn_drive.specs.declared.call.Call.TheVariants as calls
-use Rattle.txn_drive.specs.declared.phase.Phase.{Phase}
-use Rattle.txn_drive.specs.declared.phase.Phase.TheVariants.{Fresh, Seeking, Acting, Doubling, Initialising, Linking, Storing, Helped, Refused}
-use Rattle.txn_drive.specs.Drives.{first_step, sized_in, step_in, told_in}
-use Rattle.boost_core.specs.State.{State, seat_in}
-use Rattle.txn_words.specs.Seats.{refusal_in}
-use Rattle.boost_core.specs.Machine.{Move}
-use Rattle.boost_core.specs.Whole.{IsWhole}
-use Rattle.boost_core.specs.Helps.{HelpSuits}
 use Rattle.boost_core.proofs.InStep.{help_suits_told}
 use Rattle.core_tokens.proofs.Phases.{entries_if}
-use Rattle.core_tokens.specs.Suits.{is_help, Fits, undone_of, IsSized, Suits}
 use Rattle.core_tokens.proofs.Starting.{first_free, suits_first}
-use Rattle.core_tokens.proofs.Working.{suits_seek, suits_act}
+use Rattle.core_tokens.proofs.Working.{suits_act, suits_seek}
+use Rattle.core_tokens.specs.Suits.{Fits, IsSized, Suits, is_help, undone_of}
+use Rattle.txn_drive.specs.declared.call.Call.TheVariants as calls
 
 -- A phase of a call for help that suits the core suits the call.
 suits_help : (n : State) (s : Seat) (c key : ℕ) (phase : Phase) → HelpSuits n c phase → Suits n s c (calls.Help key) phase
@@ -53,30 +42,24 @@ abbrev pub MoveIf : State → Option Step → Answer → State → Type 0
 MoveIf m None a n = ⊥
 MoveIf m (Some step) a n = Move m step a n
 
-pub suits_told : (m n : State) (c : ℕ) (s : Seat) (call : Call) (phase : Phase) (a : Answer) → nat_le m.limits.callers c ≡ false → c < length m.cursors → IsWhole m → IsWhole n
-    → IsSized m.size phase → undone_of phase < 2 ^ 64 - 1 → Suits m (seat_in m.history c) c call phase → Fits s call (told_in call phase a) → (entries_if (step_in c call phase) a ≡ [] → s ≡ seat_in m.history c)
-    → MoveIf m (step_in c call phase) a n → Suits n s c call (told_in call phase a)
-suits_told m n c s call Fresh a within cursors old whole sized few suits fits same move =
-    suits_first m n c s call a (first_free m c call within suits.1 suits.0) suits.1 move.allowed fits
-suits_told m n c s call (Seeking work again) a within cursors old whole sized few suits fits same move =
-    suits_seek m n c s call work again a within cursors (same refl) (suits ∙ ap (λ (t : Seat). Some t.phase) (sym (same refl))) move
-suits_told m n c s call (Acting work again) a within cursors old whole sized few suits fits same move =
-    suits_act m n c s call work again a within few suits.0 suits.1 move fits
-suits_told m n c s call (Doubling size) a within cursors old whole sized few suits fits same move = suits_helper m n c s call (Doubling size) (steps.Double size) a within old whole sized suits.0 suits.1 refl move
-suits_told m n c s call (Initialising way again) a within cursors old whole sized few suits fits same move = suits_helper m n c s call (Initialising way again) (steps.InitSeek c way.bucket) a within old whole sized suits.0 suits.1 refl move
-suits_told m n c s call (Linking way again) a within cursors old whole sized few suits fits same move = suits_helper m n c s call (Linking way again) (steps.InitLink c) a within old whole sized suits.0 suits.1 refl move
-suits_told m n c s call (Storing way) a within cursors old whole sized few suits fits same move = suits_helper m n c s call (Storing way) (steps.InitStore c) a within old whole sized suits.0 suits.1 refl move
-suits_told m n c s call phase a within cursors old whole sized few suits fits same move = absurd move
+-- `s` is the caller's seat after the move.
+module _ (m n : State) (c : ℕ) (s : Seat) (call : Call) (within : nat_le m.limits.callers c ≡ false) (old : IsWhole m) (whole : IsWhole n) where
+  pub suits_told : (phase : Phase) (a : Answer) → c < length m.cursors → IsSized m.size phase → undone_of phase < 2 ^ 64 - 1 → Suits m (seat_in m.history c) c call phase
+      → Fits s call (told_in call phase a) → (entries_if (step_in c call phase) a ≡ [] → s ≡ seat_in m.history c) → MoveIf m (step_in c call phase) a n → Suits n s c call (told_in call phase a)
+  suits_told Fresh a cursors sized few suits fits same move = suits_first m n c s call a (first_free m c call within suits.1 suits.0) suits.1 move.allowed fits
+  suits_told (Seeking work again) a cursors sized few suits fits same move =
+      suits_seek m n c s call within work again a cursors (same refl) (suits ∙ ap (λ (t : Seat). Some t.phase) (sym (same refl))) move
+  suits_told (Acting work again) a cursors sized few suits fits same move = suits_act m n c s call within work again a few suits.0 suits.1 move fits
+  suits_told (Doubling size) a cursors sized few suits fits same move = suits_helper m n c s call (Doubling size) _ a within old whole sized suits.0 suits.1 refl move
+  suits_told (Initialising way again) a cursors sized few suits fits same move = suits_helper m n c s call (Initialising way again) _ a within old whole sized suits.0 suits.1 refl move
+  suits_told (Linking way again) a cursors sized few suits fits same move = suits_helper m n c s call (Linking way again) _ a within old whole sized suits.0 suits.1 refl move
+  suits_told (Storing way) a cursors sized few suits fits same move = suits_helper m n c s call (Storing way) _ a within old whole sized suits.0 suits.1 refl move
+  suits_told phase a cursors sized few suits fits same move = absurd move
 
 -- Whether a seat refuses the first step of a call does not depend on the caller's number.
 no_caller : (half : Bool) (s : Seat) (c : ℕ) (call : Call) → refusal_in half s (first_step 0 call) ≡ refusal_in half s (first_step c call)
 no_caller half s c calls.Begin = refl
-no_caller half s c (calls.Op op) = refl
-no_caller half s c calls.Save = refl
-no_caller half s c (calls.Back n) = refl
-no_caller half s c calls.Commit = refl
-no_caller half s c calls.Abort = refl
-no_caller half s c (calls.Help key) = refl
+no_caller half s c call = refl
 
 -- A phase that suits a seat fits it.
 pub suits_fits : (m : State) (c : ℕ) (s : Seat) (call : Call) (phase : Phase) → Suits m s c call phase → Fits s call phase

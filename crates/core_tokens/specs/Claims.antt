@@ -144,9 +144,3 @@ claims_at (ends.Answered (answers.Committed place)) k = given_back k
 claims_at (ends.Answered answers.Aborted) k = given_back k
 claims_at (ends.Busy holder) k = given_back k
 claims_at outcome k = k
-
--- The claims after a call with this end.
-pub record ClaimsAfter (k : Claimed) (call : Call) (outcome : End) (l : Claimed) : Type 0 where
-  pub ready : Claimed
-  pub readied : Readies k call ready
-  pub left : l ≡ claims_at outcome ready

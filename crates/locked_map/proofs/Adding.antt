@@ -1,25 +1,19 @@
 -- A caller's own entries from a position of the history on.
-use Rattle.std.proofs.Common.{◌≡◌, ℕ, ◌+◌, ◌<◌, ◌==◌, ◌↔◌, cond, List, ◌∷◌, drop, get_or, length, ap, sym, ◌∙◌}
+use Rattle.std.proofs.Common.{◌≡◌, ℕ, ◌+◌, ◌<◌, ◌↔◌, List, ◌∷◌, drop, get_or, length}
 use Rattle.std.proofs.lemmas.Bool.{eq-eqb, ne_eqb}
 use Rattle.std.proofs.lemmas.List.{drop_more}
 use Rattle.txn_words.specs.Kinds.{caller_of}
 use Rattle.txn_words.specs.Shape.{own}
 use Rattle.txn_words.specs.declared.entry.Entry.{Entry}
 
--- A caller's own entries from one position on.
-pub own_drop : (c : ℕ) (h : List Entry) (i : ℕ) (d : Entry) → i < length h → own c (drop i h) ≡ cond (caller_of (get_or h i d) == c) (get_or h i d ∷ own c (drop (i + 1) h)) (own c (drop (i + 1) h))
-own_drop c h i d within = ap (own c) (drop_more h i d within)
-
 pub own_more : (c : ℕ) (h : List Entry) (i : ℕ) (e d : Entry) (rest more seen : List Entry) → i < length h → e ≡ get_or h i d → caller_of e ≡ c → rest ≡ e ∷ more
     → (own c (drop i h) ≡ rest) ↔ (own c h ≡ seen) → (own c (drop (i + 1) h) ≡ more) ↔ (own c h ≡ seen)
 own_more c h i e d rest more seen within at mine rest_is inv =
-    let step : own c (drop i h) ≡ e ∷ own c (drop (i + 1) h) =
-    own_drop c h i d within ∙ ap (λ (x : Entry). cond (caller_of x == c) (x ∷ own c (drop (i + 1) h)) (own c (drop (i + 1) h))) (sym at) ∙ ap (λ b. cond b (e ∷ own c (drop (i + 1) h)) (own c (drop (i + 1) h))) (eq-eqb (caller_of e) c mine) in
-    (λ is. inv.0 (step ∙ ap (λ xs. e ∷ xs) is ∙ sym rest_is), λ is. let same : e ∷ own c (drop (i + 1) h) ≡ e ∷ more = sym step ∙ inv.1 is ∙ rest_is in cc same)
+    let step : own c (drop i h) ≡ e ∷ own c (drop (i + 1) h) = rw (drop_more h i d within, ← at, eq-eqb (caller_of e) c mine) in
+    (λ is. inv.0 (cc), λ is. cc (inv.1 is))
 
 pub own_less : (c : ℕ) (h : List Entry) (i : ℕ) (d : Entry) (rest seen : List Entry) → i < length h → (caller_of (get_or h i d) ≡ c → ⊥)
     → (own c (drop i h) ≡ rest) ↔ (own c h ≡ seen) → (own c (drop (i + 1) h) ≡ rest) ↔ (own c h ≡ seen)
 own_less c h i d rest seen within other inv =
-    let step : own c (drop i h) ≡ own c (drop (i + 1) h) =
-    own_drop c h i d within ∙ ap (λ b. cond b (get_or h i d ∷ own c (drop (i + 1) h)) (own c (drop (i + 1) h))) (ne_eqb (caller_of (get_or h i d)) c other) in
-    (λ is. inv.0 (step ∙ is), λ is. sym step ∙ inv.1 is)
+    let step : own c (drop i h) ≡ own c (drop (i + 1) h) = rw (drop_more h i d within, ne_eqb (caller_of (get_or h i d)) c other) in
+    (λ is. inv.0 (cc), λ is. cc (inv.1 is))

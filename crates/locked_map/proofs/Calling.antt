@@ -1,10 +1,9 @@
 -- The caller after a call, from the end that its holds have brought.
-use Rattle.std.proofs.Common.{◌≡◌, ◌∙◌, ℕ, ◌+◌, ◌≤◌, Bool, true, false, not, List, [], ◌∷◌, ◌++◌, Option, None, inl, inr, is_some, length, take, refl, sym, ap, subst}
-use Rattle.std.specs.Prelude.{slice_get}
-use Rattle.std.proofs.lemmas.Bool.{false≢true}
+use Rattle.std.proofs.Common.{◌≡◌, ℕ, Bool, true, false, List, [], Option, None, inl, inr}
+use Rattle.std.proofs.Common.{refl, sym}
+use Rattle.std.proofs.lemmas.Bool.{not-false}
 use Rattle.std.proofs.lemmas.List.{append-nil}
 use Rattle.txn_words.specs.declared.answer.Answer.TheVariants as answers
-use Rattle.txn_words.specs.declared.entry.Entry.{Entry}
 use Rattle.txn_words.specs.declared.refusal.Refusal.{Refusal}
 use Rattle.txn_words.specs.declared.refusal.Refusal.TheVariants.{NoMemory, OutOfStep}
 use Rattle.txn_words.specs.Shape.{Seat, seat_after}
@@ -12,80 +11,43 @@ use Rattle.txn_drive.specs.declared.call.Call.{Call}
 use Rattle.txn_drive.specs.declared.call.Call.TheVariants as calls
 use Rattle.txn_drive.specs.declared.«end».End.{End}
 use Rattle.txn_drive.specs.declared.«end».End.TheVariants as ends
-use Rattle.txn_drive.specs.Made.{IsMade}
 use Rattle.undo_log.specs.SideValue.{Leveled}
-use Rattle.locked_map.specs.Calls.{Ended, Failed, FellOut, FoundNone, IsDone, IsHeld, Passed, Ran, WasRefused, WentOn}
+use Rattle.locked_map.specs.Calls.{Ended, Failed, IsDone, IsHeld, Passed, Ran, WasRefused, WentOn}
 use Rattle.core_tokens.specs.Ready.{IsUnready, Lacks, refused_at, refused_by}
 use Rattle.core_tokens.specs.Claims.{Readies, claims_at}
 use Rattle.core_tokens.specs.Holds.{HasRun, is_out}
 use Rattle.core_tokens.specs.Sides.{Follows}
-use Rattle.undo_log.specs.Sides.{IsBackAt, IsSameSide}
+use Rattle.undo_log.specs.Sides.{IsSameSide}
 use Rattle.core_tokens.specs.Suits.{may_refuse}
 use Rattle.core_tokens.specs.Tokens.{Token, IsSameCaller, IsSameSeen}
 
-back_on : {S : Type 0} (words : S → List ℕ) (level : ℕ) (a b c : Leveled S) → IsSameSide a b → IsBackAt words level b c → IsBackAt words level a c
-back_on words level a b c same on = record {
-  value = ap (λ ls. slice_get ls level) (sym same.levels) ∙ on.value;
-  levels = on.levels ∙ ap (take (level + 1)) same.levels;
-  changes = ap (λ ns. slice_get ns level) (sym same.kept) ∙ on.changes;
-  kept = on.kept ∙ ap (take (level + 1)) same.kept;
-}
-
 -- A side value that follows an end also follows it from an equal value.
 follows_on : {S : Type 0} (words : S → List ℕ) (outcome : End) (a b c : Leveled S) → IsSameSide a b → Follows words outcome b c → Follows words outcome a c
-follows_on words (ends.Answered (answers.Began t)) a b c same on =
-    record { value = on.value ∙ same.value; levels = on.levels ∙ ap (λ v. words v ∷ []) same.value; changes = on.changes; kept = on.kept }
-follows_on words (ends.Answered (answers.Committed p)) a b c same on =
-    record { value = on.value ∙ same.value; levels = on.levels ∙ ap (λ v. words v ∷ []) same.value; changes = on.changes; kept = on.kept }
-follows_on words (ends.Answered (answers.Saved n)) a b c same on =
-    record { value = on.value ∙ same.value; levels = on.levels ∙ cc (same.levels, same.value); changes = on.changes ∙ same.changes; kept = on.kept ∙ cc (same.kept, same.changes) }
-follows_on words (ends.Answered (answers.Returned n)) a b c same on = back_on words n a b c same on
-follows_on words (ends.Answered answers.Aborted) a b c same on = back_on words 0 a b c same on
-follows_on words (ends.Busy holder) a b c same on = back_on words 0 a b c same on
-follows_on words outcome a b c same on =
-    record { value = on.value ∙ same.value; levels = on.levels ∙ same.levels; changes = on.changes ∙ same.changes; kept = on.kept ∙ same.kept }
+follows_on words (ends.Answered (answers.Began t)) a b c same on = record { value = cc; levels = cc; changes = cc; kept = cc }
+follows_on words outcome a b c same on = record { value = cc; levels = cc; changes = cc; kept = cc }
 
 -- A call that its token lets pass: `r` was ready for its holds, which left `h`, and `l` followed
 -- its end.
 module _ {S : Type 0} (words : S → List ℕ) (k r h l : Token S) (call : Call) (free : refused_by k call ≡ None) (same : IsSameSeen k r) (side : IsSameSide k.side r.side) (readied : Readies k.claims call r.claims) (held_side : h.side ≡ r.side)
     (caller : IsSameCaller r h) (kept : h.claims ≡ r.claims) (followed : IsSameSeen h l) where
   whose : IsSameCaller k l
-  whose = record { number = followed.whose.number ∙ caller.number ∙ same.whose.number; limits = followed.whose.limits ∙ caller.limits ∙ same.whose.limits }
+  whose = record { number = cc; limits = cc }
 
   went_on : (outcome : End) → IsHeld r call outcome h → l.claims ≡ claims_at outcome h.claims → WentOn k call outcome l
-  went_on outcome held claims = record { ready = r; same = same; readied = readied; last = h; held = held; seen = followed.seen; claims = claims ∙ ap (claims_at outcome) kept }
+  went_on outcome held claims = record { ready = r; same = same; readied = readied; last = h; held = held; seen = followed.seen; claims = cc }
 
   side_is : (outcome : End) → Follows words outcome h.side l.side → Follows words outcome k.side l.side
-  side_is outcome follows = follows_on words outcome k.side r.side l.side side (subst (λ (x : Leveled S). Follows words outcome x l.side) held_side follows)
-
-  seen_is : (added : List Entry) → h.seen ≡ r.seen ++ added → l.seen ≡ k.seen ++ added
-  seen_is added entries = followed.seen ∙ entries ∙ ap (λ es. es ++ added) same.seen
-
-  ran_of : (outcome : End) → is_out outcome ≡ false → h.broken ≡ is_out outcome → HasRun r.seen h.seen r.number call outcome → IsHeld r call outcome h → Follows words outcome h.side l.side → l.claims ≡ claims_at outcome h.claims → Ran words k call outcome l
-  ran_of outcome plain broken run held follows claims = record {
-    free = free;
-    whose = whose;
-    sound = followed.broken ∙ broken ∙ plain;
-    added = run.added;
-    entries = seen_is run.added run.entries;
-    made = subst (λ (c : ℕ). IsMade c call outcome run.added) same.whose.number run.made;
-    side = side_is outcome follows;
-    went = went_on outcome held claims;
-  }
-
-  plain_may : (b : Bool) → not b ≡ false → b ≡ true
-  plain_may true is = refl
-  plain_may false is = absurd (false≢true (sym is))
+  side_is outcome follows = follows_on words outcome k.side r.side l.side side (rw held_side at follows)
 
   pub ended_of : (outcome : End) → h.broken ≡ is_out outcome → HasRun r.seen h.seen r.number call outcome → IsHeld r call outcome h → Follows words outcome h.side l.side → l.claims ≡ claims_at outcome h.claims → Ended words k call outcome l
   ended_of (ends.Refused OutOfStep) broken run held follows claims = inr (
     free,
     record {
       whose = whose;
-      broken = followed.broken ∙ broken;
+      broken = cc;
       added = run.added;
-      entries = seen_is run.added run.entries;
-      quiet = λ whole. run.quiet (subst (λ es. is_some (seat_after es) ≡ true) followed.seen whole);
+      entries = cc;
+      quiet = λ whole. run.quiet (rw followed.seen at whole);
       side = side_is (ends.Refused OutOfStep) follows;
       cause = inr (went_on (ends.Refused OutOfStep) held claims);
     },
@@ -93,17 +55,24 @@ module _ {S : Type 0} (words : S → List ℕ) (k r h l : Token S) (call : Call)
   ended_of (ends.Refused refusal) broken run held follows claims = inr (
     free,
     record {
-      may = plain_may (may_refuse call refusal) run.may;
+      may = not-false (may_refuse call refusal) run.may;
       whose = whose;
-      sound = followed.broken ∙ broken;
-      seen = followed.seen ∙ run.entries ∙ ap (λ es. r.seen ++ es) run.made ∙ append-nil r.seen ∙ same.seen;
+      sound = cc;
+      seen = cc (run.made, append-nil r.seen);
       side = side_is (ends.Refused refusal) follows;
       cause = inr (went_on (ends.Refused refusal) held claims);
     },
   )
-  ended_of (ends.Answered a) broken run held follows claims = ran_of (ends.Answered a) refl broken run held follows claims
-  ended_of ends.Helped broken run held follows claims = ran_of ends.Helped refl broken run held follows claims
-  ended_of (ends.Busy x) broken run held follows claims = ran_of (ends.Busy x) refl broken run held follows claims
+  ended_of outcome broken run held follows claims = record {
+    free = free;
+    whose = whose;
+    sound = cc;
+    added = run.added;
+    entries = cc;
+    made = rw same.whose.number at run.made;
+    side = side_is outcome follows;
+    went = went_on outcome held claims;
+  }
 
 -- A call that did what it was asked to do.
 pub passed_of : {S : Type 0} (words : S → List ℕ) (k l : Token S) (call : Call) (outcome : End) → IsDone outcome → Ran words k call outcome l → Passed k call l
@@ -116,21 +85,19 @@ module _ {S : Type 0} (k l : Token S) where
   free_sound half false o call free = refl
 
   found_none : (call : Call) (refusal : Refusal) → may_refuse call NoMemory ≡ true → k.broken ≡ false → refusal ≡ NoMemory → l ≡ k → Failed k call refusal l
-  found_none call refusal may sound is same =
-      subst (λ r. Failed k call r l) (sym is) (subst (λ (x : Token S). FoundNone k call NoMemory x) (sym same) none)
-    where
-      none : FoundNone k call NoMemory k
-      none = record {
-        may = may;
-        whose = record { number = refl; limits = refl };
-        sound = sound;
-        seen = refl;
-        side = record { value = refl; levels = refl; changes = refl; kept = refl };
-        cause = inl (refl, refl);
-      }
+  found_none call refusal may sound is same = rw (is, same) (record {
+    may = may;
+    whose = record { number = refl; limits = refl };
+    sound = sound;
+    seen = refl;
+    side = record { value = refl; levels = refl; changes = refl; kept = refl };
+    cause = inl (refl, refl);
+  })
 
-  fell_out : (level : ℕ) → length k.side.levels ≤ level → FellOut k (calls.Back level) (record k { broken = true })
-  fell_out level above = record {
+  lacked : (call : Call) (refusal : Refusal) → k.broken ≡ false → Lacks k call refusal l → Failed k call refusal l
+  lacked (calls.Op op) refusal sound (is, same) = found_none (calls.Op op) refusal refl sound is same
+  lacked calls.Save refusal sound (is, same) = found_none calls.Save refusal refl sound is same
+  lacked (calls.Back level) refusal sound (is, above, same) = rw (is, same) (record {
     whose = record { number = refl; limits = refl };
     broken = refl;
     added = [];
@@ -138,17 +105,8 @@ module _ {S : Type 0} (k l : Token S) where
     quiet = λ whole. refl;
     side = record { value = refl; levels = refl; changes = refl; kept = refl };
     cause = inl (above, refl, refl);
-  }
-
-  lacked : (call : Call) (refusal : Refusal) → k.broken ≡ false → Lacks k call refusal l → Failed k call refusal l
-  lacked calls.Begin refusal sound none = absurd none
-  lacked (calls.Op op) refusal sound (is, same) = found_none (calls.Op op) refusal refl sound is same
-  lacked calls.Save refusal sound (is, same) = found_none calls.Save refusal refl sound is same
-  lacked (calls.Back level) refusal sound (is, above, same) =
-      subst (λ r. Failed k (calls.Back level) r l) (sym is) (subst (λ (x : Token S). FellOut k (calls.Back level) x) (sym same) (fell_out level above))
-  lacked calls.Commit refusal sound none = absurd none
-  lacked calls.Abort refusal sound none = absurd none
-  lacked (calls.Help key) refusal sound none = absurd none
+  })
+  lacked call refusal sound none = absurd none
 
   pub was_refused : (call : Call) (refusal : Refusal) → IsUnready k call refusal l → WasRefused k call refusal l
   was_refused call refusal (inl by_token) = inl by_token

@@ -1,5 +1,5 @@
 -- A call in progress, from hold to hold.
-use Rattle.std.proofs.Common.{◌≡◌, ◌∙◌, ℕ, suc, [], ◌++◌, Option, Some, None, refl, sym, ap, subst}
+use Rattle.std.proofs.Common.{◌≡◌, ℕ, suc, [], Option, Some, None, refl, ap}
 use Rattle.std.proofs.lemmas.List.{append-nil}
 use Rattle.std.specs.List.{filter}
 use Rattle.txn_words.specs.Kinds.{is_commit}
@@ -29,24 +29,18 @@ pub record Starts {S : Type 0} (k : Token S) (call : Call) (d : Drive) : Type 0 
 pub starts : {S : Type 0} (k : Token S) (call : Call) (d : Drive) (limits : Sizes) (number : ℕ) → limits ≡ k.limits → number ≡ k.number → d ≡ new_drive limits.half number call → made d ≡ []
     → FitsIf (seat_after k.seen) call (first_phase k.limits.half call) → Starts k call d
 starts k call d limits number limits_are number_is drive none fits =
-    let new : d ≡ new_drive k.limits.half k.number call = drive ∙ (λ i. new_drive (limits_are i).half (number_is i) call) in record {
-      going = record {
-        on = record {
-          entries = sym (ap (λ es. k.seen ++ es) none ∙ append-nil k.seen);
-          fits = subst (λ (x : Drive). FitsIf (seat_after k.seen) x.call x.phase) (sym new) fits;
-        };
-        quiet = new_quiet d none;
-      };
-      whose = ap (λ (x : Drive). x.caller) new;
-      what = ap (λ (x : Drive). x.call) new;
+    let new : d ≡ new_drive k.limits.half k.number call = rw (drive, limits_are, number_is) in record {
+      going = record { on = record { entries = cc (append-nil k.seen); fits = rw new fits }; quiet = new_quiet d none };
+      whose = rw new;
+      what = rw new;
       holding = record { holds = 0; held = (refl, new) };
     }
 
 -- A hold that has not ended it, and the one that has.
 pub holds_on : {S : Type 0} (k between l : Token S) (call : Call) (half e : Drive) (m n : State) (r : Option End) → IsHolding k call between half → r ≡ None → Held m between half r n l e → IsHolding k call l e
 holds_on k between l call half e m n r on none held =
-    record { holds = suc on.holds; held = (between, half, m, n, on.held, subst (λ o. Held m between half o n l e) none held) }
+    record { holds = suc on.holds; held = (between, half, m, n, on.held, rw none at held) }
 
 pub is_held : {S : Type 0} (k between l : Token S) (call : Call) (half e : Drive) (m n : State) (r : Option End) (outcome : End) → IsHolding k call between half → r ≡ Some outcome → Held m between half r n l e → IsHeld k call outcome l
 is_held k between l call half e m n r outcome on is held =
-    record { between = between; half = half; holding = on; before = m; after = n; last = e; held = subst (λ o. Held m between half o n l e) is held }
+    record { between = between; half = half; holding = on; before = m; after = n; last = e; held = rw is at held }

@@ -1,5 +1,6 @@
 -- The refusal of help for its key.
-use Rattle.std.proofs.Common.{◌≡◌, ◌↔◌, ◌∙◌, ℕ, Bool, true, false, if◌then◌else◌, List, Option, Some, None, Result, Ok, Err, inl, inr, is_some, refl, sym, ap, subst}
+use Rattle.std.proofs.Common.{◌≡◌, ◌↔◌, ◌∙◌, ℕ, Bool, true, false, if◌then◌else◌, List, Option, Some, None, Result, Err, inl, inr}
+use Rattle.std.proofs.Common.{is_some, refl, sym, ap}
 use Rattle.std.proofs.lemmas.Bool.{false≢true}
 use Rattle.txn_words.specs.declared.refusal.Refusal.TheVariants.{BadKey}
 use Rattle.txn_words.specs.Shape.{Seat, seat_after}
@@ -12,9 +13,8 @@ use Rattle.map_answers.specs.declared.stop.Stop.{Stop}
 use Rattle.map_answers.specs.declared.stop.Stop.TheVariants as stops
 
 help_at : (half b : Bool) (o : Option Seat) (key : ℕ) → b ≡ false → is_some o ≡ true → refused_at half b o (calls.Help key) ≡ (if is_bad_key half key then Some BadKey else None)
-help_at half true o key sound whole = absurd (false≢true (sym sound))
-help_at half false None key sound whole = absurd (false≢true whole)
-help_at half false (Some s) key sound whole = refl
+help_at half b None key sound whole = absurd (cc whole)
+help_at half b (Some s) key sound whole = rw sound
 
 bad_only : (bad : Bool) → (if bad then Some BadKey else None) ≡ Some BadKey → bad ≡ true
 bad_only true is = refl
@@ -25,16 +25,15 @@ refused_bad k l key at (inl by_token) = bad_only (is_bad_key k.limits.half key) 
 refused_bad k l key at (inr later) = absurd (false≢true later.1.may)
 
 bad_refused : {S T : Type 0} (words : S → List ℕ) (k l : Token S) (key : ℕ) (r : Result T Stop) → refused_by k (calls.Help key) ≡ Some BadKey → LeavesBy words k (calls.Help key) r l → r ≡ Err (stops.Refused BadKey)
-bad_refused words k l key (Ok reply) at leaves = absurd (cc (at, leaves.free))
-bad_refused words k l key (Err (stops.Busy holder)) at leaves = absurd (cc (at, leaves.free))
-bad_refused words k l key (Err (stops.Refused refusal)) at (inl by_token) = ap (λ x. Err (stops.Refused x)) (cc (at, by_token.0))
+bad_refused words k l key (Err (stops.Refused refusal)) at (inl by_token) = cc (at, by_token.0)
 bad_refused words k l key (Err (stops.Refused refusal)) at (inr later) = absurd (cc (at, later.0))
+bad_refused words k l key r at leaves = absurd (cc (at, leaves.free))
 
 -- Help is refused for its key exactly if the key is bad.
 pub help_bad_key : {S T : Type 0} (words : S → List ℕ) (k l : Token S) (key : ℕ) (r : Result T Stop) → (k.broken ≡ false → is_some (seat_after k.seen) ≡ true) → LeavesBy words k (calls.Help key) r l
     → k.broken ≡ false → (r ≡ Err (stops.Refused BadKey)) ↔ (is_bad_key k.limits.half key ≡ true)
 help_bad_key words k l key r rows leaves sound =
     let at = help_at k.limits.half k.broken (seat_after k.seen) key sound (rows sound) in (
-      (λ is. refused_bad k l key at (subst (λ x. LeavesBy words k (calls.Help key) x l) is leaves)),
+      (λ is. refused_bad k l key at (rw is at leaves)),
       λ bad. bad_refused words k l key r (at ∙ ap (λ b. if b then Some BadKey else None) bad) leaves,
     )

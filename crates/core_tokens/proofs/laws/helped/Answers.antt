@@ -1,4 +1,4 @@
-use Rattle.core_tokens.proofs.Helped.{heads, stays, stored, at_once}
+use Rattle.core_tokens.proofs.Helped.{heads, stays, stored}
 use Rattle.core_tokens.proofs.laws.helped.Goals as goal
 
 pub returns-clause-heads : goal.returns-clause-heads
@@ -9,6 +9,3 @@ returns-clause-stays g c = stays
 
 pub returns-clause-stored : goal.returns-clause-stored
 returns-clause-stored g c = stored
-
-pub returns-clause-at_once : goal.returns-clause-at_once
-returns-clause-at_once g c = at_once

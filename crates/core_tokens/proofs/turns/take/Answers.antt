@@ -1,11 +1,8 @@
-use Rattle.std.proofs.Common.{◌≡◌, true, subst}
-use Rattle.txn_words.specs.Entries.{entries_of}
-use Rattle.txn_words.specs.Sizes.{Sizes, are_limits}
-use Rattle.core_tokens.specs.Claims.{claim_in}
-use Rattle.core_tokens.proofs.Claiming.{counted_more, goes_over}
-use Rattle.core_tokens.proofs.Smalls.{small_added}
-use Rattle.core_tokens.proofs.Stepping.{in_step_told}
+use Rattle.std.proofs.Common.{◌≡◌, subst, true}
+use Rattle.core_tokens.proofs.Vocabulary.{Sizes, are_limits}
+use Rattle.core_tokens.proofs.Claiming.{counted_more, goes_over, small_added}
 use Rattle.core_tokens.proofs.Going.{goes_told}
+use Rattle.core_tokens.proofs.Stepping.{in_step_told}
 use Rattle.core_tokens.proofs.turns.take.Goals as goal
 
 pub returns-clause-in_step : goal.returns-clause-in_step
@@ -17,13 +14,9 @@ pub returns-clause-goes : goal.returns-clause-goes
 returns-clause-goes g c = λ base goes. goes_told base _ _ _ _ c.args.step c.step-answer.result c.requires.step c.requires.may.whole c.note.ensures.entries c.told.ensures.drive goes
 
 pub invariant_of-booked-clause-counted : goal.invariant_of-booked-clause-counted
-invariant_of-booked-clause-counted g c =
-    counted_more c.args.booked.now.core.history c.step-answer.new.core.history (entries_of c.args.step c.step-answer.result) c.args.booked.now.book.total c.note.new.book.total c.args.booked.now.counted c.note.ensures.book
-    (goes_over (claim_in c.args.claims.now.tried c.args.booked.now.core c.args.step) c.args.booked.now.core c.step-answer.new.core c.args.step c.step-answer.result c.step-answer.ensures.goes).history
+invariant_of-booked-clause-counted g c = counted_more _ _ _ _ _ c.args.booked.now.counted c.note.ensures.book (goes_over _ _ _ _ _ c.step-answer.ensures.goes).history
 
 pub note-requires-clause-small : goal.note-requires-clause-small
 note-requires-clause-small g c =
-    small_added c.args.booked.now.core c.step-answer.new.core c.args.step c.step-answer.result
-    (goes_over (claim_in c.args.claims.now.tried c.args.booked.now.core c.args.step) c.args.booked.now.core c.step-answer.new.core c.args.step c.step-answer.result c.step-answer.ensures.goes)
-    c.trace-after.ensures.callers c.trace-after.ensures.legal
+    small_added _ _ c.args.step c.step-answer.result (goes_over _ _ _ _ _ c.step-answer.ensures.goes) c.trace-after.ensures.callers c.trace-after.ensures.legal
     (subst (λ (l : Sizes). are_limits l.callers l.stripes l.buckets ≡ true) c.limits.ensures c.callers-fits.ensures.limits)

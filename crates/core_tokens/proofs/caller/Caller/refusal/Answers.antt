@@ -1,13 +1,16 @@
-use Rattle.std.proofs.Common.{◌≡◌, ◌∙◌, ap, subst}
-use Rattle.txn_words.specs.Seats.{refusal_in}
-use Rattle.txn_words.specs.Shape.{seat_after}
-use Rattle.core_tokens.specs.Ready.{refused_by}
-use Rattle.core_tokens.proofs.Refusing.{refuses}
+use Rattle.std.proofs.Common.{◌∙◌, ◌≡◌, Bool, None, Option, Some, ap, false, is_some, refl, true}
+use Rattle.core_tokens.proofs.Vocabulary.{Call, Refusal, Seat, first_step, refusal_in}
+use Rattle.std.specs.Option.{option_or}
+use Rattle.core_tokens.specs.Ready.{refused_at, refused_help}
 use Rattle.core_tokens.proofs.caller.Caller.refusal.Goals as goal
 
+-- The refusal of a call, from those of its seat and of help.
+refuses : (half b : Bool) (o : Option Seat) (call : Call) (seat help r : Option Refusal) → b ≡ false → is_some o ≡ true
+    → ((s : Seat) → o ≡ Some s → seat ≡ refusal_in half s (first_step 0 call)) → help ≡ refused_help half call → r ≡ option_or seat help → r ≡ refused_at half b o call
+refuses half b None call seat help r sound whole seat_is help_is is = absurd (cc whole)
+refuses half b (Some s) call seat help r sound whole seat_is help_is is = rw (sound, is, help_is, seat_is s refl)
+
 pub returns-clause-refusal : goal.returns-clause-refusal
-returns-clause-refusal g c =
-    subst (λ t. c.or.result ≡ refused_by t c.args.call) c.self.view_is (
-    refuses c.self.inside.limits.half c.self.inside.is_broken (seat_after c.self.inside.seen.entries) c.args.call c.refusal-by_seat.result c.help_refusal.result c.or.result c.if-self.false c.self.invariant.1
-    (λ s at. c.refusal-by_seat.ensures s at ∙ ap (refusal_in c.self.inside.limits.half s) c.first_step.ensures) c.help_refusal.ensures c.or.ensures
+returns-clause-refusal g c = rw (← c.self.view_is) (
+    refuses _ _ _ _ _ _ _ c.if-self.false (c.self.invariant.1 c.if-self.false) (λ s at. c.refusal-by_seat.ensures s at ∙ ap (refusal_in c.self.inside.limits.half s) c.first_step.ensures) c.help_refusal.ensures c.or.ensures
     )
