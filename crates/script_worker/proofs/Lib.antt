@@ -1,6 +1,7 @@
 pub mod Attempting
 pub mod Undoing
 pub mod Chunks
+pub mod Places
 pub mod Every
 pub mod Accounts
 pub mod Parts

@@ -1,8 +1,6 @@
 -- A committed transaction has its commit number as its position among the commits.
-use Rattle.std.proofs.Common.{◌≡◌, ℕ, ◌+◌, ◌-◌, ◌<◌, true, cond, List, [], ◌∷◌, ◌++◌, length, length-append, Some, None, sym, ap, subst, ◌∙◌, inl, inr, arith}
-use Prim.Native.Nat.{zero, suc}
-use Rattle.std.specs.List.{cons_option, slice_get}
-use Rattle.std.proofs.lemmas.Bool.{eqb-true}
+use Rattle.std.proofs.Common.{◌≡◌, ℕ, ◌+◌, ◌-◌, ◌<◌, true, cond, List, [], ◌∷◌, ◌++◌, length, length-append, slice_get, Some, None, sym, ap, subst, ◌∙◌, inl, inr, arith, eqb-true}
+use Rattle.std.specs.List.{cons_option}
 use Rattle.std.proofs.lemmas.List.{same_from_push, get_or_append_left}
 use Rattle.std.proofs.lemmas.Option.{slice_get_within, get_or_from_slice_get, slice_get-get_or}
 use Rattle.txn_words.specs.declared.entry.Entry.{Entry}
@@ -15,18 +13,13 @@ use Rattle.txn_trace.proofs.Callers.{Callers, shaped_number, in_or_out}
 use Rattle.txn_trace.proofs.Inductions.{by_entries}
 use Rattle.txn_trace.proofs.Steps.{txns_of-push, commits_are}
 use Rattle.txn_trace.proofs.Counts.{length-commits}
+use Rattle.script_worker.proofs.Places.{get_last}
 
 -- An element of a list is at the same position of a longer one.
 get_front : {X : Type 0} (xs ys : List X) (i : ℕ) (x : X) → slice_get xs i ≡ Some x → slice_get (xs ++ ys) i ≡ Some x
 get_front xs ys i x is =
     let within : i < length xs = slice_get_within xs i x is in
-    let longer : length (xs ++ ys) ≡ length xs + length ys = length-append xs ys in
-    slice_get-get_or (xs ++ ys) i x (omega arith) ∙ ap Some (get_or_append_left xs ys x i within ∙ get_or_from_slice_get xs i x x is)
-
-get_last : {X : Type 0} (xs : List X) (x : X) (i : ℕ) → i ≡ length xs → slice_get (xs ++ x ∷ []) i ≡ Some x
-get_last [] x i is = ap (λ j. slice_get (x ∷ []) j) is
-get_last (y ∷ xs) x zero is = let no : zero ≡ suc (length xs) = is in absurd (omega arith)
-get_last (y ∷ xs) x (suc i) is = get_last xs x i (let same : suc i ≡ suc (length xs) = is in omega arith)
+    slice_get-get_or (xs ++ ys) i x (omega (arith, length-append xs ys)) ∙ ap Some (get_or_append_left xs ys x i within ∙ get_or_from_slice_get xs i x x is)
 
 abbrev IsPlaced : List Entry → Type 0
 IsPlaced h = (t c p : ℕ) (front : List Entry) → of t h ≡ front ++ Committed c p ∷ [] → slice_get (txns_of is_commit h) (p - 1) ≡ Some t

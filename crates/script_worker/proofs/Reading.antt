@@ -1,9 +1,8 @@
 -- The committed transactions of a caller, found in its own entries.
-use Rattle.std.proofs.Common.{◌≡◌, ℕ, ◌==◌, ◌&&◌, Bool, true, false, cond, List, [], ◌∷◌, ◌++◌, Some, None, Option, refl, sym, ap, ◌∙◌, inl, inr}
-use Rattle.std.specs.List.{fold, cons_option}
-use Rattle.std.proofs.lemmas.Bool.{false≢true, eq-eqb, cases_eq, ne_eqb}
-use Rattle.std.proofs.Math.Bool.{and-false}
-use Rattle.std.proofs.lemmas.List.{append-nil}
+use Rattle.std.proofs.Common.{◌≡◌, ℕ, ◌==◌, ◌&&◌, Bool, true, false, cond, List, [], ◌∷◌, ◌++◌, append-nil, fold, Some, None, Option, refl, sym, ap, ◌∙◌, inl, inr, eq-eqb, ne_eqb}
+use Rattle.std.specs.List.{cons_option}
+use Rattle.std.proofs.lemmas.Bool.{cases_eq}
+use Rattle.std.proofs.Math.Bool.{and-true, and-false}
 use Rattle.std.proofs.lemmas.List.Sums.{fold-append}
 use Rattle.txn_words.specs.declared.entry.Entry.{Entry}
 use Rattle.txn_words.specs.declared.entry.Entry.TheVariants.{Began, Committed}
@@ -27,15 +26,15 @@ abbrev pub ended_txns : Option ℕ → List Entry → List ℕ
 ended_txns o [] = []
 ended_txns o (e ∷ es) = cons_option (cond (is_commit e) (next_txn o e) None) (ended_txns (next_txn o e) es)
 
+pub cons_append : {X : Type 0} (o : Option X) (xs ys : List X) → cons_option o (xs ++ ys) ≡ cons_option o xs ++ ys
+cons_append None xs ys = refl
+cons_append (Some x) xs ys = refl
+
 pub ended-append : (o : Option ℕ) (xs ys : List Entry) → ended_txns o (xs ++ ys) ≡ ended_txns o xs ++ ended_txns (fold next_txn o xs) ys
 ended-append o [] ys = refl
 ended-append o (x ∷ xs) ys =
     let first : Option ℕ = cond (is_commit x) (next_txn o x) None in
     ap (cons_option first) (ended-append (next_txn o x) xs ys) ∙ cons_append first (ended_txns (next_txn o x) xs) (ended_txns (fold next_txn (next_txn o x) xs) ys)
-  where
-    cons_append : (o : Option ℕ) (ts us : List ℕ) → cons_option o (ts ++ us) ≡ cons_option o ts ++ us
-    cons_append None ts us = refl
-    cons_append (Some t) ts us = refl
 
 pub record IsRead (c : ℕ) (h : List Entry) : Type 0 where
   pub last : txn_in h c ≡ fold next_txn None (own c h)
@@ -71,10 +70,6 @@ read_push c g e r = elim (cases_eq (caller_of e) c) [
             ∙ append-nil (commits_of c g) ∙ r.all ∙ ap (ended_txns None) (sym own_is);
       }
 ]
-  where
-    and-true : (b : Bool) → (b && true) ≡ b
-    and-true true = refl
-    and-true false = refl
 
 pub are_read : (c : ℕ) (h : List Entry) → IsShaped h → IsRead c h
 are_read c = by_entries (IsRead c) (λ g e shape callers shaped r. read_push c g e r) (record { last = refl; all = refl })
@@ -87,7 +82,7 @@ quiet_txns o (Committed c p ∷ es) quiet = absurd (cc quiet)
 quiet_txns o (Began c t ∷ es) quiet = quiet_txns (Some t) es quiet
 quiet_txns o (e ∷ es) quiet = quiet_txns o es quiet
 
-pub same_txn : (o : Option ℕ) (es : List Entry) (e : Entry) → BeginNothing (es ++ e ∷ []) → fold next_txn o es ≡ o
-same_txn o [] e quiet = refl
-same_txn o (Began c t ∷ es) e quiet = absurd (false≢true (sym quiet.0))
-same_txn o (f ∷ es) e quiet = same_txn o es e quiet.1
+pub same_txn : (o : Option ℕ) (es : List Entry) → BeginNothing es → fold next_txn o es ≡ o
+same_txn o [] quiet = refl
+same_txn o (Began c t ∷ es) quiet = absurd (cc quiet)
+same_txn o (e ∷ es) quiet = same_txn o es quiet

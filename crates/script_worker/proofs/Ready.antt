@@ -1,7 +1,5 @@
 -- A worker with a script left has a step to take.
-use Rattle.std.proofs.Common.{◌≡◌, ℕ, ◌+◌, nat_lt, Bool, true, false, if◌then◌else◌, List, length, Option, Some, None, inl, inr, ◌⊎◌, refl, sym, ap, subst, ◌∙◌}
-use Rattle.std.specs.Prelude.{is_some, slice_get}
-use Rattle.std.specs.Option.{option_and_then}
+use Rattle.std.proofs.Common.{◌≡◌, ℕ, ◌+◌, nat_lt, Bool, true, false, if◌then◌else◌, List, length, slice_get, Option, Some, None, is_some, option_and_then, inl, inr, ◌⊎◌, refl, sym, ap, subst, ◌∙◌}
 use Rattle.txn_words.specs.declared.action.Action.{Action}
 use Rattle.txn_words.specs.declared.action.Action.TheVariants as actions
 use Rattle.txn_words.specs.declared.answer.Answer.{Answer}
@@ -40,7 +38,7 @@ steps_in c call phase is = absurd (cc is)
 abbrev HasStep : Drive → Type 0
 HasStep drive = is_some (step_of drive) ≡ true
 
-steps_ended : (o : Option Step) (drive : Drive) → step_of drive ≡ o → is_some o ≡ true → end_of drive ≡ None
+pub steps_ended : (o : Option Step) (drive : Drive) → step_of drive ≡ o → is_some o ≡ true → end_of drive ≡ None
 steps_ended None drive is some = absurd (cc some)
 steps_ended (Some step) drive is some = goes_on drive step is
 
@@ -94,18 +92,13 @@ module _ (scripts : List (List Action)) (tries w : ℕ) (limits : Sizes) where
 
   ready_action : (half : Bool) (again : ℕ) (task : Task) (script : List Action) (i c : ℕ) (o : Option Action) (outcome : End)
       → slice_get script i ≡ o → end_of (new_drive half c (call_of o)) ≡ Some outcome → FollowsReady task script (progress_at script tries again (stages.Acting i) outcome)
-  ready_action half again task script i c None outcome here ended = absurd (cc ended)
   ready_action half again task script i c (Some (actions.Help key)) outcome here ended = bad_help again task script i c key (is_bad_key half key) outcome here ended
-  ready_action half again task script i c (Some (actions.Op op)) outcome here ended = absurd (cc ended)
-  ready_action half again task script i c (Some actions.Save) outcome here ended = absurd (cc ended)
-  ready_action half again task script i c (Some (actions.Back n)) outcome here ended = absurd (cc ended)
-  ready_action half again task script i c (Some actions.Abort) outcome here ended = absurd (cc ended)
+  ready_action half again task script i c o outcome here ended = absurd (cc ended)
 
   ready_stage : (half : Bool) (again : ℕ) (task : Task) (script : List Action) (c : ℕ) (stage : Stage) (outcome : End)
       → end_of (new_drive half c (call_at script stage)) ≡ Some outcome → FollowsReady task script (progress_at script tries again stage outcome)
-  ready_stage half again task script c stages.Beginning outcome ended = absurd (cc ended)
   ready_stage half again task script c (stages.Acting i) outcome ended = ready_action half again task script i c (slice_get script i) outcome refl ended
-  ready_stage half again task script c (stages.Leaving refusal) outcome ended = absurd (cc ended)
+  ready_stage half again task script c stage outcome ended = absurd (cc ended)
 
   -- The second settling.
   ready_progressed : (task : Task) (outcome : End) → end_of task.drive ≡ Some outcome → HasStep task.drive ⊎ IsCalled scripts task → IsReadyTask (progressed scripts tries w limits task outcome)
