@@ -1,11 +1,7 @@
 -- The accounts of a caller's scripts, with one more script, and the scripts that they play.
 use Rattle.std.proofs.Common.{◌≡◌, ℕ, suc, ◌+◌, ◌*◌, ◌<◌, ◌≤◌, List, [], ◌∷◌, ◌++◌, length, slice_get, filter_map, Some, refl, sym, ap, subst, ◌∙◌, arith, suc-mul, mod-eq_of_lt}
-use Rattle.std.specs.List.{AllByRecursion}
-use Rattle.std.proofs.lemmas.Option.{slice_get_within}
+use Rattle.script_worker.proofs.Vocabulary.{AllByRecursion, slice_get_within, Action, Entry, PlayRising, commits_of}
 use Rattle.std.proofs.Math.Nat.{add-mul-mod_self_right}
-use Rattle.txn_words.specs.declared.action.Action.{Action}
-use Rattle.txn_words.specs.declared.entry.Entry.{Entry}
-use Rattle.txn_trace.specs.Plays.{PlayRising, commits_of}
 use Rattle.script_worker.specs.Accounts as accounts
 use Rattle.script_worker.specs.Accounts.{Outcome, IsAccount, AreAccounts, AreTrue, HasCome, every, tolds_of, txn_in}
 use Rattle.script_worker.proofs.Attempting.{accounts_more}

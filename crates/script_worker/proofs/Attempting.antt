@@ -1,13 +1,6 @@
 -- The growth of a caller's account of a script, attempt by attempt and call by call.
 use Rattle.std.proofs.Common.{◌≡◌, ℕ, ◌+◌, ◌≤◌, Bool, List, [], ◌∷◌, ◌++◌, not, filter, length, length-append, append_assoc, append-nil, Option, refl, sym, ap, subst, ◌∙◌, arith}
-use Rattle.std.proofs.lemmas.List.Elements.{filter-append, filter_map-append}
-use Rattle.txn_words.specs.declared.action.Action.{Action}
-use Rattle.txn_words.specs.declared.entry.Entry.{Entry}
-use Rattle.txn_words.specs.declared.entry.Entry.TheVariants.{Began, Committed}
-use Rattle.txn_words.specs.Shape.{how_many}
-use Rattle.txn_trace.specs.Plays.{is_undone, without_undone, ArePlayed, IsPlayed}
-use Rattle.txn_drive.specs.Made.{CommitNothing}
-use Rattle.txn_drive.proofs.Quiet.{append_quiet}
+use Rattle.script_worker.proofs.Vocabulary.{filter-append, filter_map-append, Action, Entry, Began, Committed, how_many, is_undone, without_undone, ArePlayed, IsPlayed, CommitNothing, append_quiet}
 use Rattle.script_worker.specs.Chunks.{IsFront}
 use Rattle.script_worker.specs.Accounts.{Outcome, Told, is_busy, reply_in, replies_in, AreBusy, IsPlayedBy, IsAccount, AreAccounts}
 

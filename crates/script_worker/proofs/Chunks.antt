@@ -1,27 +1,16 @@
 -- The growth of a caller's account of a script with each call: the chunk of its entries since the
 -- script began.
 use Rattle.std.proofs.Common.{◌≡◌, ℕ, suc, ◌+◌, ◌≤◌, ◌<◌, nat_lt, Bool, true, false, not, if◌then◌else◌, List, [], ◌∷◌, ◌++◌, append_assoc, append-nil, length, drop, drop-cons, filter, slice_get, Option, Some, None, refl, sym, ap, subst, ◌∙◌, arith, ltb-false}
-use Rattle.std.proofs.lemmas.List.{drop_all}
-use Rattle.std.proofs.lemmas.Option.{slice_get_within, get_or_from_slice_get}
-use Rattle.txn_words.specs.declared.action.Action.{Action}
+use Rattle.script_worker.proofs.Vocabulary.{drop_all, slice_get_within, get_or_from_slice_get, Action, Answer, Entry, OutOfStep, is_commit, is_undone, without_undone, ArePlayed, Call, End, undone_by, IsMade, IsRefused, CommitNothing, IsQuiet, append_quiet}
 use Rattle.txn_words.specs.declared.action.Action.TheVariants as actions
-use Rattle.txn_words.specs.declared.answer.Answer.{Answer}
 use Rattle.txn_words.specs.declared.answer.Answer.TheVariants as answers
-use Rattle.txn_words.specs.declared.entry.Entry.{Entry}
 use Rattle.txn_words.specs.declared.entry.Entry.TheVariants as entries
 use Rattle.txn_words.specs.declared.refusal.Refusal.{Refusal}
-use Rattle.txn_words.specs.declared.refusal.Refusal.TheVariants.{OutOfStep}
-use Rattle.txn_words.specs.Kinds.{is_commit}
-use Rattle.txn_trace.specs.Plays.{is_undone, without_undone, ArePlayed}
 use Rattle.script_worker.specs.Accounts.{is_busy, replies_in, AreBusy, IsAccount}
 use Rattle.script_worker.specs.Chunks.{Heard, first_heard, txn_then, replies_then, heard_then, outcome_by, IsFront, IsAtStage, IsChunk}
 use Rattle.script_worker.proofs.Attempting.{busy_none, busy_more, busy_fewer, front_begun, front_more, front_committed}
-use Rattle.txn_drive.specs.declared.call.Call.{Call}
 use Rattle.txn_drive.specs.declared.call.Call.TheVariants as calls
-use Rattle.txn_drive.specs.declared.«end».End.{End}
 use Rattle.txn_drive.specs.declared.«end».End.TheVariants as ends
-use Rattle.txn_drive.specs.Made.{undone_by, IsMade, IsRefused, CommitNothing, IsQuiet}
-use Rattle.txn_drive.proofs.Quiet.{append_quiet}
 use Rattle.script_worker.specs.declared.attempt.Stage.{Stage}
 use Rattle.script_worker.specs.declared.attempt.Stage.TheVariants.{Beginning, Acting, Leaving}
 use Rattle.script_worker.specs.declared.attempt.Attempt.{Attempt}

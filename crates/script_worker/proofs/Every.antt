@@ -1,7 +1,7 @@
 -- Every n-th element of a list, as it grows; and rows that are merged, one element after the other.
 use Rattle.std.proofs.Common.{◌≡◌, ℕ, zero, suc, ◌+◌, ◌-◌, ◌*◌, ◌/◌, ◌%◌, ◌<◌, ◌≤◌, List, [], ◌∷◌, ◌++◌, length, map, slice_get, refl, sym, ap, ◌∙◌, arith, suc-mul, mod-eq_of_lt}
+use Rattle.script_worker.proofs.Vocabulary.{slice_get_within, slice_get_past}
 use Rattle.std.proofs.Math.Nat.{mod-add-div', add-mul-mod_self_right}
-use Rattle.std.proofs.lemmas.Option.{slice_get_within, slice_get_past}
 use Rattle.script_worker.specs.Accounts.{every}
 use Rattle.script_worker.proofs.Places.{get_empty, get_none, get_within}
 

@@ -1,18 +1,9 @@
 -- A worker keeps to its scripts with each answer, and when it moves on to its next call.
 use Rattle.std.proofs.Common.{[], ◌≡◌, ℕ, suc, ◌+◌, ◌*◌, ◌<◌, nat_lt, Bool, true, false, if◌then◌else◌, List, ◌∷◌, ◌++◌, append_assoc, append-nil, length, length-append, get_or, slice_get, Option, Some, None, option_and_then, refl, sym, ap, subst, ◌∙◌, arith, suc-mul, ltb-true}
-use Rattle.std.proofs.lemmas.Option.{slice_get-get_or}
-use Rattle.txn_words.specs.declared.action.Action.{Action}
-use Rattle.txn_words.specs.declared.answer.Answer.{Answer}
-use Rattle.txn_words.specs.declared.entry.Entry.{Entry}
-use Rattle.txn_words.specs.declared.step.Step.{Step}
+use Rattle.script_worker.proofs.Vocabulary.{slice_get-get_or, Action, Answer, Entry, Step, Call, End, Drive, sized_of, told_of, end_of, new_drive, made, IsMade}
 use Rattle.txn_words.specs.Entries.{entries_of}
 use Rattle.txn_words.specs.Sizes.{Sizes}
-use Rattle.txn_drive.specs.declared.call.Call.{Call}
 use Rattle.txn_drive.specs.declared.call.Call.TheVariants as calls
-use Rattle.txn_drive.specs.declared.«end».End.{End}
-use Rattle.txn_drive.specs.declared.drive.Drive.{Drive}
-use Rattle.txn_drive.specs.Drives.{sized_of, told_of, end_of, new_drive}
-use Rattle.txn_drive.specs.Made.{made, IsMade}
 use Rattle.txn_drive.proofs.DriveLaws.{goes_on, made_at_end, made-new, made-sized}
 use Rattle.txn_drive.proofs.MadeLemmas.{made-told_of}
 use Rattle.script_worker.specs.declared.attempt.Attempt.{Attempt}

@@ -1,3 +1,4 @@
+pub mod Vocabulary
 pub mod Attempting
 pub mod Undoing
 pub mod Chunks

@@ -1,18 +1,10 @@
 -- The entries of a caller from a Began to its Committed that play a script.
 use Rattle.std.proofs.Common.{◌≡◌, ℕ, Bool, true, false, not, List, [], ◌∷◌, ◌++◌, append-nil, fold, filter, Some, None, Option, option_and_then, is_some, refl, sym, ap, ◌∙◌}
+use Rattle.script_worker.proofs.Vocabulary.{same_from_push, filter-append, Action, Entry, Began, Asked, Did, Saved, Leave, Undone, Returned, Committed, is_began, is_commit, Seat, row, closed_seat, seat_after, is_undone, without_undone, ArePlayed, IsPlayed, CommitNothing}
 use Rattle.std.proofs.lemmas.Bool.{false≢true}
-use Rattle.std.proofs.lemmas.List.{same_from_push}
-use Rattle.std.proofs.lemmas.List.Elements.{filter-append}
 use Rattle.std.proofs.lemmas.List.Sums.{fold-append}
-use Rattle.txn_words.specs.declared.action.Action.{Action}
 use Rattle.txn_words.specs.declared.action.Action.TheVariants as actions
-use Rattle.txn_words.specs.declared.entry.Entry.{Entry}
-use Rattle.txn_words.specs.declared.entry.Entry.TheVariants.{Began, Asked, Did, Saved, Leave, Undone, Returned, Committed}
-use Rattle.txn_words.specs.Kinds.{is_began, is_commit}
-use Rattle.txn_words.specs.Shape.{Seat, row, closed_seat, seat_after}
-use Rattle.txn_trace.specs.Plays.{is_undone, without_undone, ArePlayed, IsPlayed}
 use Rattle.txn_trace.proofs.Lists.{filter_within}
-use Rattle.txn_drive.specs.Made.{CommitNothing}
 
 -- Entries that begin no transaction.
 abbrev pub BeginNothing : List Entry → Type 0

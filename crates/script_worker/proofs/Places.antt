@@ -1,7 +1,7 @@
 -- Elements of lists by their places.
 use Rattle.std.proofs.Common.{◌≡◌, ℕ, ◌+◌, ◌<◌, ◌≤◌, List, [], ◌∷◌, ◌++◌, length, length-append, get_or, slice_get, Some, None, sym, ap, ◌∙◌, inl, inr, arith}
+use Rattle.script_worker.proofs.Vocabulary.{slice_get_past, slice_get_cases, slice_get_read}
 use Rattle.std.proofs.Math.Seq.{get_or-append_seam}
-use Rattle.std.proofs.lemmas.Option.{slice_get_past, slice_get_cases, slice_get_read}
 
 pub get_empty : {X : Type 0} (k : ℕ) → slice_get {X = X} [] k ≡ None
 get_empty k = slice_get_past [] k (omega arith)

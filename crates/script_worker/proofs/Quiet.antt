@@ -1,14 +1,8 @@
 -- A call whose drive has ended out of step has committed nothing.
 use Rattle.std.proofs.Common.{◌≡◌, List, Some, subst, inl, inr}
+use Rattle.script_worker.proofs.Vocabulary.{Entry, OutOfStep, Drive, End, end_of, made, CommitNothing, IsQuiet, made_quiet}
 use Rattle.txn_words.specs.declared.answer.Answer.TheVariants as answers
-use Rattle.txn_words.specs.declared.entry.Entry.{Entry}
-use Rattle.txn_words.specs.declared.refusal.Refusal.TheVariants.{OutOfStep}
-use Rattle.txn_drive.specs.declared.drive.Drive.{Drive}
-use Rattle.txn_drive.specs.declared.«end».End.{End}
 use Rattle.txn_drive.specs.declared.«end».End.TheVariants as ends
-use Rattle.txn_drive.specs.Drives.{end_of}
-use Rattle.txn_drive.specs.Made.{made, CommitNothing, IsQuiet}
-use Rattle.txn_drive.proofs.Quiet.{made_quiet}
 
 if_quiet : (outcome : End) (es : List Entry) → CommitNothing es → IsQuiet outcome es
 if_quiet (ends.Refused OutOfStep) es quiet = quiet

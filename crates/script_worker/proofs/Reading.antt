@@ -1,19 +1,11 @@
 -- The committed transactions of a caller, found in its own entries.
-use Rattle.std.proofs.Common.{◌≡◌, ℕ, ◌==◌, ◌&&◌, Bool, true, false, cond, List, [], ◌∷◌, ◌++◌, append-nil, fold, Some, None, Option, refl, sym, ap, ◌∙◌, inl, inr, eq-eqb, ne_eqb}
-use Rattle.std.specs.List.{cons_option}
+use Rattle.std.proofs.Common.{◌≡◌, ℕ, ◌==◌, ◌&&◌, false, cond, List, [], ◌∷◌, ◌++◌, append-nil, fold, Some, None, Option, refl, sym, ap, ◌∙◌, inl, inr, eq-eqb, ne_eqb}
+use Rattle.script_worker.proofs.Vocabulary.{cons_option, Entry, Began, Committed, txn_after, caller_of, is_commit, own, IsShaped, is_commit_of, commits_of, txn_in, txn_at, txn_in-push, own-push_in, own-push_out, CommitNothing}
 use Rattle.std.proofs.lemmas.Bool.{cases_eq}
 use Rattle.std.proofs.Math.Bool.{and-true, and-false}
 use Rattle.std.proofs.lemmas.List.Sums.{fold-append}
-use Rattle.txn_words.specs.declared.entry.Entry.{Entry}
-use Rattle.txn_words.specs.declared.entry.Entry.TheVariants.{Began, Committed}
-use Rattle.txn_trace.specs.History.{txn_after}
-use Rattle.txn_words.specs.Kinds.{caller_of, is_commit}
-use Rattle.txn_words.specs.Shape.{own, IsShaped}
-use Rattle.txn_trace.specs.Plays.{is_commit_of, commits_of}
-use Rattle.txn_trace.proofs.Pushes.{txn_in, txn_at, txn_in-push, own-push_in, own-push_out}
 use Rattle.txn_trace.proofs.Inductions.{by_entries}
 use Rattle.txn_trace.proofs.Steps.{txns_of-push}
-use Rattle.txn_drive.specs.Made.{CommitNothing}
 use Rattle.script_worker.proofs.Parts.{BeginNothing}
 
 -- The committed transactions, from a caller's own entries: at each Committed that of the last

@@ -1,19 +1,12 @@
 -- A worker with a script left has a step to take.
 use Rattle.std.proofs.Common.{◌≡◌, ℕ, ◌+◌, nat_lt, Bool, true, false, if◌then◌else◌, List, length, slice_get, Option, Some, None, is_some, option_and_then, inl, inr, ◌⊎◌, refl, sym, ap, subst, ◌∙◌}
-use Rattle.txn_words.specs.declared.action.Action.{Action}
+use Rattle.script_worker.proofs.Vocabulary.{Action, Answer, BadKey, Step, Call, Drive, End, step_in, step_of, turn_in, ended_by, end_of, new_drive}
 use Rattle.txn_words.specs.declared.action.Action.TheVariants as actions
-use Rattle.txn_words.specs.declared.answer.Answer.{Answer}
-use Rattle.txn_words.specs.declared.refusal.Refusal.TheVariants.{BadKey}
-use Rattle.txn_words.specs.declared.step.Step.{Step}
 use Rattle.txn_words.specs.Sizes.{Sizes, is_bad_key}
-use Rattle.txn_drive.specs.declared.call.Call.{Call}
 use Rattle.txn_drive.specs.declared.call.Call.TheVariants as calls
-use Rattle.txn_drive.specs.declared.drive.Drive.{Drive}
-use Rattle.txn_drive.specs.declared.«end».End.{End}
 use Rattle.txn_drive.specs.declared.«end».End.TheVariants as ends
 use Rattle.txn_drive.specs.declared.phase.Phase.{Phase}
 use Rattle.txn_drive.specs.declared.phase.Phase.TheVariants.{Fresh, Seeking, Acting, Doubling, Initialising, Linking, Storing, Refused}
-use Rattle.txn_drive.specs.Drives.{step_in, step_of, turn_in, ended_by, end_of, new_drive}
 use Rattle.script_worker.specs.declared.attempt.Progress.{Progress}
 use Rattle.script_worker.specs.declared.attempt.Progress.TheVariants.{Next, Over}
 use Rattle.script_worker.specs.declared.attempt.Stage.{Stage}

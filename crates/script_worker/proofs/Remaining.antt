@@ -1,10 +1,6 @@
 -- The accounts of a worker that keeps to its scripts.
-use Rattle.std.proofs.Common.{◌≡◌, ℕ, ◌<◌, List, [], ◌∷◌, ◌++◌, length, slice_get, Option, Some, None, refl, sym, ap, subst, ◌∙◌, arith}
-use Rattle.txn_words.specs.declared.action.Action.{Action}
-use Rattle.txn_words.specs.declared.entry.Entry.{Entry}
-use Rattle.txn_drive.specs.Drives.{step_of}
-use Rattle.txn_drive.specs.Made.{made, CommitNothing}
-use Rattle.txn_drive.proofs.Quiet.{going_quiet, append_quiet}
+use Rattle.std.proofs.Common.{ℕ, ◌<◌, List, [], ◌∷◌, ◌++◌, length, slice_get, Option, Some, None, refl, sym, ap, subst, ◌∙◌, arith}
+use Rattle.script_worker.proofs.Vocabulary.{Action, Entry, step_of, made, CommitNothing, going_quiet, append_quiet}
 use Rattle.script_worker.specs.declared.task.Task.{Task}
 use Rattle.script_worker.specs.Accounts as accounts
 use Rattle.script_worker.specs.Accounts.{Outcome, AreAccounts, every, tolds_of}

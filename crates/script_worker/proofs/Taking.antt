@@ -1,11 +1,9 @@
 -- A worker's turn is taken.
 use Rattle.std.proofs.Common.{◌≡◌, ℕ, List, Option, Some, None, sym, subst, ◌∙◌}
+use Rattle.script_worker.proofs.Vocabulary.{Action, Answer, Step}
 use Rattle.std.specs.Option.{option_or}
-use Rattle.txn_words.specs.declared.action.Action.{Action}
-use Rattle.txn_words.specs.declared.answer.Answer.{Answer}
-use Rattle.txn_words.specs.declared.step.Step.{Step}
 use Rattle.txn_drive.specs.declared.turn.Turn.{Turn}
-use Rattle.txn_drive.specs.declared.turn.Turn.TheVariants.{One, Two, Ended}
+use Rattle.txn_drive.specs.declared.turn.Turn.TheVariants.{Ended}
 use Rattle.txn_drive.specs.Turns.{TakesTurn, HasTaken}
 use Rattle.txn_drive.proofs.TurnLemmas.{turn_maps}
 use Rattle.script_worker.specs.declared.attempt.Finish.{Finish}
@@ -40,9 +38,7 @@ module _ {X : Type 0} (takes : X → Step → Answer → X → Type 0) (size : �
     steps =
         subst (λ (v : Standing). TakesIn takes scripts tries (begun v None) (turn_by v) y) w_is
         (subst (λ t. TakesIn takes scripts tries (begun w None) t y) (sym some ∙ turn_is)
-        (taken_in w (begun w None) turn y (subst (IsTurnBy w) some by)
-        (subst (λ (v : Standing). TakesTurn (TakesStep takes scripts tries) (begun v None) turn y) (sym v_is)
-        (subst (λ f. TakesTurn (TakesStep takes scripts tries) (begun v f) turn y) none taken))));
+        (taken_in w (begun w None) turn y (subst (IsTurnBy w) some by) (rw (none, ← v_is) at taken)));
   }
 
 -- A turn of which each step is one of the worker's is the worker's next.

@@ -1,18 +1,9 @@
 -- A caller's accounts of its scripts, as statements about the history.
 use Rattle.std.proofs.Common.{◌≡◌, ℕ, ◌+◌, ◌*◌, ◌≤◌, cond, List, [], ◌∷◌, ◌++◌, length, append_assoc, fold, filter, filter_map, Some, None, Option, refl, sym, ap, subst, ◌∙◌, arith, suc-mul}
-use Rattle.std.specs.List.{cons_option, AllByRecursion}
-use Rattle.std.proofs.lemmas.List.Elements.{filter-append}
-use Rattle.txn_words.specs.declared.action.Action.{Action}
-use Rattle.txn_words.specs.declared.entry.Entry.{Entry}
-use Rattle.txn_words.specs.declared.entry.Entry.TheVariants.{Began, Committed}
-use Rattle.txn_trace.specs.History.{of, ends_in}
-use Rattle.txn_words.specs.Kinds.{is_commit}
+use Rattle.script_worker.proofs.Vocabulary.{cons_option, AllByRecursion, filter-append, Action, Entry, Began, Committed, of, ends_in, is_commit, own, how_many, IsShaped, without_undone, IsPlayed, ends_in-push}
 use Rattle.txn_trace.specs.Replies.{RepliesHold}
-use Rattle.txn_words.specs.Shape.{own, how_many, IsShaped}
-use Rattle.txn_trace.specs.Plays.{without_undone, IsPlayed}
 use Rattle.script_worker.specs.Accounts as accounts
 use Rattle.script_worker.specs.Accounts.{Outcome, Told, replies_in, IsAccount, AreAccounts, HasCome, AreTrue}
-use Rattle.txn_trace.proofs.Pushes.{ends_in-push}
 use Rattle.txn_trace.proofs.Committing.{has_committed}
 use Rattle.script_worker.proofs.Attempting.{how_many-append}
 use Rattle.script_worker.proofs.Parts.{inner_begins, inner_commits, part_commits}

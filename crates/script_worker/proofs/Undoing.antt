@@ -1,8 +1,6 @@
 -- The entries of changes that are taken back.
 use Rattle.std.proofs.Common.{◌≡◌, ℕ, zero, suc, Bool, false, cond, List, ◌∷◌, ◌++◌, filter, refl, ap, ◌∙◌}
-use Rattle.txn_words.specs.declared.entry.Entry.{Entry}
-use Rattle.txn_words.specs.declared.entry.Entry.TheVariants.{Undone}
-use Rattle.txn_drive.specs.Made.{undone_by}
+use Rattle.script_worker.proofs.Vocabulary.{Entry, Undone, undone_by}
 use Rattle.script_worker.specs.Accounts.{replies_in}
 
 -- A test that they do not pass finds none of them.
