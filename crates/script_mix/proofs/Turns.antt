@@ -1,9 +1,7 @@
 -- A worker's step is a move of the core that adds only its entries.
-use Rattle.std.proofs.Common.{◌≡◌, ◌≢◌, ℕ, ◌<◌, ◌≤◌, ◌==◌, true, false, cond, List, [], ◌∷◌, ◌++◌, length, get_or, set, Option, Some, None, refl, sym, ap, subst, ◌∙◌, arith, length-append, length-set, get_or-set_same, get_or-set_other}
-use Rattle.std.specs.Prelude.{nat_lt}
+use Rattle.std.proofs.Common.{◌≡◌, ◌≢◌, ℕ, ◌<◌, ◌==◌, cond, List, [], ◌∷◌, ◌++◌, length, get_or, set, Option, Some, None, refl, sym, ap, subst, ◌∙◌, arith, inl, inr, eq-eqb, ne_eqb, append-nil, length-append, length-set, get_or-set_same, get_or-set_other}
 use Rattle.std.specs.List.{AllByRecursion}
-use Rattle.std.proofs.lemmas.Bool.{eq-eqb, eqb-true, ne_eqb, false≢true, ltb-true, ltb-false}
-use Rattle.std.proofs.lemmas.List.{append-nil}
+use Rattle.std.proofs.lemmas.Bool.{cases_eq, cases_lt}
 use Rattle.std.proofs.Math.ListN.{get_or-append}
 use Rattle.std.proofs.Math.Seq.{get_or-append_seam}
 use Rattle.std.proofs.lemmas.List.Elements.{filter-append}
@@ -143,11 +141,6 @@ module _ (scripts : List (List Action)) (tries : ℕ) where
       (sized_keeps size scripts tries before (own before.number old.history) keeps) takes.steps in
       record { limits = goes.limits; number = goes.number; same = goes.same; others = goes.others; keeps = goes.keeps }
 
--- A turn at the size of the core's table.
-pub took : (scripts : List (List Action)) (tries size : ℕ) (old new : State) (before after : Worker) (finish : Option Finish) → size ≡ old.size
-    → TakesNext Move size scripts tries old before finish new after → TakesNext Move old.size scripts tries old before finish new after
-took scripts tries size old new before after finish is takes = subst (λ n. TakesNext Move n scripts tries old before finish new after) is takes
-
 -- One member moves on, and the others are unchanged.
 pub crew_goes : (scripts : List (List Action)) (tries count w : ℕ) (old new : State) (crew : List Worker) (before after : Worker) → w < length crew → before ≡ get_or crew w before
     → IsCrew scripts tries count old.history crew → Goes scripts tries old new before after → IsReady after → IsCrew scripts tries count new.history (set crew w after)
@@ -168,9 +161,8 @@ crew_goes scripts tries count w old new crew before after within at is goes read
     }
 
     each : (d : ℕ) (other : Worker) → d < length (set crew w after) → IsMember scripts tries count new.history d (get_or (set crew w after) d other)
-    each d other less = elim (d == w) as (λ b. (d == w) ≡ b → IsMember scripts tries count new.history d (get_or (set crew w after) d other)) [
-      | true ↦ λ same.
-          let mine : d ≡ w = eqb-true d w same in
+    each d other less = elim (cases_eq d w) [
+      | inl mine ↦
           subst (λ x. IsMember scripts tries count new.history x (get_or (set crew w after) x other)) (sym mine)
           (subst (IsMember scripts tries count new.history w) (sym (get_or-set_same crew w after other within)) (record {
             number = goes.number ∙ before_is.number;
@@ -178,34 +170,30 @@ crew_goes scripts tries count w old new crew before after within at is goes read
             keeps = subst (λ x. Keeps scripts tries after (own x new.history)) (goes.number ∙ before_is.number) goes.keeps;
             ready = ready;
           }))
-      | false ↦ λ apart.
-          let away : d ≢ w = λ mine. false≢true (sym apart ∙ eq-eqb d w mine) in
+      | inr away ↦
           let still : d < length crew = subst (λ n. d < n) (length-set crew w after) less in
           subst (IsMember scripts tries count new.history d) (sym (get_or-set_other crew w d after other away))
           (stays d (get_or crew d other) away (is.each d other still))
-    ] refl
+    ]
 
 -- Each member keeps to its scripts.
-pub member_keeps : (scripts theirs : List (List Action)) (tries allowed count w : ℕ) (h : List Entry) (crew : List Worker) (worker : Worker) → scripts ≡ theirs → tries ≡ allowed → w < length crew → worker ≡ get_or crew w worker → IsCrew theirs allowed count h crew
+pub member_keeps : (scripts : List (List Action)) (tries count w : ℕ) (h : List Entry) (crew : List Worker) (worker : Worker) → w < length crew → worker ≡ get_or crew w worker → IsCrew scripts tries count h crew
     → Keeps scripts tries worker (own worker.number h)
-member_keeps scripts theirs tries allowed count w h crew worker scripts_is tries_is within at is =
-    let member : IsMember theirs allowed count h w worker = subst (IsMember theirs allowed count h w) (sym at) (is.each w worker within) in
-    subst (λ s. Keeps s tries worker (own worker.number h)) (sym scripts_is)
-    (subst (λ n. Keeps theirs n worker (own worker.number h)) (sym tries_is) (subst (λ n. Keeps theirs allowed worker (own n h)) (sym member.number) member.keeps))
+member_keeps scripts tries count w h crew worker within at is =
+    let member : IsMember scripts tries count h w worker = subst (IsMember scripts tries count h w) (sym at) (is.each w worker within) in
+    subst (λ n. Keeps scripts tries worker (own n h)) (sym member.number) member.keeps
 
 -- One more member.
 pub crew_more : (scripts : List (List Action)) (tries count : ℕ) (crew : List Worker) (worker : Worker) → IsMember scripts tries count [] (length crew) worker
     → ((w : ℕ) (other : Worker) → w < length crew → IsMember scripts tries count [] w (get_or crew w other))
     → (w : ℕ) (other : Worker) → w < length (crew ++ worker ∷ []) → IsMember scripts tries count [] w (get_or (crew ++ worker ∷ []) w other)
-crew_more scripts tries count crew worker member each w other less = elim (nat_lt w (length crew)) as (λ b. nat_lt w (length crew) ≡ b → IsMember scripts tries count [] w (get_or (crew ++ worker ∷ []) w other)) [
-  | true ↦ λ is.
-      let within : w < length crew = ltb-true w (length crew) is in
+crew_more scripts tries count crew worker member each w other less = elim (cases_lt w (length crew)) [
+  | inl within ↦
       subst (IsMember scripts tries count [] w) (sym (get_or-append crew (worker ∷ []) other w within)) (each w other within)
-  | false ↦ λ is.
-      let past : length crew ≤ w = ltb-false w (length crew) is in
+  | inr past ↦
       let last : w ≡ length crew = omega (arith, length-append crew (worker ∷ [])) in
       subst (λ x. IsMember scripts tries count [] x (get_or (crew ++ worker ∷ []) x other)) (sym last) (subst (IsMember scripts tries count [] (length crew)) (sym (get_or-append_seam crew worker [] other)) member)
-] refl
+]
 
 -- In a crew's history the outcomes of each worker's scripts are true, and its committed transactions
 -- play its scripts.
