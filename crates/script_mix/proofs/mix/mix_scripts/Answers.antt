@@ -1,14 +1,14 @@
-use Rattle.std.proofs.Common.{◌≡◌, ◌∙◌, ◌<◌, inl, inr, List, [], ◌∷◌, length, refl, sym, ap, subst, arith}
+use Rattle.std.proofs.Common.{◌≡◌, ◌∙◌, inl, inr, List, [], ◌∷◌, length, refl, sym, ap, subst, arith}
 use Rattle.rand_pcg.specs.Pcg.{pcg32}
 use Rattle.txn_trace.specs.Legal.{IsLegal}
 use Rattle.boost_core.specs.Machine.{State, holder_by, start}
 use Rattle.script_worker.specs.declared.worker.Worker.{Worker}
 use Rattle.script_mix.specs.Crews.{IsCrew, IsMixed}
-use Rattle.script_mix.specs.Turns.{first_crew, live, live_from}
+use Rattle.script_mix.specs.Turns.{first_crew, live, live_from, IsAtPlace}
 use Rattle.script_mix.proofs.Turns.{crew_goes, crew_plays, crew_told, member_keeps}
 use Rattle.script_mix.proofs.Lives.{all_done, drawn, drawn_at, drawn_lives, kept, length-live, removed}
 use Rattle.script_mix.proofs.mix.mix_scripts.Goals as goal
-use Rattle.script_mix.proofs.mix.mix_scripts.Goals.{then-not-lives, else-not-lives, else-loop-turn-test, then-loop-turn-test+in_default-draw_place}
+use Rattle.script_mix.proofs.mix.mix_scripts.Goals.{After-index_mut, then-not-lives, else-not-lives, else-loop-turn-test, then-loop-turn-test+in_default-draw_place}
 
 pub loop-turn-init : goal.loop-turn-init
 loop-turn-init c =
@@ -24,26 +24,32 @@ loop-turn-init c =
 
 pub index_mut-requires : goal.index_mut-requires
 index_mut-requires c =
-    let found = drawn c.loop-turn.workers.items c.loop-turn.live.items c.in-Some.place c.index-number.result.now c.loop-turn.invariant.live (subst (λ ns. c.in-Some.place < length ns) c.deref-in-loop-turn.ensures.value c.in-Some.ensures.below) c.index-number.ensures in
+    let found = drawn c.loop-turn.workers.items c.loop-turn.live.items c.in-Some.place c.index-number.result.now c.loop-turn.invariant.live (rw c.deref-in-loop-turn.ensures.value at c.in-Some.ensures.below) c.index-number.ensures in
     let within = found.within in
     let len = c.loop-turn.workers.ok.0 in
     omega (arith, within, len)
 
+-- The number that the list of live workers has at the place that was drawn.
+found_at : (c : After-index_mut) → IsAtPlace c.loop-turn.workers.items c.in-Some.place c.index-number.result.now
+found_at c =
+    drawn c.loop-turn.workers.items c.loop-turn.live.items c.in-Some.place c.index-number.result.now c.loop-turn.invariant.live
+    (rw c.deref-in-loop-turn.ensures.value at c.in-Some.ensures.below) c.index-number.ensures
+
 pub take_turn-lives-requires-clause-live : goal.take_turn-lives-requires-clause-live
 take_turn-lives-requires-clause-live c =
     drawn_lives c.loop-turn.workers.items c.in-Some.place c.index-number.result.now c.index_mut.result.now c.index_mut.ensures.value
-    (drawn c.loop-turn.workers.items c.loop-turn.live.items c.in-Some.place c.index-number.result.now c.loop-turn.invariant.live (subst (λ ns. c.in-Some.place < length ns) c.deref-in-loop-turn.ensures.value c.in-Some.ensures.below) c.index-number.ensures)
+    (found_at (goal.at.take_turn-lives-requires-clause-live c).After-index_mut)
 
 pub take_turn-lives-requires-clause-keeps : goal.take_turn-lives-requires-clause-keeps
 take_turn-lives-requires-clause-keeps c =
-    let found = drawn c.loop-turn.workers.items c.loop-turn.live.items c.in-Some.place c.index-number.result.now c.loop-turn.invariant.live (subst (λ ns. c.in-Some.place < length ns) c.deref-in-loop-turn.ensures.value c.in-Some.ensures.below) c.index-number.ensures in
+    let found = found_at (goal.at.take_turn-lives-requires-clause-keeps c).After-index_mut in
     rw (c.scripts-in-loop-turn.ensures, c.tries.ensures)
     (member_keeps c.args.work.now.scripts c.args.work.now.tries c.args.work.now.sizes.callers c.index-number.result.now c.loop-turn.core.history
     c.loop-turn.workers.items c.index_mut.result.now found.within c.index_mut.ensures.value c.loop-turn.invariant.crew)
 
 pub loop-turn-preserved : goal.loop-turn-preserved
 loop-turn-preserved c =
-    let found = drawn c.loop-turn.workers.items c.loop-turn.live.items c.in-Some.place c.index-number.result.now c.loop-turn.invariant.live (subst (λ ns. c.in-Some.place < length ns) c.deref-in-loop-turn.ensures.value c.in-Some.ensures.below) c.index-number.ensures in
+    let found = found_at (goal.at.loop-turn-preserved c).After-index_mut in
     let turn = c.take_turn-lives.ensures in
     let goes = rw (c.scripts-in-loop-turn.ensures, c.tries.ensures) at turn.goes in
     let (numbers, count, turns) = c.loop-turn.invariant.turns in
