@@ -5,7 +5,6 @@ use Rattle.std.specs.List.{range_with_len}
 use Rattle.std.proofs.lemmas.List.FromFn.{length-map-range_with_len, get_or-map-range_with_len}
 use Rattle.std.proofs.Math.Nat.{mod-lt}
 use Rattle.std.proofs.lemmas.List.{get_or-map, length-map, length-reverse, reverse-reverse}
-use Rattle.std.proofs.lemmas.Option.{slice_get_cases}
 use Rattle.atomic_table.specs.Seated.{TableId}
 use Rattle.txn_words.specs.declared.holder.Holder.TheVariants.{Begun}
 use Rattle.txn_words.specs.declared.action.Action.{Action}
@@ -24,20 +23,16 @@ use Rattle.thread_runs.specs.Each.{Each}
 use Rattle.thread_runs.specs.Possible.{MayCome}
 use Rattle.thread_runs.specs.Runs.{AreToldIn, MayAllCome, HasReported, HasRunScripts, told_of}
 use Rattle.script_worker.proofs.Every.{every-map, get-every, number_at}
+use Rattle.script_worker.proofs.Places.{get_within}
 use Rattle.thread_runs.proofs.Lists.{all_at, get_map, map_get}
 use Rattle.script_worker.proofs.Accounts.{true_plays}
 use Rattle.thread_runs.proofs.Working.{all_true, told_within}
-
--- A report of a pass that has this number and these limits.
-pub reported_at : {L : Type 0} (limits : Sizes) (words : TableId) (workers tries : ℕ) (scripts : List (List Action)) (c : ℕ) (pass : Ticket) (report : WorkerReport L) → pass ≡ new_ticket limits words c → HasReported pass.limits.half workers tries scripts pass.number report
-    → HasReported limits.half workers tries scripts c report
-reported_at limits words workers tries scripts c pass report is = subst (λ (t : Ticket). HasReported t.limits.half workers tries scripts t.number report) is
 
 -- Reports of a work that has these numbers and scripts.
 pub reported_as : {L : Type 0} (half : Bool) (workers workers' tries tries' : ℕ) (scripts scripts' : List (List Action)) (reports : List (WorkerReport L)) → workers' ≡ workers → tries' ≡ tries → scripts' ≡ scripts
     → Each (HasReported half workers' tries' scripts') reports → Each (HasReported half workers tries scripts) reports
 reported_as half workers workers' tries tries' scripts scripts' reports same again all each =
-    subst (λ (n : ℕ). Each (HasReported half n tries scripts) reports) same (subst (λ (n : ℕ). Each (HasReported half workers' n scripts) reports) again (subst (λ ss. Each (HasReported half workers' tries' ss) reports) all each))
+    rw (same, again, all) at each
 
 module _ {L W : Type 0} (items : W → List codes.Outcome) (half : Bool) (workers tries : ℕ) (scripts : List (List Action)) (reports : List (WorkerReport L)) (rows : List W) (as_many : length reports ≡ workers)
     (each : Each (HasReported half workers tries scripts) reports) (rows_are : map items rows ≡ map (λ r. reverse r.outcomes.items) reports) where
@@ -52,10 +47,7 @@ module _ {L W : Type 0} (items : W → List codes.Outcome) (half : Bool) (worker
       ap length (sym row_is) ∙ length-reverse r.outcomes.items ∙ sym (length-map r.outcomes.items told_of) ∙ ran.all ∙ ap (λ (n : ℕ). length (every n c scripts)) (sym as_many_rows)
 
   report_at : (c : ℕ) → c < workers → (r : WorkerReport L) × (slice_get reports c ≡ Some r)
-  report_at c below = elim ((slice_get_cases reports c).1) [
-    | inl is ↦ (is.0, is.2)
-    | inr over ↦ let past = over.0 in absurd (omega (arith, as_many))
-  ]
+  report_at c below = get_within reports c (omega (arith, as_many))
 
   module _ (outcomes : List codes.Outcome) (order : Each (λ c row. every (length rows) c outcomes ≡ reverse (items row)) rows) where
     -- The outcomes of a worker, out of all, are those that it has reported.

@@ -43,29 +43,18 @@ landed e (Some s) w h = at e s.phase refl w h
   where
     at : (f : Entry) (q : Phase) → s.phase ≡ q → ends_work f ≡ true → is_some (row s q f) ≡ true → HasPhase (lands f) (row s q f)
     at (Began x t) Closed is w h = (record closed_seat { phase = Opened }, refl, refl)
-    at (Began x t) q is w h = absurd (false≢true h)
     at (Did x r) (Waiting op) is w h = (_, refl, refl)
-    at (Did x r) q is w h = absurd (false≢true h)
     at (Saved x) Opened is w h = (_, refl, is)
-    at (Saved x) q is w h = absurd (false≢true h)
     at (Returned x m) (LeavingTo n) is w h = if_some ((n == m) && (slice_index s.kept n == s.standing)) (record s { phase = Opened; kept = take (n + 1) s.kept }) Opened refl h
-    at (Returned x m) q is w h = absurd (false≢true h)
     at (Committed x p) Opened is w h = (closed_seat, refl, refl)
-    at (Committed x p) q is w h = absurd (false≢true h)
     at (Aborted x) LeavingToEnd is w h = if_some (s.standing == 0) closed_seat Closed refl h
-    at (Aborted x) q is w h = absurd (false≢true h)
-    at f q is w h = absurd (false≢true w)
-
-last_landed : (seen : List Entry) (e : Entry) → ends_work e ≡ true → is_some (seat_after (seen ++ e ∷ [])) ≡ true → HasPhase (lands e) (seat_after (seen ++ e ∷ []))
-last_landed seen e w some =
-    let pushed = seat_after-push seen e in
-    subst (HasPhase (lands e)) (sym pushed) (landed e (seat_after seen) w (sym (ap is_some pushed) ∙ some))
+    at f q is w h = absurd (cc (w, h))
 
 -- The last of the added entries is one that ends a call's work.
 added_landed : (seen seen' front : List Entry) (e : Entry) → ends_work e ≡ true → seen' ≡ seen ++ (front ++ e ∷ []) → is_some (seat_after seen') ≡ true → HasPhase (lands e) (seat_after seen')
 added_landed seen seen' front e w is some =
-    let at : seen' ≡ (seen ++ front) ++ e ∷ [] = is ∙ sym (append_assoc seen front (e ∷ [])) in
-    subst (λ es. HasPhase (lands e) (seat_after es)) (sym at) (last_landed (seen ++ front) e w (sym (ap (λ es. is_some (seat_after es)) at) ∙ some))
+    let pushed = ap seat_after (is ∙ sym (append_assoc seen front (e ∷ []))) ∙ seat_after-push (seen ++ front) e in
+    subst (HasPhase (lands e)) (sym pushed) (landed e (seat_after (seen ++ front)) w (sym (ap is_some pushed) ∙ some))
 
 undone_landed : (c : ℕ) (opening e : Entry) (seen seen' added : List Entry) → ends_work e ≡ true → seen' ≡ seen ++ added → IsUndone c opening added e → is_some (seat_after seen') ≡ true → HasPhase (lands e) (seat_after seen')
 undone_landed c opening e seen seen' added w is made some =
@@ -75,13 +64,17 @@ abbrev pub is_refusal : End → Bool
 is_refusal (ends.Refused refusal) = true
 is_refusal outcome = false
 
--- The phase after a call that was made, or that found a stripe held.
+-- The phase after a call that did what it was asked to do, and after one that may have found a
+-- stripe held.
+abbrev pub phase_after : Phase → Call → Phase
+phase_after phase calls.Commit = Closed
+phase_after phase calls.Abort = Closed
+phase_after phase (calls.Help key) = phase
+phase_after phase call = Opened
+
 abbrev pub phase_by : Phase → Call → End → Phase
-phase_by phase (calls.Op op) (ends.Busy x) = Closed
-phase_by phase calls.Commit outcome = Closed
-phase_by phase calls.Abort outcome = Closed
-phase_by phase (calls.Help key) outcome = phase
-phase_by phase call outcome = Opened
+phase_by phase call (ends.Busy x) = Closed
+phase_by phase call outcome = phase_after phase call
 
 pub made_landed : (c : ℕ) (phase : Phase) (call : Call) (outcome : End) (seen seen' added : List Entry) → is_refusal outcome ≡ false → HasPhase phase (seat_after seen) → seen' ≡ seen ++ added → IsMade c call outcome added → is_some (seat_after seen') ≡ true
     → HasPhase (phase_by phase call outcome) (seat_after seen')
