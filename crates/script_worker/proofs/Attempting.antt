@@ -1,6 +1,6 @@
 -- The growth of a caller's account of a script, attempt by attempt and call by call.
-use Rattle.std.proofs.Common.{◌≡◌, ℕ, ◌+◌, ◌≤◌, Bool, List, [], ◌∷◌, ◌++◌, not, filter, length, length-append, append_assoc, append-nil, Option, refl, sym, ap, subst, ◌∙◌, arith}
-use Rattle.script_worker.proofs.Vocabulary.{filter-append, filter_map-append, Action, Entry, Began, Committed, how_many, is_undone, without_undone, ArePlayed, IsPlayed, CommitNothing, append_quiet}
+use Rattle.std.proofs.Common.{◌≡◌, ℕ, ◌+◌, ◌≤◌, Bool, List, [], ◌∷◌, ◌++◌, not, filter, length, length-append, append_assoc, append-nil, Option, refl, sym, ap, ◌∙◌, arith}
+use Rattle.script_worker.proofs.Vocabulary.{filter-append, filter_map-append, Action, Entry, Began, Committed, how_many, is_undone, without_undone, ArePlayed, CommitNothing, append_quiet}
 use Rattle.script_worker.specs.Chunks.{IsFront}
 use Rattle.script_worker.specs.Accounts.{Outcome, Told, is_busy, reply_in, replies_in, AreBusy, IsPlayedBy, IsAccount, AreAccounts}
 
@@ -33,9 +33,7 @@ front_more c script left fewer txn replies es added quiet asked front = record {
   whole = ap (λ xs. xs ++ added) front.whole;
   quiet = append_quiet es added front.quiet quiet;
   replied = filter_map-append reply_in es added ∙ ap (λ rs. rs ++ replies_in added) front.replied;
-  goes = λ rest plays.
-      subst (IsPlayed script) (sym (append_assoc (without_undone es) (without_undone added) rest) ∙ ap (λ xs. xs ++ rest) (sym (filter-append (λ e. not (is_undone e)) es added)))
-      (front.goes (without_undone added ++ rest) (asked rest plays));
+  goes = λ rest plays. rw (filter-append (λ e. not (is_undone e)) es added, append_assoc) (front.goes (without_undone added ++ rest) (asked rest plays));
 }
 
 -- A transaction is committed.
@@ -44,7 +42,7 @@ pub front_committed : (c : ℕ) (script : List Action) (txn place : ℕ) (replie
 front_committed c script txn place replies es front = record {
   inner = front.inner;
   whole = ap (λ xs. xs ++ Committed c place ∷ []) front.whole;
-  plays = subst (IsPlayed script) (sym (filter-append (λ e. not (is_undone e)) es (Committed c place ∷ []))) (front.goes (Committed c place ∷ []) tt);
+  plays = rw (filter-append (λ e. not (is_undone e)) es (Committed c place ∷ [])) (front.goes (Committed c place ∷ []) tt);
   replied = filter_map-append reply_in es (Committed c place ∷ []) ∙ append-nil (replies_in es) ∙ front.replied;
 }
 

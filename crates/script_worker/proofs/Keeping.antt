@@ -1,9 +1,10 @@
 -- A worker keeps to its scripts with each answer, and when it moves on to its next call.
-use Rattle.std.proofs.Common.{[], ◌≡◌, ℕ, suc, ◌+◌, ◌*◌, ◌<◌, nat_lt, Bool, true, false, if◌then◌else◌, List, ◌∷◌, ◌++◌, append_assoc, append-nil, length, length-append, get_or, slice_get, Option, Some, None, option_and_then, refl, sym, ap, subst, ◌∙◌, arith, suc-mul, ltb-true}
-use Rattle.script_worker.proofs.Vocabulary.{slice_get-get_or, Action, Answer, Entry, Step, Call, End, Drive, sized_of, told_of, end_of, new_drive, made, IsMade}
+use Rattle.std.proofs.Common.{[], ◌≡◌, ℕ, suc, ◌+◌, ◌*◌, ◌<◌, nat_lt, Bool, true, false, if◌then◌else◌, List, ◌∷◌, ◌++◌, append_assoc, append-nil, length, length-append, get_or, slice_get, Option, Some, None, option_and_then, refl, sym, ap, subst, ◌∙◌, inl, inr, arith, suc-mul, ltb-true}
+use Rattle.script_worker.proofs.Vocabulary.{slice_get-get_or, Action, Answer, Entry, Step, Call, End, Drive, sized_of, told_of, end_of, new_drive, made, made_quiet, IsMade, IsQuiet, OutOfStep}
 use Rattle.txn_words.specs.Entries.{entries_of}
 use Rattle.txn_words.specs.Sizes.{Sizes}
 use Rattle.txn_drive.specs.declared.call.Call.TheVariants as calls
+use Rattle.txn_drive.specs.declared.«end».End.TheVariants as ends
 use Rattle.txn_drive.proofs.DriveLaws.{goes_on, made_at_end, made-new, made-sized}
 use Rattle.txn_drive.proofs.MadeLemmas.{made-told_of}
 use Rattle.script_worker.specs.declared.attempt.Attempt.{Attempt}
@@ -19,7 +20,14 @@ use Rattle.script_worker.specs.Keeps.{KeepsTask, KeepsAt, Keeps}
 use Rattle.script_worker.proofs.Accounts.{account_more, no_account}
 use Rattle.script_worker.proofs.Chunks.{ChunkAfter, after_call, chunk_begun}
 use Rattle.script_worker.proofs.Every.{get-every}
-use Rattle.script_worker.proofs.Quiet.{ended_quiet}
+
+-- A call whose drive has ended out of step has committed nothing.
+ended_quiet : (d : Drive) (outcome : End) → end_of d ≡ Some outcome → IsQuiet outcome (made d)
+ended_quiet d (ends.Refused OutOfStep) is = elim (made_quiet d) [
+  | inl quiet ↦ quiet
+  | inr (p, committed) ↦ absurd (cc (is, committed))
+]
+ended_quiet d outcome is = tt
 
 -- The next script of the worker, if there is one.
 module _ (tries workers : ℕ) (half : Bool) (scripts : List (List Action)) (w : ℕ) where
@@ -72,15 +80,13 @@ module _ (tries workers : ℕ) (half : Bool) (scripts : List (List Action)) (w :
   drive_keeps None step answer seen is at = absurd (cc is)
   drive_keeps (Some task) step answer seen is at =
       moved_to task task.attempt (told_of task.drive answer) at.txn at.replies at.chunk seen (seen ++ entries_of step answer) at at.caller at.call
-      (ap (λ es. es ++ entries_of step answer) at.entries ∙ append_assoc at.earlier (at.chunk ++ made task.drive) (entries_of step answer)
-      ∙ ap (λ es. at.earlier ++ es) (append_assoc at.chunk (made task.drive) (entries_of step answer))
-      ∙ ap (λ es. at.earlier ++ (at.chunk ++ es)) (sym (made-told_of task.drive step answer is))) at.so_far
+      (rw (at.entries, made-told_of task.drive step answer is) (simp append_assoc)) at.so_far
 
   task_sized : (size : ℕ) (task : Option Task) (seen : List Entry) → KeepsAt tries workers scripts w task seen → KeepsAt tries workers scripts w (with_drive (sized_of size) task) seen
   task_sized size None seen at = at
   task_sized size (Some task) seen at =
       moved_to task task.attempt (sized_of size task.drive) at.txn at.replies at.chunk seen seen at at.caller at.call
-      (at.entries ∙ ap (λ es. at.earlier ++ (at.chunk ++ es)) (sym (made-sized size task.drive.caller task.drive.call task.drive.phase))) at.so_far
+      (rw (made-sized size task.drive.caller task.drive.call task.drive.phase) at.entries) at.so_far
 
 -- The call of a task has ended.
 module _ (scripts : List (List Action)) (tries w : ℕ) (limits : Sizes) (below : w < limits.callers) (task : Task) (outcome : End) (seen : List Entry) (ended : end_of task.drive ≡ Some outcome)
@@ -92,14 +98,14 @@ module _ (scripts : List (List Action)) (tries w : ℕ) (limits : Sizes) (below 
   heard = heard_at task.attempt at.txn at.replies
 
   made_is : IsMade w (call_at at.script task.attempt.stage) outcome (made task.drive)
-  made_is = subst (λ c. IsMade c (call_at at.script task.attempt.stage) outcome (made task.drive)) at.caller (subst (λ (call : Call). IsMade task.drive.caller call outcome (made task.drive)) at.call (made_at_end task.drive outcome ended))
+  made_is = subst (λ c. IsMade c (call_at at.script task.attempt.stage) outcome (made task.drive)) at.caller
+      (subst (λ (call : Call). IsMade task.drive.caller call outcome (made task.drive)) at.call (made_at_end task.drive outcome ended))
 
   follows : (p : Progress) → ChunkAfter w tries at.script heard (at.chunk ++ made task.drive) outcome p → KeepsAt tries workers scripts w (followed scripts w limits task at.script p) seen
   follows (Next attempt) chunk =
       moved_to tries workers limits.half scripts w task attempt (new_drive limits.half w (call_at at.script attempt.stage)) (txn_then at.txn outcome)
       (replies_then at.replies outcome) (at.chunk ++ made task.drive) seen seen at refl refl
-      (at.entries ∙ ap (λ es. at.earlier ++ es) (sym (append-nil (at.chunk ++ made task.drive)))
-      ∙ ap (λ es. at.earlier ++ ((at.chunk ++ made task.drive) ++ es)) (sym (made-new limits.half w (call_at at.script attempt.stage)))) chunk
+      (rw (made-new limits.half w (call_at at.script attempt.stage), append-nil (at.chunk ++ made task.drive)) at.entries) chunk
   follows (Over over) account =
       let told = outcome_by over outcome heard in
       let some : 0 < workers = omega (arith, below) in

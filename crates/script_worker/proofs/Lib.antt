@@ -9,7 +9,6 @@ pub mod Parts
 pub mod Placing
 pub mod Reading
 pub mod Telling
-pub mod Quiet
 pub mod Keeping
 pub mod Ready
 pub mod Remaining

@@ -1,5 +1,5 @@
 -- The accounts of a worker that keeps to its scripts.
-use Rattle.std.proofs.Common.{ℕ, ◌<◌, List, [], ◌∷◌, ◌++◌, length, slice_get, Option, Some, None, refl, sym, ap, subst, ◌∙◌, arith}
+use Rattle.std.proofs.Common.{ℕ, ◌<◌, List, [], ◌∷◌, ◌++◌, length, slice_get, Option, Some, None, refl, sym, ap, ◌∙◌, arith}
 use Rattle.script_worker.proofs.Vocabulary.{Action, Entry, step_of, made, CommitNothing, going_quiet, append_quiet}
 use Rattle.script_worker.specs.declared.task.Task.{Task}
 use Rattle.script_worker.specs.Accounts as accounts
@@ -23,7 +23,7 @@ module _ (tries workers : ℕ) (scripts : List (List Action)) (w : ℕ) (below :
       let here = get-every workers some scripts w (length at.outcomes) ∙ ap (slice_get scripts) (sym at.number) ∙ at.there in
       let quiet : CommitNothing (at.chunk ++ made task.drive) = append_quiet at.chunk (made task.drive) (chunk_quiet w at.script (heard_at task.attempt at.txn at.replies) at.chunk at.so_far) (going_quiet task.drive (steps_ended (step_of task.drive) task.drive refl ready)) in (
         at.outcomes ++ accounts.Aborted ∷ [],
-        subst (AreAccounts w tries (tolds_of (every workers w scripts) (at.outcomes ++ accounts.Aborted ∷ []))) (sym at.entries)
+        rw at.entries
             (account_more w tries (every workers w scripts) at.outcomes at.script accounts.Aborted at.earlier (at.chunk ++ made task.drive) here at.told quiet),
       )
 

@@ -16,9 +16,8 @@ module _ (c tries : ℕ) (h : List Entry) (shape : IsShaped h) (replies : Replie
   has_come script (accounts.Committed txn place told) front here later own_is account =
       let (before, part, here_is, quiet, p) = account in
       let own_then : own c h ≡ (front ++ before) ++ ((Began c txn ∷ p.inner ++ Committed c place ∷ []) ++ later) =
-      own_is ∙ ap (λ es. front ++ (es ++ later)) (here_is ∙ ap (λ es. before ++ es) p.whole) ∙ ap (λ es. front ++ es) (append_assoc before (Began c txn ∷ p.inner ++ Committed c place ∷ []) later)
-      ∙ sym (append_assoc front before ((Began c txn ∷ p.inner ++ Committed c place ∷ []) ++ later)) in
-      let quiet_inside = inner_begins c script txn place p.inner (subst (λ es. IsPlayed script (without_undone es)) p.whole p.plays) in
+      rw (own_is, here_is, p.whole) (simp append_assoc) in
+      let quiet_inside = inner_begins c script txn place p.inner (rw p.whole at p.plays) in
       let whole : of txn h ≡ Began c txn ∷ p.inner ++ Committed c place ∷ [] =
       (has_committed c txn place h (front ++ before) p.inner later shape replies own_then quiet_inside).whole in
       record {
@@ -42,18 +41,15 @@ module _ (c tries : ℕ) (h : List Entry) (shape : IsShaped h) (replies : Replie
 -- The Committed entries of an account, and of all accounts.
 account_commits : (c tries : ℕ) (script : List Action) (outcome : Outcome) (here : List Entry) → IsAccount c tries script outcome here → filter is_commit here ≡ cons_option (accounts.commit_in c outcome) []
 account_commits c tries script (accounts.Committed txn place replies) here (before, part, here_is, quiet, p) =
-    ap (filter is_commit) (here_is ∙ ap (λ es. before ++ es) p.whole) ∙ filter-append is_commit before (Began c txn ∷ p.inner ++ Committed c place ∷ [])
-    ∙ ap (λ es. es ++ filter is_commit (Began c txn ∷ p.inner ++ Committed c place ∷ [])) quiet
-    ∙ part_commits c script txn place p.inner (subst (λ es. IsPlayed script (without_undone es)) p.whole p.plays)
+    rw (here_is, p.whole, filter-append, quiet) (part_commits c script txn place p.inner (rw p.whole at p.plays))
 account_commits c tries script accounts.Busy here busy = busy.nothing
 account_commits c tries script outcome here quiet = quiet
 
 commits_told : (c tries : ℕ) (tolds : List Told) (es : List Entry) → AreAccounts c tries tolds es → filter is_commit es ≡ filter_map (λ told. accounts.commit_in c told.outcome) tolds
 commits_told c tries [] es none = ap (filter is_commit) none
 commits_told c tries (told ∷ tolds) es (here, later, es_is, account, rest) =
-    ap (filter is_commit) es_is ∙ filter-append is_commit here later
-    ∙ (λ i. account_commits c tries told.script told.outcome here account i ++ commits_told c tries tolds later rest i)
-    ∙ sym (cons_append (accounts.commit_in c told.outcome) [] (filter_map (λ told. accounts.commit_in c told.outcome) tolds))
+    rw (es_is, filter-append, account_commits c tries told.script told.outcome here account, commits_told c tries tolds later rest)
+    (sym (cons_append (accounts.commit_in c told.outcome) [] (filter_map (λ told. accounts.commit_in c told.outcome) tolds)))
 
 -- The Busy entries.
 busy_told : (c tries : ℕ) (tolds : List Told) (es : List Entry) → AreAccounts c tries tolds es
@@ -76,20 +72,17 @@ busy_told c tries (told ∷ tolds) es (here, later, es_is, account, rest) =
 -- The committed transactions.
 account_txns : (c tries : ℕ) (script : List Action) (outcome : Outcome) (here : List Entry) (o : Option ℕ) → IsAccount c tries script outcome here → ended_txns o here ≡ cons_option (accounts.txn_in outcome) []
 account_txns c tries script (accounts.Committed txn place replies) here o (before, part, here_is, quiet, p) =
-    let plays = subst (λ es. IsPlayed script (without_undone es)) p.whole p.plays in
-    ap (ended_txns o) (here_is ∙ ap (λ es. before ++ es) p.whole) ∙ ended-append o before (Began c txn ∷ p.inner ++ Committed c place ∷ [])
-    ∙ ap (λ ts. ts ++ ended_txns (Some txn) (p.inner ++ Committed c place ∷ [])) (quiet_txns o before quiet)
-    ∙ ended-append (Some txn) p.inner (Committed c place ∷ [])
-    ∙ (λ i. quiet_txns (Some txn) p.inner (inner_commits c script txn place p.inner plays) i ++ cons_option (same_txn (Some txn) p.inner (inner_begins c script txn place p.inner plays) i) [])
+    let plays = rw p.whole at p.plays in
+    rw (here_is, p.whole, ended-append, quiet_txns o before quiet, ended-append (Some txn) p.inner (Committed c place ∷ []))
+    (λ i. quiet_txns (Some txn) p.inner (inner_commits c script txn place p.inner plays) i ++ cons_option (same_txn (Some txn) p.inner (inner_begins c script txn place p.inner plays) i) [])
 account_txns c tries script accounts.Busy here o busy = quiet_txns o here busy.nothing
 account_txns c tries script outcome here o quiet = quiet_txns o here quiet
 
 txns_told : (c tries : ℕ) (tolds : List Told) (es : List Entry) (o : Option ℕ) → AreAccounts c tries tolds es → ended_txns o es ≡ filter_map (λ told. accounts.txn_in told.outcome) tolds
 txns_told c tries [] es o none = ap (ended_txns o) none
 txns_told c tries (told ∷ tolds) es o (here, later, es_is, account, rest) =
-    ap (ended_txns o) es_is ∙ ended-append o here later
-    ∙ (λ i. account_txns c tries told.script told.outcome here o account i ++ txns_told c tries tolds later (fold next_txn o here) rest i)
-    ∙ sym (cons_append (accounts.txn_in told.outcome) [] (filter_map (λ told. accounts.txn_in told.outcome) tolds))
+    rw (es_is, ended-append, account_txns c tries told.script told.outcome here o account, txns_told c tries tolds later (fold next_txn o here) rest)
+    (sym (cons_append (accounts.txn_in told.outcome) [] (filter_map (λ told. accounts.txn_in told.outcome) tolds)))
 
 -- The accounts in a caller's own entries are true of the history.
 pub accounts_true : (c tries : ℕ) (h : List Entry) (tolds : List Told) → IsShaped h → RepliesHold h → AreAccounts c tries tolds (own c h) → AreTrue c tries h tolds
