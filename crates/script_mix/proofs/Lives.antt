@@ -16,10 +16,12 @@ lives w = is_some (step_by w)
 -- The list has a number for each live worker.
 pub length-live : (n : ℕ) (ws : List Worker) → length (live_from n ws) ≡ live ws
 length-live n [] = refl
-length-live n (w ∷ ws) = elim (lives w) as (λ b. length (cond b (n ∷ live_from (suc n) ws) (live_from (suc n) ws)) ≡ cond b (suc (live ws)) (live ws)) [
-  | true ↦ ap suc (length-live (suc n) ws)
-  | false ↦ length-live (suc n) ws
-]
+length-live n (w ∷ ws) =
+    let later = live_from (suc n) ws in
+    elim (lives w) as (λ b. length (cond b (n ∷ later) later) ≡ cond b (suc (live ws)) (live ws)) [
+      | true ↦ ap suc (length-live (suc n) ws)
+      | false ↦ length-live (suc n) ws
+    ]
 
 one_live : (w : Worker) (ws : List Worker) → lives w ≡ true → live (w ∷ ws) ≡ suc (live ws)
 one_live w ws is = ap (λ b. cond b (suc (live ws)) (live ws)) is
@@ -36,12 +38,14 @@ stands : (n : ℕ) (ws : List Worker) (place d : ℕ) → place < length (live_f
 stands n [] place d less = absurd (omega (arith, less))
 stands n (w ∷ ws) place d less =
     let later = live_from (suc n) ws in
-    elim (lives w) as (λ b. lives w ≡ b → place < length (cond b (n ∷ later) later) → Stands (w ∷ ws) n (cond b (n ∷ later) later) place d) [
+    elim (lives w) as (λ b. lives w ≡ b → place < length (cond b (n ∷ later) later)
+    → Stands (w ∷ ws) n (cond b (n ∷ later) later) place d) [
       | true ↦ λ is. elim place as (λ p. p < length (n ∷ later) → Stands (w ∷ ws) n (n ∷ later) p d) [
         | zero ↦ λ less. (0, omega arith, omega arith, refl, one_live w [] is)
         | suc p ↦ λ less.
             let (i, at, within, before, on) = stands (suc n) ws p d (omega (arith, less)) in
-            (suc i, omega (arith, at), omega (arith, within), one_live w (take i ws) is ∙ ap suc before, one_live w (take (suc i) ws) is ∙ ap suc on)
+            let here = one_live w (take i ws) is ∙ ap suc before in
+            (suc i, omega (arith, at), omega (arith, within), here, one_live w (take (suc i) ws) is ∙ ap suc on)
       ]
       | false ↦ λ is less.
           let (i, at, within, before, on) = stands (suc n) ws place d less in
@@ -99,12 +103,14 @@ no_more_live n (w ∷ ws) (suc i) d after within was is =
       | false ↦ later
     ]
 
-pub removed : (ws : List Worker) (numbers left : List ℕ) (place i : ℕ) (before after : Worker) → numbers ≡ live_from 0 ws → before ≡ get_or ws i before → IsAtPlace ws place i → lives after ≡ false
+pub removed : (ws : List Worker) (numbers left : List ℕ) (place i : ℕ) (before after : Worker) → numbers ≡ live_from 0 ws
+    → before ≡ get_or ws i before → IsAtPlace ws place i → lives after ≡ false
     → left ≡ remove numbers place → left ≡ live_from 0 (set ws i after)
 removed ws numbers left place i before after is at found over left_is =
     left_is ∙ (λ k. remove (is k) (sym found.before k)) ∙ sym (no_more_live 0 ws i before after found.within (lives_at ws place i before found) over)
 
-pub kept : (ws : List Worker) (numbers : List ℕ) (place i : ℕ) (before after : Worker) → numbers ≡ live_from 0 ws → before ≡ get_or ws i before → IsAtPlace ws place i → lives after ≡ true
+pub kept : (ws : List Worker) (numbers : List ℕ) (place i : ℕ) (before after : Worker) → numbers ≡ live_from 0 ws
+    → before ≡ get_or ws i before → IsAtPlace ws place i → lives after ≡ true
     → numbers ≡ live_from 0 (set ws i after)
 kept ws numbers place i before after is at found on = is ∙ sym (still_live 0 ws i before after found.within (lives_at ws place i before found) on)
 
@@ -122,7 +128,8 @@ all_done (w ∷ ws) ready none = elim (cases_Bool (lives w)) [
 ]
 
 -- The list of numbers, as one more worker is gone over.
-pub next_number : (n : ℕ) (ws : List Worker) (numbers more : List ℕ) (w : Worker) (b : Bool) → n < length ws → w ≡ get_or ws n w → lives w ≡ b
+pub next_number : (n : ℕ) (ws : List Worker) (numbers more : List ℕ) (w : Worker) (b : Bool) → n < length ws → w ≡ get_or ws n w
+    → lives w ≡ b
     → more ≡ cond b (numbers ++ n ∷ []) numbers → numbers ++ live_from n (drop n ws) ≡ live_from 0 ws
     → more ++ live_from (n + 1) (drop (n + 1) ws) ≡ live_from 0 ws
 next_number n ws numbers more w b within at is more_is so_far =

@@ -177,7 +177,8 @@ crew_goes scripts tries count w old new crew before after within at is goes read
     ]
 
 -- Each member keeps to its scripts.
-pub member_keeps : (scripts : List (List Action)) (tries count w : ℕ) (h : List Entry) (crew : List Worker) (worker : Worker) → w < length crew → worker ≡ get_or crew w worker → IsCrew scripts tries count h crew
+pub member_keeps : (scripts : List (List Action)) (tries count w : ℕ) (h : List Entry) (crew : List Worker) (worker : Worker)
+    → w < length crew → worker ≡ get_or crew w worker → IsCrew scripts tries count h crew
     → Keeps scripts tries worker (own worker.number h)
 member_keeps scripts tries count w h crew worker within at is =
     let member : IsMember scripts tries count h w worker = subst (IsMember scripts tries count h w) (sym at) (is.each w worker within) in

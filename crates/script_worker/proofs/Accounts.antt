@@ -1,5 +1,5 @@
 -- The accounts of a caller's scripts, with one more script, and the scripts that they play.
-use Rattle.std.proofs.Common.{◌≡◌, ℕ, suc, ◌+◌, ◌*◌, ◌<◌, ◌≤◌, List, [], ◌∷◌, ◌++◌, length, slice_get, filter_map, Some, refl, sym, ap, subst, ◌∙◌, arith, suc-mul, mod-eq_of_lt}
+use Rattle.std.proofs.Common.{◌≡◌, ℕ, suc, ◌+◌, ◌*◌, ◌%◌, ◌<◌, ◌≤◌, List, [], ◌∷◌, ◌++◌, length, slice_get, filter_map, Some, refl, sym, ap, subst, ◌∙◌, arith, suc-mul, mod-eq_of_lt}
 use Rattle.script_worker.proofs.Vocabulary.{AllByRecursion, slice_get_within, Action, Entry, PlayRising, commits_of}
 use Rattle.std.proofs.Math.Nat.{add-mul-mod_self_right}
 use Rattle.script_worker.specs.Accounts as accounts
@@ -57,7 +57,15 @@ module _ (callers c : ℕ) (below : c < callers) (scripts : List (List Action)) 
       at (accounts.Committed txn place replies) come rest next =
           let here : k ≡ k + 0 = omega arith in
           let there : slice_get scripts (number k) ≡ Some x = ap (λ i. slice_get scripts (number i)) here ∙ from 0 x refl in
-          (number k, x, le, slice_get_within scripts (number k) x there, record { mine = add-mul-mod_self_right c k callers ∙ mod-eq_of_lt below; there = there }, come.plays, rest (suc (number k)) next)
+          let mine : number k % callers ≡ c = add-mul-mod_self_right c k callers ∙ mod-eq_of_lt below in (
+            number k,
+            x,
+            le,
+            slice_get_within scripts (number k) x there,
+            record { mine = mine; there = there },
+            come.plays,
+            rest (suc (number k)) next,
+          )
       at outcome come rest next = rest low (omega (arith, le, next))
 
   pub true_plays : (tries : ℕ) (outcomes : List Outcome) → AreTrue c tries h (tolds_of (every callers c scripts) outcomes) → PlayRising callers scripts c h 0 (length scripts) (commits_of c h)

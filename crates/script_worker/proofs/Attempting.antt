@@ -33,7 +33,8 @@ front_more c script left fewer txn replies es added quiet asked front = record {
   whole = ap (λ xs. xs ++ added) front.whole;
   quiet = append_quiet es added front.quiet quiet;
   replied = filter_map-append reply_in es added ∙ ap (λ rs. rs ++ replies_in added) front.replied;
-  goes = λ rest plays. rw (filter-append (λ e. not (is_undone e)) es added, append_assoc) (front.goes (without_undone added ++ rest) (asked rest plays));
+  goes = λ rest plays. rw (filter-append (λ e. not (is_undone e)) es added, append_assoc)
+      (front.goes (without_undone added ++ rest) (asked rest plays));
 }
 
 -- A transaction is committed.

@@ -71,7 +71,8 @@ module _ (c tries : ℕ) (script : List Action) (heard : Heard) (before part : L
   after_busy x added quiet one = at (nat_lt again tries) refl
     where
       one_in : AreBusy 1 (part ++ added)
-      one_in = busy_fewer (0 + 1) 1 (part ++ added) (omega arith) (busy_more 0 part added (record { nothing = quiet; enough = omega arith }) one)
+      one_in = busy_fewer (0 + 1) 1 (part ++ added) (omega arith)
+          (busy_more 0 part added (record { nothing = quiet; enough = omega arith }) one)
 
       more : AreBusy (again + 1) (before ++ (part ++ added))
       more = busy_more again before (part ++ added) busy one_in
@@ -98,8 +99,10 @@ module _ (c tries : ℕ) (script : List Action) (heard : Heard) (before part : L
   none_more : replies ≡ replies ++ []
   none_more = sym (append-nil replies)
 
-  aborted : (added : List Entry) → IsMade c calls.Abort (ends.Answered answers.Aborted) added → CommitNothing part → CommitNothing (before ++ (part ++ added))
-  aborted added made quiet = all_quiet added quiet (ap (filter is_commit) made.1 ∙ filter_undone is_commit c made.0 (entries.Aborted c ∷ []) refl)
+  aborted : (added : List Entry) → IsMade c calls.Abort (ends.Answered answers.Aborted) added → CommitNothing part
+      → CommitNothing (before ++ (part ++ added))
+  aborted added made quiet =
+      all_quiet added quiet (ap (filter is_commit) made.1 ∙ filter_undone is_commit c made.0 (entries.Aborted c ∷ []) refl)
 
   -- A call that is done, by its stage; an action, and the commit, by the answer.
   done_told : (stage : Stage) (a : Answer) (added : List Entry) → IsMade c (call_at script stage) (ends.Answered a) added → IsAtStage c script heard part stage → After added (ends.Answered a) (done_at script again stage)
@@ -112,7 +115,8 @@ module _ (c tries : ℕ) (script : List Action) (heard : Heard) (before part : L
   }
   done_told (Acting i) a added made front = by (slice_get script i) refl a made
     where
-      by : (o : Option Action) → slice_get script i ≡ o → (a : Answer) → IsMade c (call_of o) (ends.Answered a) added → After added (ends.Answered a) (done_with again i o)
+      by : (o : Option Action) → slice_get script i ≡ o → (a : Answer) → IsMade c (call_of o) (ends.Answered a) added
+          → After added (ends.Answered a) (done_with again i o)
       by None here (answers.Committed place) made =
           subst (λ es. After es (ends.Answered (answers.Committed place)) (Over finishes.Committed)) (sym made)
           (before, part ++ entries.Committed c place ∷ [], refl, busy.nothing, front_committed c script txn place replies part (subst (λ left. IsFront c script left txn replies part) (none_left script i here) front))
@@ -137,7 +141,8 @@ module _ (c tries : ℕ) (script : List Action) (heard : Heard) (before part : L
   helped_told (Acting i) added made front = by (slice_get script i) refl made
     where
       by : (o : Option Action) → slice_get script i ≡ o → IsMade c (call_of o) ends.Helped added → After added ends.Helped (done_with again i o)
-      by (Some (actions.Help key)) here made = goes i (actions.Help key) ends.Helped [] added here made refl none_more refl (λ rest plays. plays) front
+      by (Some (actions.Help key)) here made =
+          goes i (actions.Help key) ends.Helped [] added here made refl none_more refl (λ rest plays. plays) front
       by o here made = absurd made
   helped_told stage added made at = absurd made
 
@@ -147,12 +152,15 @@ module _ (c tries : ℕ) (script : List Action) (heard : Heard) (before part : L
   stage_quiet (Leaving refusal) at = at
 
   -- A call that is refused, and has added nothing that commits.
-  refused_action : (refusal : Refusal) (o : Option Action) (added : List Entry) → CommitNothing added → CommitNothing part → After added (ends.Refused refusal) (refused_with again o refusal)
+  refused_action : (refusal : Refusal) (o : Option Action) (added : List Entry) → CommitNothing added → CommitNothing part
+      → After added (ends.Refused refusal) (refused_with again o refusal)
   refused_action refusal None added silent quiet = all_quiet added quiet silent
   refused_action refusal (Some actions.Abort) added silent quiet = all_quiet added quiet silent
-  refused_action refusal (Some action) added silent quiet = record { before = before; part = part ++ added; whole = refl; busy = busy; at = append_quiet part added quiet silent }
+  refused_action refusal (Some action) added silent quiet =
+      record { before = before; part = part ++ added; whole = refl; busy = busy; at = append_quiet part added quiet silent }
 
-  refused_stage : (stage : Stage) (refusal : Refusal) (added : List Entry) → CommitNothing added → CommitNothing part → After added (ends.Refused refusal) (refused_in script again stage refusal)
+  refused_stage : (stage : Stage) (refusal : Refusal) (added : List Entry) → CommitNothing added → CommitNothing part
+      → After added (ends.Refused refusal) (refused_in script again stage refusal)
   refused_stage (Acting i) refusal added silent quiet = refused_action refusal (slice_get script i) added silent quiet
   refused_stage stage refusal added silent quiet = all_quiet added quiet silent
 
@@ -168,15 +176,18 @@ module _ (c tries : ℕ) (script : List Action) (heard : Heard) (before part : L
 
 -- One call of a script: the attempt continues, or the next one follows; or the script is over, and
 -- the chunk is its account.
-pub after_call : (c tries : ℕ) (script : List Action) (heard : Heard) (chunk added : List Entry) (end : End) (p : Progress) → IsMade c (call_at script heard.attempt.stage) end added → IsQuiet end added → IsChunk c script heard chunk
+pub after_call : (c tries : ℕ) (script : List Action) (heard : Heard) (chunk added : List Entry) (end : End) (p : Progress)
+    → IsMade c (call_at script heard.attempt.stage) end added → IsQuiet end added → IsChunk c script heard chunk
     → progress_of script tries heard.attempt end ≡ p → ChunkAfter c tries script heard (chunk ++ added) end p
 after_call c tries script heard chunk added end p made silent so_far is =
-    subst (λ es. ChunkAfter c tries script heard es end p) (sym (ap (λ es. es ++ added) so_far.whole ∙ append_assoc so_far.before so_far.part added))
+    subst (λ es. ChunkAfter c tries script heard es end p)
+    (sym (ap (λ es. es ++ added) so_far.whole ∙ append_assoc so_far.before so_far.part added))
     (subst (ChunkAfter c tries script heard (so_far.before ++ (so_far.part ++ added)) end) is
     (told_at c tries script heard so_far.before so_far.part so_far.busy heard.attempt.stage end added made silent so_far.at))
 
 -- An attempt continues only if it is not out of step.
-pub goes_quiet : (script : List Action) (tries : ℕ) (attempt next : Attempt) (end : End) (added : List Entry) → progress_of script tries attempt end ≡ Next next → IsQuiet end added
+pub goes_quiet : (script : List Action) (tries : ℕ) (attempt next : Attempt) (end : End) (added : List Entry)
+    → progress_of script tries attempt end ≡ Next next → IsQuiet end added
 goes_quiet script tries attempt next (ends.Refused OutOfStep) added is = absurd (cc is)
 goes_quiet script tries attempt next end added is = tt
 

@@ -64,7 +64,9 @@ every-fewer n some xs ys fewer =
     let c : ℕ = length xs % n in
     let k : ℕ = length xs / n in
     let at : length xs ≡ c + k * n = number_at (length xs) n in
-    let mine : length (every n c xs) ≤ k = get_none (every n c xs) k (get-every n some xs c k ∙ ap (slice_get xs) (sym at) ∙ slice_get_past xs (length xs) (omega arith)) in
+    let mine : length (every n c xs) ≤ k = get_none (every n c xs) k
+    (get-every n some xs c k ∙ ap (slice_get xs) (sym at) ∙ slice_get_past xs (length xs) (omega arith)) in
     let (y, is) = get_within ys (length xs) fewer in
-    let theirs : k < length (every n c ys) = slice_get_within (every n c ys) k y (get-every n some ys c k ∙ ap (slice_get ys) (sym at) ∙ is) in
+    let theirs : k < length (every n c ys) = slice_get_within (every n c ys) k y
+    (get-every n some ys c k ∙ ap (slice_get ys) (sym at) ∙ is) in
     omega arith

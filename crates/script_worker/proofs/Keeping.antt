@@ -79,7 +79,8 @@ module _ (tries workers : ℕ) (half : Bool) (scripts : List (List Action)) (w :
       → KeepsAt tries workers scripts w (drive_told task answer) (seen ++ entries_of step answer)
   drive_keeps None step answer seen is at = absurd (cc is)
   drive_keeps (Some task) step answer seen is at =
-      moved_to task task.attempt (told_of task.drive answer) at.txn at.replies at.chunk seen (seen ++ entries_of step answer) at at.caller at.call
+      moved_to task task.attempt (told_of task.drive answer) at.txn at.replies at.chunk seen
+      (seen ++ entries_of step answer) at at.caller at.call
       (rw (at.entries, made-told_of task.drive step answer is) (simp append_assoc)) at.so_far
 
   task_sized : (size : ℕ) (task : Option Task) (seen : List Entry) → KeepsAt tries workers scripts w task seen → KeepsAt tries workers scripts w (with_drive (sized_of size) task) seen
@@ -103,7 +104,8 @@ module _ (scripts : List (List Action)) (tries w : ℕ) (limits : Sizes) (below 
 
   follows : (p : Progress) → ChunkAfter w tries at.script heard (at.chunk ++ made task.drive) outcome p → KeepsAt tries workers scripts w (followed scripts w limits task at.script p) seen
   follows (Next attempt) chunk =
-      moved_to tries workers limits.half scripts w task attempt (new_drive limits.half w (call_at at.script attempt.stage)) (txn_then at.txn outcome)
+      moved_to tries workers limits.half scripts w task attempt (new_drive limits.half w (call_at at.script attempt.stage))
+      (txn_then at.txn outcome)
       (replies_then at.replies outcome) (at.chunk ++ made task.drive) seen seen at refl refl
       (rw (made-new limits.half w (call_at at.script attempt.stage), append-nil (at.chunk ++ made task.drive)) at.entries) chunk
   follows (Over over) account =
@@ -111,7 +113,8 @@ module _ (scripts : List (List Action)) (tries w : ℕ) (limits : Sizes) (below 
       let some : 0 < workers = omega (arith, below) in
       let here = get-every workers some scripts w (length at.outcomes) ∙ ap (slice_get scripts) (sym at.number) ∙ at.there in
       let longer : length (at.outcomes ++ told ∷ []) ≡ suc (length at.outcomes) = omega (arith, length-append at.outcomes (told ∷ [])) in
-      let number : task.script + workers ≡ w + suc (length at.outcomes) * workers = omega (arith, suc-mul (length at.outcomes) workers, at.number) in
+      let number : task.script + workers ≡ w + suc (length at.outcomes) * workers =
+      omega (arith, suc-mul (length at.outcomes) workers, at.number) in
       keeps_started tries workers limits.half scripts w (at.outcomes ++ told ∷ []) (task.script + workers) seen (number ∙ ap (λ n. w + n * workers) (sym longer))
       (subst (AreAccounts w tries (tolds_of (every workers w scripts) (at.outcomes ++ told ∷ []))) (sym at.entries)
       (account_more w tries (every workers w scripts) at.outcomes at.script told at.earlier (at.chunk ++ made task.drive) here at.told account))
@@ -120,7 +123,8 @@ module _ (scripts : List (List Action)) (tries w : ℕ) (limits : Sizes) (below 
   progressed_keeps =
       subst (λ o. KeepsAt tries workers scripts w (option_and_then (λ script. followed scripts w limits task script (progress_of script tries task.attempt outcome)) o) seen) (sym at.there)
       (follows (progress_of at.script tries task.attempt outcome)
-      (after_call w tries at.script heard at.chunk (made task.drive) outcome _ made_is (ended_quiet task.drive outcome ended) at.so_far refl))
+      (after_call w tries at.script heard at.chunk (made task.drive) outcome _ made_is
+      (ended_quiet task.drive outcome ended) at.so_far refl))
 
 -- The task of a worker that moves on keeps to its scripts.
 module _ (scripts : List (List Action)) (tries w : ℕ) (limits : Sizes) (below : w < limits.callers) (seen : List Entry) where

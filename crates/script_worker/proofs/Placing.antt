@@ -11,7 +11,8 @@ use Rattle.script_worker.proofs.Places.{get_last}
 get_front : {X : Type 0} (xs ys : List X) (i : ℕ) (x : X) → slice_get xs i ≡ Some x → slice_get (xs ++ ys) i ≡ Some x
 get_front xs ys i x is =
     let within : i < length xs = slice_get_within xs i x is in
-    slice_get-get_or (xs ++ ys) i x (omega (arith, length-append xs ys)) ∙ ap Some (get_or_append_left xs ys x i within ∙ get_or_from_slice_get xs i x x is)
+    slice_get-get_or (xs ++ ys) i x (omega (arith, length-append xs ys))
+    ∙ ap Some (get_or_append_left xs ys x i within ∙ get_or_from_slice_get xs i x x is)
 
 abbrev IsPlaced : List Entry → Type 0
 IsPlaced h = (t c p : ℕ) (front : List Entry) → of t h ≡ front ++ Committed c p ∷ [] → slice_get (txns_of is_commit h) (p - 1) ≡ Some t

@@ -21,7 +21,9 @@ module _ (tries workers : ℕ) (scripts : List (List Action)) (w : ℕ) (below :
   at_told (Some task) seen ready at =
       let some : 0 < workers = omega (arith, below) in
       let here = get-every workers some scripts w (length at.outcomes) ∙ ap (slice_get scripts) (sym at.number) ∙ at.there in
-      let quiet : CommitNothing (at.chunk ++ made task.drive) = append_quiet at.chunk (made task.drive) (chunk_quiet w at.script (heard_at task.attempt at.txn at.replies) at.chunk at.so_far) (going_quiet task.drive (steps_ended (step_of task.drive) task.drive refl ready)) in (
+      let quiet : CommitNothing (at.chunk ++ made task.drive) = append_quiet at.chunk (made task.drive)
+      (chunk_quiet w at.script (heard_at task.attempt at.txn at.replies) at.chunk at.so_far)
+      (going_quiet task.drive (steps_ended (step_of task.drive) task.drive refl ready)) in (
         at.outcomes ++ accounts.Aborted ∷ [],
         rw at.entries
             (account_more w tries (every workers w scripts) at.outcomes at.script accounts.Aborted at.earlier (at.chunk ++ made task.drive) here at.told quiet),

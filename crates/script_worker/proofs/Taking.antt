@@ -70,7 +70,8 @@ module _ {X F : Type 0} (takes : X → Step → Answer → X → Type 0) (R : F 
   in_maps x None y i taken = absurd taken
   in_maps x (Some (Ended outcome)) y i taken = absurd taken
   in_maps x (Some turn) y i taken =
-      turn_maps (TakesStep R scripts tries) (TakesStep takes scripts tries) (λ w. I w.taker) on_part x turn y i (record { steps = taken }) step_maps
+      turn_maps (TakesStep R scripts tries) (TakesStep takes scripts tries) (λ w. I w.taker) on_part x turn y i
+      (record { steps = taken }) step_maps
 
 pub next_maps : {X F : Type 0} (takes : X → Step → Answer → X → Type 0) (R : F → Step → Answer → F → Type 0) (I : F → F → Type 0) (p : F → X)
     (scripts : List (List Action)) (tries size : ℕ) (x : F) (before : Standing) (finish : Option Finish) (y : F) (after : Standing) → I x x → TakesNext R size scripts tries x before finish y after

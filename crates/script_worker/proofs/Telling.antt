@@ -74,14 +74,16 @@ account_txns : (c tries : ℕ) (script : List Action) (outcome : Outcome) (here 
 account_txns c tries script (accounts.Committed txn place replies) here o (before, part, here_is, quiet, p) =
     let plays = rw p.whole at p.plays in
     rw (here_is, p.whole, ended-append, quiet_txns o before quiet, ended-append (Some txn) p.inner (Committed c place ∷ []))
-    (λ i. quiet_txns (Some txn) p.inner (inner_commits c script txn place p.inner plays) i ++ cons_option (same_txn (Some txn) p.inner (inner_begins c script txn place p.inner plays) i) [])
+    (λ i. quiet_txns (Some txn) p.inner (inner_commits c script txn place p.inner plays) i
+    ++ cons_option (same_txn (Some txn) p.inner (inner_begins c script txn place p.inner plays) i) [])
 account_txns c tries script accounts.Busy here o busy = quiet_txns o here busy.nothing
 account_txns c tries script outcome here o quiet = quiet_txns o here quiet
 
 txns_told : (c tries : ℕ) (tolds : List Told) (es : List Entry) (o : Option ℕ) → AreAccounts c tries tolds es → ended_txns o es ≡ filter_map (λ told. accounts.txn_in told.outcome) tolds
 txns_told c tries [] es o none = ap (ended_txns o) none
 txns_told c tries (told ∷ tolds) es o (here, later, es_is, account, rest) =
-    rw (es_is, ended-append, account_txns c tries told.script told.outcome here o account, txns_told c tries tolds later (fold next_txn o here) rest)
+    let others = txns_told c tries tolds later (fold next_txn o here) rest in
+    rw (es_is, ended-append, account_txns c tries told.script told.outcome here o account, others)
     (sym (cons_append (accounts.txn_in told.outcome) [] (filter_map (λ told. accounts.txn_in told.outcome) tolds)))
 
 -- The accounts in a caller's own entries are true of the history.

@@ -4,10 +4,12 @@ use Rattle.script_worker.proofs.Vocabulary.{Entry, Undone, undone_by}
 use Rattle.script_worker.specs.Accounts.{replies_in}
 
 -- A test that they do not pass finds none of them.
-pub filter_undone : (test : Entry → Bool) (c k : ℕ) (rest : List Entry) → test (Undone c) ≡ false → filter test (undone_by c k ++ rest) ≡ filter test rest
+pub filter_undone : (test : Entry → Bool) (c k : ℕ) (rest : List Entry) → test (Undone c) ≡ false
+    → filter test (undone_by c k ++ rest) ≡ filter test rest
 filter_undone test c zero rest never = refl
 filter_undone test c (suc k) rest never =
-    ap (λ b. cond b (Undone c ∷ filter test (undone_by c k ++ rest)) (filter test (undone_by c k ++ rest))) never ∙ filter_undone test c k rest never
+    ap (λ b. cond b (Undone c ∷ filter test (undone_by c k ++ rest)) (filter test (undone_by c k ++ rest))) never
+    ∙ filter_undone test c k rest never
 
 pub undone_replies : (c k : ℕ) (rest : List Entry) → replies_in (undone_by c k ++ rest) ≡ replies_in rest
 undone_replies c zero rest = refl

@@ -1,22 +1,15 @@
 -- The entries that a call of a shared map adds, by its end.
-use Rattle.std.proofs.Common.{◌≡◌, ℕ, List, [], refl, sym, ap, ◌∙◌, inl, inr}
-use Rattle.std.proofs.lemmas.List.{append-nil}
+use Rattle.std.proofs.Common.{◌≡◌, ℕ, List, [], refl, sym, ap, ◌∙◌, inl, inr, append-nil}
+use Rattle.thread_runs.proofs.Vocabulary.{Entry, Refusal, OutOfStep, Call, End, IsMade, Ended, Failed, Token, IsSameCaller}
 use Rattle.txn_words.specs.declared.answer.Answer.TheVariants as answers
-use Rattle.txn_words.specs.declared.entry.Entry.{Entry}
-use Rattle.txn_words.specs.declared.refusal.Refusal.{Refusal}
-use Rattle.txn_words.specs.declared.refusal.Refusal.TheVariants.{OutOfStep}
-use Rattle.txn_drive.specs.declared.call.Call.{Call}
 use Rattle.txn_drive.specs.declared.call.Call.TheVariants as calls
-use Rattle.txn_drive.specs.declared.«end».End.{End}
 use Rattle.txn_drive.specs.declared.«end».End.TheVariants as ends
-use Rattle.txn_drive.specs.Made.{IsMade}
-use Rattle.locked_map.specs.Calls.{Ended, Failed}
-use Rattle.core_tokens.specs.Tokens.{Token, IsSameCaller}
 use Rattle.thread_runs.specs.Runs.{Adds, HasRoomFor, HasRoomAt}
 
 -- A call that was refused by its token, or not made, since memory was refused for its reply, adds
 -- none.
-pub adds_same : (c : ℕ) (call : Call) (refusal : Refusal) (seen seen' : List Entry) → seen' ≡ seen → Adds c call (ends.Refused refusal) seen seen'
+pub adds_same : (c : ℕ) (call : Call) (refusal : Refusal) (seen seen' : List Entry) → seen' ≡ seen
+    → Adds c call (ends.Refused refusal) seen seen'
 adds_same c call OutOfStep seen seen' is = record { added = []; entries = is ∙ sym (append-nil seen); made = tt; quiet = λ whole. refl }
 adds_same c call refusal seen seen' is = record { added = []; entries = is ∙ sym (append-nil seen); made = refl; quiet = λ whole. tt }
 

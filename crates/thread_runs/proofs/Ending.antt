@@ -1,45 +1,22 @@
 -- A script's course through its calls: the caller's phase, and the outcomes that are possible.
-use Rattle.std.proofs.Common.{◌≡◌, ℕ, ◌⊎◌, ◌+◌, nat_lt, Bool, true, false, zero, suc, ◌||◌, List, [], ◌∷◌, length, Option, Some, None, is_some, refl, sym, ap, subst, ◌∙◌, inl, inr, if◌then◌else◌}
-use Rattle.std.specs.Prelude.{slice_get, nat_le, IsTrue}
-use Rattle.std.specs.List.{list_any}
+use Rattle.std.proofs.Common.{◌≡◌, ℕ, ◌⊎◌, ◌+◌, nat_lt, Bool, true, false, zero, suc, ◌||◌, List, [], ◌∷◌, length, Option, Some, None, is_some, refl, sym, ap, subst, ◌∙◌, inl, inr, if◌then◌else◌, slice_get, nat_le, IsTrue}
+use Rattle.thread_runs.proofs.Vocabulary.{list_any, false≢true, or_right, Action, Entry, Refusal, BadKey, NoSuchLevel, NoMemory, StampsUsedUp, StaleWord, OutOfStep, Closed, Opened, Seat, seat_after, is_bad_key, Call, End, Progress, Next, Over, attempt_at, call_of, call_at, done_with, done_at, busy_at, refused_with, refused_in, refused_at, progress_at, Ran, Failed, Token, Heard, outcome_by, get_empty}
 use Rattle.std.specs.Option.{option_or}
-use Rattle.std.proofs.lemmas.Bool.{false≢true, or_right}
-use Rattle.txn_words.specs.declared.action.Action.{Action}
 use Rattle.txn_words.specs.declared.action.Action.TheVariants as actions
-use Rattle.txn_words.specs.declared.answer.Answer.{Answer}
 use Rattle.txn_words.specs.declared.answer.Answer.TheVariants as answers
-use Rattle.txn_words.specs.declared.entry.Entry.{Entry}
-use Rattle.txn_words.specs.declared.refusal.Refusal.{Refusal}
-use Rattle.txn_words.specs.declared.refusal.Refusal.TheVariants.{BadKey, NoSuchLevel, NoMemory, StampsUsedUp, StaleWord, OutOfStep}
 use Rattle.txn_words.specs.declared.seat.Phase.{Phase}
-use Rattle.txn_words.specs.declared.seat.Phase.TheVariants.{Closed, Opened}
 use Rattle.txn_words.specs.Map.{key_of}
 use Rattle.txn_words.specs.Seats.{refusal_in}
-use Rattle.txn_words.specs.Shape.{Seat, seat_after}
-use Rattle.txn_words.specs.Sizes.{is_bad_key}
-use Rattle.txn_drive.specs.declared.call.Call.{Call}
-use Rattle.txn_drive.specs.declared.call.Call.TheVariants as calls
-use Rattle.txn_drive.specs.declared.«end».End.{End}
 use Rattle.txn_drive.specs.declared.«end».End.TheVariants as ends
 use Rattle.txn_drive.specs.Drives.{first_step}
-use Rattle.txn_drive.specs.Made.{IsMade}
 use Rattle.script_worker.specs.declared.attempt.Stage.{Stage}
 use Rattle.script_worker.specs.declared.attempt.Stage.TheVariants.{Beginning, Acting, Leaving}
-use Rattle.script_worker.specs.declared.attempt.Attempt.{Attempt}
-use Rattle.script_worker.specs.declared.attempt.Progress.{Progress}
-use Rattle.script_worker.specs.declared.attempt.Progress.TheVariants.{Next, Over}
 use Rattle.script_worker.specs.declared.attempt.Finish.{Finish}
 use Rattle.script_worker.specs.declared.attempt.Finish.TheVariants as finishes
-use Rattle.script_worker.specs.Attempts.{attempt_at, first_attempt, call_of, call_at, done_with, done_at, busy_at, refused_with, refused_in, refused_at, progress_at, progress_of}
-use Rattle.locked_map.specs.Calls.{Ran, Failed}
 use Rattle.core_tokens.specs.Ready.{refused_at as refused_token, refused_help}
 use Rattle.core_tokens.specs.Suits.{may_refuse}
-use Rattle.core_tokens.specs.Tokens.{Token}
-use Rattle.script_worker.specs.Accounts.{Outcome}
 use Rattle.thread_runs.specs.Possible.{has_bad_key, is_back, is_abort, MayBeRefused, MayCome, is_op}
-use Rattle.script_worker.specs.Chunks.{Heard, outcome_by}
 use Rattle.thread_runs.specs.Runs.{HasPhase, IsIn, HasEnded, phase_at}
-use Rattle.script_worker.proofs.Places.{get_empty}
 use Rattle.thread_runs.proofs.Seating.{is_refusal, phase_after, phase_by, made_landed}
 
 -- An action of the script that passes a test.
@@ -83,11 +60,13 @@ is_out refusal = false
 
 module _ (half : Bool) (script : List Action) (tries again : ℕ) (broken : Bool) (seen : List Entry) where
   -- A call that did what it was asked to do, and one that found a stripe held.
-  done_stands : (stage : Stage) → HasPhase (phase_after (phase_at stage) (call_at script stage)) (seat_after seen) → MayLeave half script stage → Stands half script broken seen (done_at script again stage)
+  done_stands : (stage : Stage) → HasPhase (phase_after (phase_at stage) (call_at script stage)) (seat_after seen)
+      → MayLeave half script stage → Stands half script broken seen (done_at script again stage)
   done_stands Beginning at may = (inr at, tt)
   done_stands (Acting i) at may = by (slice_get script i) refl at
     where
-      by : (o : Option Action) → slice_get script i ≡ o → HasPhase (phase_after Opened (call_of o)) (seat_after seen) → Stands half script broken seen (done_with again i o)
+      by : (o : Option Action) → slice_get script i ≡ o → HasPhase (phase_after Opened (call_of o)) (seat_after seen)
+          → Stands half script broken seen (done_with again i o)
       by (Some actions.Abort) is at = (inr at, any_at is_abort script i actions.Abort is refl)
       by o is at = (inr at, tt)
   done_stands (Leaving refusal) at may = (inr at, may)
@@ -203,9 +182,12 @@ module _ {S : Type 0} (half : Bool) (script : List Action) (tries again : ℕ) (
       subst (λ (r : Refusal). Stands half script k.broken k.seen (refused_at script again stage r)) (sym same) (leaves half script tries again k.broken k.seen NoMemory stage at (want_good half script stage NoMemory want))
 
   -- The caller's phase after a call of a script's attempt.
-  pub stands_at : (outcome : End) → HasEnded k call outcome l → Stands half script l.broken l.seen (progress_at script tries again stage outcome)
-  stands_at (ends.Answered a) (inl ended) = done_stands half script tries again l.broken l.seen stage (landed_by ended.0 (ends.Answered a) refl ended.1) may
-  stands_at ends.Helped (inl ended) = done_stands half script tries again l.broken l.seen stage (landed_by ended.0 ends.Helped refl ended.1) may
+  pub stands_at : (outcome : End) → HasEnded k call outcome l
+      → Stands half script l.broken l.seen (progress_at script tries again stage outcome)
+  stands_at (ends.Answered a) (inl ended) =
+      done_stands half script tries again l.broken l.seen stage (landed_by ended.0 (ends.Answered a) refl ended.1) may
+  stands_at ends.Helped (inl ended) =
+      done_stands half script tries again l.broken l.seen stage (landed_by ended.0 ends.Helped refl ended.1) may
   stands_at (ends.Busy x) (inl ended) = busy_stands half script tries again l.broken l.seen (landed_by ended.0 (ends.Busy x) refl ended.1)
   stands_at (ends.Refused refusal) (inl ended) = elim ended.1 [
     | inl token ↦ same_stands (refused_at script again stage refusal) token.1 (token_stands refusal token.0)
@@ -214,7 +196,8 @@ module _ {S : Type 0} (half : Bool) (script : List Action) (tries again : ℕ) (
   stands_at (ends.Refused refusal) (inr none) = same_stands (refused_at script again stage refusal) none.2 (none_stands refusal none.0 none.1)
   stands_at outcome (inr none) = absurd (cc none.0)
 
-pub over_may : (half : Bool) (script : List Action) (finish : Finish) (outcome : End) (heard : Heard) → MayBeOver half script finish → MayCome half script (outcome_by finish outcome heard)
+pub over_may : (half : Bool) (script : List Action) (finish : Finish) (outcome : End) (heard : Heard) → MayBeOver half script finish
+    → MayCome half script (outcome_by finish outcome heard)
 over_may half script finishes.Committed (ends.Answered (answers.Committed place)) heard may = tt
 over_may half script finishes.Aborted outcome heard may = may
 over_may half script (finishes.Refused refusal) outcome heard may = may

@@ -1,31 +1,13 @@
 -- A call for help between two calls of a script, which adds no entry unless it falls out of step.
-use Rattle.std.proofs.Common.{◌≡◌, ℕ, Bool, true, false, not, List, [], ◌++◌, append_assoc, Option, Some, None, is_some, if◌then◌else◌, refl, sym, ap, subst, ◌∙◌, inl, inr}
-use Rattle.std.proofs.lemmas.List.{append-nil}
-use Rattle.std.proofs.lemmas.Bool.{false≢true}
-use Rattle.txn_words.specs.declared.action.Action.{Action}
+use Rattle.std.proofs.Common.{◌≡◌, ℕ, Bool, true, false, not, List, [], ◌++◌, append_assoc, Option, Some, None, is_some, refl, sym, ap, subst, ◌∙◌, inl, inr, append-nil}
+use Rattle.thread_runs.proofs.Vocabulary.{false≢true, Action, Entry, Refusal, BadKey, OutOfStep, Closed, Seat, seat_after, is_bad_key, Call, End, IsMade, CommitNothing, Progress, Over, call_at, progress_of, Heard, first_heard, Ended, Failed, FellOut, Token}
 use Rattle.txn_words.specs.declared.answer.Answer.TheVariants as answers
-use Rattle.txn_words.specs.declared.entry.Entry.{Entry}
-use Rattle.txn_words.specs.declared.refusal.Refusal.{Refusal}
-use Rattle.txn_words.specs.declared.refusal.Refusal.TheVariants.{BadKey, OutOfStep}
-use Rattle.txn_words.specs.declared.seat.Phase.TheVariants.{Closed}
-use Rattle.txn_words.specs.Shape.{Seat, seat_after}
-use Rattle.txn_words.specs.Sizes.{is_bad_key}
-use Rattle.txn_drive.specs.declared.call.Call.{Call}
 use Rattle.txn_drive.specs.declared.call.Call.TheVariants as calls
-use Rattle.txn_drive.specs.declared.«end».End.{End}
 use Rattle.txn_drive.specs.declared.«end».End.TheVariants as ends
-use Rattle.txn_drive.specs.Made.{IsMade, CommitNothing}
 use Rattle.script_worker.specs.declared.attempt.Finish.TheVariants as finishes
-use Rattle.script_worker.specs.declared.attempt.Progress.{Progress}
-use Rattle.script_worker.specs.declared.attempt.Progress.TheVariants.{Over}
-use Rattle.script_worker.specs.Attempts.{call_at, progress_of}
-use Rattle.script_worker.specs.Chunks.{Heard, first_heard}
-use Rattle.locked_map.specs.Calls.{Ended, Failed, FellOut}
 use Rattle.core_tokens.specs.Ready.{refused_at}
 use Rattle.core_tokens.specs.Holds.{is_out}
-use Rattle.core_tokens.specs.Tokens.{Token}
 use Rattle.script_worker.specs.Accounts as accounts
-use Rattle.script_worker.specs.Accounts.{Outcome}
 use Rattle.thread_runs.specs.Runs.{Adds, Grows, HasEnded, HasRunTo, IsIn, phase_at}
 use Rattle.txn_drive.proofs.Quiet.{append_quiet}
 use Rattle.thread_runs.proofs.Ending.{MayLeave, Stands, stands_at, if_bad}
@@ -62,7 +44,8 @@ IsBefore c half script base heard broken seen = IsRunning c script heard base se
 abbrev pub IsAfter : ℕ → Bool → ℕ → List Action → List Entry → Heard → End → Bool → List Entry → Progress → Type 0
 IsAfter c half tries script base heard end broken seen p = RunsOn c tries script heard end base seen p × Stands half script broken seen p
 
-pub before_first : (c : ℕ) (half : Bool) (script : List Action) (base : List Entry) (heard : Heard) (broken : Bool) → heard ≡ first_heard → IsIn Closed broken base
+pub before_first : (c : ℕ) (half : Bool) (script : List Action) (base : List Entry) (heard : Heard) (broken : Bool) → heard ≡ first_heard
+    → IsIn Closed broken base
     → IsBefore c half script base heard broken base
 before_first c half script base heard broken is at = rw is (([], sym (append-nil base), chunk_begun c script), (at, tt))
 
@@ -71,10 +54,11 @@ pub called : {S : Type 0} (c : ℕ) (half : Bool) (tries : ℕ) (script : List A
     → j.number ≡ c → j.limits.half ≡ half → call ≡ call_at script heard.attempt.stage → heard' ≡ heard → p ≡ progress_of script tries heard'.attempt end
     → Adds j.number call end j.seen k.seen → HasEnded j call end k → (k.broken ≡ false → is_some (seat_after k.seen) ≡ true) → Grows k end true l
     → IsBefore c half script base heard j.broken j.seen → IsAfter c half tries script base heard' end l.broken l.seen p
-called c half tries script base heard heard' j k l call end p mine halves call_is same p_is adds ended rows on before = rw (p_is, same, on.1, on.0) (
-  run_call c tries script heard base j.seen k.seen end _ (rw (mine, call_is) at adds) refl before.0,
-  stands_at half script tries heard.attempt.again heard.attempt.stage j k halves rows before.1.0 before.1.1 end (rw call_is at ended),
-)
+called c half tries script base heard heard' j k l call end p mine halves call_is same p_is adds ended rows on before =
+    rw (p_is, same, on.1, on.0) (
+      run_call c tries script heard base j.seen k.seen end _ (rw (mine, call_is) at adds) refl before.0,
+      stands_at half script tries heard.attempt.again heard.attempt.stage j k halves rows before.1.0 before.1.1 end (rw call_is at ended),
+    )
 
 -- Help that fell out of step: the token is broken now, and the entries that it has added commit
 -- nothing.
@@ -106,8 +90,8 @@ done_quiet c (calls.Op op) reply added made = subst CommitNothing (sym made) ref
 done_quiet c call reply added made = absurd made
 
 -- A script whose caller fell out of step by a call for help after a put.
-pub fell_out : {S : Type 0} (c c' tries : ℕ) (script : List Action) (heard : Heard) (base seen : List Entry) (call : Call) (last : End) (k l : Token S)
-    → Adds c' call last seen k.seen → (k.broken ≡ false → is_some (seat_after k.seen) ≡ true) → Grows k last false l
+pub fell_out : {S : Type 0} (c c' tries : ℕ) (script : List Action) (heard : Heard) (base seen : List Entry) (call : Call) (last : End)
+    (k l : Token S) → Adds c' call last seen k.seen → (k.broken ≡ false → is_some (seat_after k.seen) ≡ true) → Grows k last false l
     → IsRunning c script heard base seen → HasRunTo c tries script (accounts.Refused OutOfStep) base l.seen × IsIn Closed l.broken l.seen
 fell_out c c' tries script heard base seen call last k l adds rows (last_is, key, words, ended) running =
     let fell : Fell k l = fell_by words k key l rows ended in

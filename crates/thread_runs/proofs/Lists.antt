@@ -1,9 +1,6 @@
 -- Elements of lists by their positions, and lists whose elements all have a property.
-use Rattle.std.proofs.Common.{◌≡◌, ℕ, ◌⊎◌, zero, suc, List, [], ◌∷◌, ◌++◌, length, map, set, Some, refl, sym, ap, subst, ◌∙◌, inl, inr}
-use Rattle.std.specs.Prelude.{slice_get, All}
-use Rattle.std.specs.Option.{option_map}
-use Rattle.std.proofs.lemmas.Option.{slice_get_within, slice_get-map, get_or_from_slice_get}
-use Rattle.script_worker.proofs.Places.{get_empty}
+use Rattle.std.proofs.Common.{◌≡◌, ℕ, ◌⊎◌, zero, suc, List, [], ◌∷◌, ◌++◌, length, map, set, Some, refl, sym, ap, subst, ◌∙◌, inl, inr, slice_get, All, option_map}
+use Rattle.thread_runs.proofs.Vocabulary.{slice_get_within, slice_get-map, get_or_from_slice_get, get_empty}
 use Rattle.thread_runs.specs.Each.{Each}
 
 -- An element of a list with one more is one of the list, or the last.

@@ -1,13 +1,7 @@
 -- The loop over the calls of a script.
-use Rattle.std.proofs.Common.{◌≡◌, ℕ, List, [], ◌++◌, append_assoc, append-nil, sym, ap, subst, ◌∙◌}
-use Rattle.txn_words.specs.declared.action.Action.{Action}
-use Rattle.txn_words.specs.declared.entry.Entry.{Entry}
-use Rattle.script_worker.specs.Chunks.{Heard, IsChunk, heard_then, outcome_by}
+use Rattle.std.proofs.Common.{◌≡◌, ℕ, List, ◌++◌, append_assoc, ap, ◌∙◌}
+use Rattle.thread_runs.proofs.Vocabulary.{Action, Entry, Heard, IsChunk, heard_then, outcome_by, End, Progress, Next, Over, call_at, progress_of}
 use Rattle.thread_runs.specs.Runs.{Adds, HasRunTo}
-use Rattle.txn_drive.specs.declared.«end».End.{End}
-use Rattle.script_worker.specs.declared.attempt.Progress.{Progress}
-use Rattle.script_worker.specs.declared.attempt.Progress.TheVariants.{Next, Over}
-use Rattle.script_worker.specs.Attempts.{call_at, progress_of}
 use Rattle.script_worker.proofs.Chunks.{goes_quiet, after_call}
 
 -- The loop over the calls of a script; the entries `base` were seen before it.
@@ -24,7 +18,8 @@ pub run_call : (c tries : ℕ) (script : List Action) (heard : Heard) (base seen
 run_call c tries script heard base seen seen' end (Next next) adds is (chunk, seen_is, so_far) = (
   chunk ++ adds.added,
   adds.entries ∙ ap (λ es. es ++ adds.added) seen_is ∙ append_assoc base chunk adds.added,
-  after_call c tries script heard chunk adds.added end (Next next) adds.made (goes_quiet script tries heard.attempt next end adds.added is) so_far is,
+  after_call c tries script heard chunk adds.added end (Next next) adds.made
+      (goes_quiet script tries heard.attempt next end adds.added is) so_far is,
 )
 run_call c tries script heard base seen seen' end (Over finish) adds is (chunk, seen_is, so_far) = (
   chunk ++ adds.added,

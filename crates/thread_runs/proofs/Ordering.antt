@@ -1,18 +1,14 @@
 -- Rows, each with its last element first, are merged: one element after the other, from row after
 -- row.
-use Rattle.std.proofs.Common.{◌≡◌, ℕ, ◌+◌, ◌*◌, ◌/◌, ◌%◌, ◌<◌, List, [], ◌∷◌, ◌++◌, append_assoc, length, length-append, reverse, set, Some, refl, sym, ap, subst, ◌∙◌, inl, inr, arith, slice_get, slice_index_or, mod-lt, append-nil, length-set}
-use Rattle.std.proofs.lemmas.Bool.{cases_eq}
-use Rattle.std.proofs.lemmas.List.{length-reverse, nil_from_length, reverse-append}
-use Rattle.std.proofs.lemmas.Option.{slice_get_within, slice_get_read}
-use Rattle.script_worker.specs.Accounts.{every}
+use Rattle.std.proofs.Common.{◌≡◌, ℕ, ◌+◌, ◌*◌, ◌/◌, ◌%◌, ◌<◌, List, [], ◌∷◌, ◌++◌, append_assoc, length, length-append, reverse, set, Some, refl, sym, ap, ◌∙◌, inl, inr, arith, slice_get, slice_index_or, append-nil, length-set}
+use Rattle.thread_runs.proofs.Vocabulary.{cases_eq, length-reverse, nil_from_length, reverse-append, slice_get_within, slice_get_read, every, every-hit, every-miss, every-length, every-fewer, number_at, one_remainder, get_within}
 use Rattle.thread_runs.specs.Each.{Each}
-use Rattle.script_worker.proofs.Every.{every-hit, every-miss, every-length, every-fewer, number_at, one_remainder}
-use Rattle.script_worker.proofs.Places.{get_within}
 use Rattle.thread_runs.proofs.Lists.{get_set_same, get_set_other}
 
 -- The rest of a row: the elements that are not out yet.
 abbrev pub HasLeft : {R X : Type 0} → (R → List X) → ℕ → List R → List X → ℕ → R → Type 0
-HasLeft {R} items n left out i was = (row : R) × (slice_get left i ≡ Some row) × (reverse (items was) ≡ every n i out ++ reverse (items row))
+HasLeft {R} items n left out i was = (row : R) × (slice_get left i ≡ Some row) ×
+    (reverse (items was) ≡ every n i out ++ reverse (items row))
 
 pub record IsLeft {R X : Type 0} (items : R → List X) (n : ℕ) (rows left : List R) (out : List X) : Type 0 where
   pub as_many : length left ≡ length rows
@@ -50,7 +46,8 @@ left_more {R} {X} items n rows left out c row row' x some as_many turn is popped
         let mine = rw (same_row left c row old is there, popped, reverse-append (items row') (x ∷ [])) at rest in
         (row', get_set_same left c row' row is, rw (every-hit n some out x c k at, append_assoc) mine)
 
-    other : (i : ℕ) (was : R) → i < n → (c ≡ i → ⊥) → HasLeft items n left out i was → HasLeft items n (set left c row') (out ++ x ∷ []) i was
+    other : (i : ℕ) (was : R) → i < n → (c ≡ i → ⊥) → HasLeft items n left out i was
+        → HasLeft items n (set left c row') (out ++ x ∷ []) i was
     other i was below apart (old, there, rest) = (
       old,
       get_set_other left c i row' apart ∙ there,

@@ -1,31 +1,18 @@
 -- The reports of all workers of a run, and their rows of outcomes, each with its last one first.
-use Rattle.std.proofs.Common.{◌≡◌, ℕ, ◌+◌, ◌*◌, ◌/◌, ◌%◌, ◌<◌, Bool, List, get_or, length, map, reverse, Some, sym, ap, subst, ◌∙◌, inl, inr, arith}
-use Rattle.std.specs.Prelude.{slice_get, All}
-use Rattle.std.specs.List.{range_with_len}
+use Rattle.std.proofs.Common.{◌≡◌, ℕ, ◌+◌, ◌*◌, ◌/◌, ◌%◌, ◌<◌, Bool, List, get_or, length, map, reverse, Some, sym, ap, subst, ◌∙◌, arith, slice_get, All, mod-lt}
+use Rattle.thread_runs.proofs.Vocabulary.{range_with_len, get_or-map, length-map, length-reverse, reverse-reverse, Action, Entry, own, IsShaped, Sizes, Outcome, every, AreAllTrue, every-map, get-every, number_at, get_within, true_plays}
 use Rattle.std.proofs.lemmas.List.FromFn.{length-map-range_with_len, get_or-map-range_with_len}
-use Rattle.std.proofs.Math.Nat.{mod-lt}
-use Rattle.std.proofs.lemmas.List.{get_or-map, length-map, length-reverse, reverse-reverse}
-use Rattle.atomic_table.specs.Seated.{TableId}
 use Rattle.txn_words.specs.declared.holder.Holder.TheVariants.{Begun}
-use Rattle.txn_words.specs.declared.action.Action.{Action}
-use Rattle.txn_words.specs.declared.entry.Entry.{Entry}
 use Rattle.txn_words.specs.Kinds.{caller_of}
 use Rattle.txn_trace.specs.Legal.{IsLegal}
 use Rattle.txn_trace.specs.Replies.{RepliesHold}
-use Rattle.txn_words.specs.Shape.{own, IsShaped}
-use Rattle.txn_words.specs.Sizes.{Sizes}
 use Rattle.locked_map.specs.Closes.{IsOwn}
-use Rattle.core_tokens.specs.Tokens.{Ticket, new_ticket}
 use Rattle.thread_runs.specs.declared.outcome.Outcome as codes
 use Rattle.thread_runs.specs.declared.worker.WorkerReport.{WorkerReport}
-use Rattle.script_worker.specs.Accounts.{Outcome, every, AreAllTrue}
 use Rattle.thread_runs.specs.Each.{Each}
 use Rattle.thread_runs.specs.Possible.{MayCome}
 use Rattle.thread_runs.specs.Runs.{AreToldIn, MayAllCome, HasReported, HasRunScripts, told_of}
-use Rattle.script_worker.proofs.Every.{every-map, get-every, number_at}
-use Rattle.script_worker.proofs.Places.{get_within}
 use Rattle.thread_runs.proofs.Lists.{all_at, get_map, map_get}
-use Rattle.script_worker.proofs.Accounts.{true_plays}
 use Rattle.thread_runs.proofs.Working.{all_true, told_within}
 
 -- Reports of a work that has these numbers and scripts.

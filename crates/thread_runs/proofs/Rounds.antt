@@ -1,23 +1,17 @@
 -- The loop over a worker's scripts.
-use Rattle.std.proofs.Common.{◌≡◌, ℕ, suc, suc-mul, ◌+◌, ◌*◌, ◌<◌, ◌≤◌, Bool, List, [], ◌∷◌, ◌++◌, length, length-append, Some, None, sym, ap, subst, ◌∙◌, inl, inr, arith}
-use Rattle.std.specs.Prelude.{slice_get, get_or}
-use Rattle.std.proofs.lemmas.Option.{slice_get_within, slice_get_past, slice_get-get_or}
-use Rattle.txn_words.specs.declared.action.Action.{Action}
-use Rattle.txn_words.specs.declared.entry.Entry.{Entry}
-use Rattle.script_worker.specs.Accounts.{Outcome, Told, every, tolds_of}
+use Rattle.std.proofs.Common.{◌≡◌, ℕ, suc, suc-mul, ◌+◌, ◌*◌, ◌<◌, ◌≤◌, Bool, List, [], ◌∷◌, ◌++◌, length, length-append, Some, None, sym, ap, ◌∙◌, arith, slice_get, get_or}
+use Rattle.thread_runs.proofs.Vocabulary.{slice_get_within, slice_get_past, slice_get-get_or, Action, Entry, Outcome, Told, every, tolds_of, get-every, get_none, no_account, tolds_of-none, tolds_of-push}
 use Rattle.thread_runs.specs.Runs.{AreToldIn, MayAllCome, HasRunAll, HasRunTo}
 use Rattle.thread_runs.specs.Possible.{MayCome}
-use Rattle.script_worker.proofs.Every.{get-every}
-use Rattle.script_worker.proofs.Places.{get_none}
 use Rattle.txn_trace.proofs.Callers.{ByRecursion-append}
 use Rattle.thread_runs.proofs.Working.{told_more}
-use Rattle.script_worker.proofs.Accounts.{no_account, tolds_of-none, tolds_of-push}
 
 may_push : (half : Bool) (scripts : List (List Action)) (outcomes : List Outcome) (script : List Action) (outcome : Outcome) → slice_get scripts (length outcomes) ≡ Some script → MayAllCome half scripts outcomes → MayCome half script outcome
     → MayAllCome half scripts (outcomes ++ outcome ∷ [])
 may_push half scripts outcomes script outcome here all may =
     let May : Told → Type 0 = λ told. MayCome half told.script told.outcome in
-    rw (tolds_of-push scripts outcomes script outcome here) (ByRecursion-append May May (λ told may. may) (tolds_of scripts outcomes) _ all (may, tt))
+    rw (tolds_of-push scripts outcomes script outcome here)
+    (ByRecursion-append May May (λ told may. may) (tolds_of scripts outcomes) _ all (may, tt))
 
 -- The loop so far: there are as many outcomes as scripts, and the next script is at `number`.
 pub record IsSoFar (half : Bool) (workers tries c : ℕ) (scripts : List (List Action)) (number : ℕ) (outcomes : List Outcome) (seen : List Entry) : Type 0 where

@@ -1,21 +1,13 @@
 -- The phase of a caller's seat after each call of a script, and the refusals with which the call
 -- may end.
-use Rattle.std.proofs.Common.{◌≡◌, ℕ, ◌+◌, take, slice_index, ◌==◌, ◌&&◌, Bool, true, false, cond, List, [], ◌∷◌, ◌++◌, append_assoc, Option, Some, None, is_some, refl, sym, ap, subst, ◌∙◌}
-use Rattle.std.specs.Option.{option_and_then}
-use Rattle.std.proofs.lemmas.Bool.{false≢true}
-use Rattle.std.proofs.lemmas.List.{append-nil}
+use Rattle.std.proofs.Common.{◌≡◌, ℕ, ◌+◌, take, slice_index, ◌==◌, ◌&&◌, Bool, true, false, cond, List, [], ◌∷◌, ◌++◌, append_assoc, Option, Some, None, is_some, refl, sym, ap, subst, ◌∙◌, option_and_then, append-nil}
+use Rattle.thread_runs.proofs.Vocabulary.{false≢true, Entry, Closed, Opened, Waiting, LeavingTo, LeavingToEnd, Seat, row, seat_after, closed_seat, Call, End, undone_by, IsUndone, IsMade}
 use Rattle.txn_words.specs.declared.answer.Answer.TheVariants as answers
-use Rattle.txn_words.specs.declared.entry.Entry.{Entry}
 use Rattle.txn_words.specs.declared.entry.Entry.TheVariants.{Began, Asked, Did, Saved, Leave, Returned, Committed, Busy, Aborted}
 use Rattle.txn_words.specs.declared.seat.Phase.{Phase}
-use Rattle.txn_words.specs.declared.seat.Phase.TheVariants.{Closed, Opened, Waiting, LeavingTo, LeavingToEnd}
-use Rattle.txn_words.specs.Shape.{Seat, row, seat_after, closed_seat}
 use Rattle.txn_trace.proofs.Pushes.{seat_after-push}
-use Rattle.txn_drive.specs.declared.call.Call.{Call}
 use Rattle.txn_drive.specs.declared.call.Call.TheVariants as calls
-use Rattle.txn_drive.specs.declared.«end».End.{End}
 use Rattle.txn_drive.specs.declared.«end».End.TheVariants as ends
-use Rattle.txn_drive.specs.Made.{undone_by, IsUndone, IsMade}
 use Rattle.thread_runs.specs.Runs.{HasPhase}
 
 -- The phase after an entry that ends a call's work.
@@ -48,7 +40,7 @@ landed e (Some s) w h = at e s.phase refl w h
     at (Returned x m) (LeavingTo n) is w h = if_some ((n == m) && (slice_index s.kept n == s.standing)) (record s { phase = Opened; kept = take (n + 1) s.kept }) Opened refl h
     at (Committed x p) Opened is w h = (closed_seat, refl, refl)
     at (Aborted x) LeavingToEnd is w h = if_some (s.standing == 0) closed_seat Closed refl h
-    at f q is w h = absurd (cc (w, h))
+    at f q is w h = absurd (cc)
 
 -- The last of the added entries is one that ends a call's work.
 added_landed : (seen seen' front : List Entry) (e : Entry) → ends_work e ≡ true → seen' ≡ seen ++ (front ++ e ∷ []) → is_some (seat_after seen') ≡ true → HasPhase (lands e) (seat_after seen')

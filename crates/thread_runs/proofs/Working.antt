@@ -1,21 +1,16 @@
 -- The scripts of each caller, and the outcomes of all of them as statements about the history.
 use Rattle.std.proofs.Common.{◌≡◌, ℕ, zero, suc, ◌<◌, true, List, [], ◌∷◌, ◌++◌, length, slice_get, is_some, Some, sym, ap, subst, ◌∙◌}
-use Rattle.std.specs.List.{AllByRecursion}
-use Rattle.txn_words.specs.declared.action.Action.{Action}
-use Rattle.txn_words.specs.declared.entry.Entry.{Entry}
+use Rattle.thread_runs.proofs.Vocabulary.{AllByRecursion, Action, Entry, seat_after, own, IsShaped, Outcome, Told, AreAccounts, every, tolds_of, AreAllTrue, account_more, get_empty}
 use Rattle.txn_trace.specs.Replies.{RepliesHold}
-use Rattle.txn_words.specs.Shape.{seat_after, own, IsShaped}
-use Rattle.script_worker.specs.Accounts.{Outcome, Told, AreAccounts, every, tolds_of, AreAllTrue}
 use Rattle.thread_runs.specs.Runs.{AreToldIn, HasRunTo}
 use Rattle.txn_trace.proofs.Running.{has_seat}
 use Rattle.script_worker.proofs.Parts.{seat_front}
 use Rattle.script_worker.proofs.Telling.{accounts_true}
-use Rattle.script_worker.proofs.Accounts.{account_more}
-use Rattle.script_worker.proofs.Places.{get_empty}
 
 -- The accounts with one more script.
-pub told_more : (c tries : ℕ) (scripts : List (List Action)) (outcomes : List Outcome) (script : List Action) (outcome : Outcome) (seen seen' : List Entry) → slice_get scripts (length outcomes) ≡ Some script
-    → AreToldIn c tries scripts outcomes seen → HasRunTo c tries script outcome seen seen' → AreToldIn c tries scripts (outcomes ++ outcome ∷ []) seen'
+pub told_more : (c tries : ℕ) (scripts : List (List Action)) (outcomes : List Outcome) (script : List Action) (outcome : Outcome)
+    (seen seen' : List Entry) → slice_get scripts (length outcomes) ≡ Some script → AreToldIn c tries scripts outcomes seen
+    → HasRunTo c tries script outcome seen seen' → AreToldIn c tries scripts (outcomes ++ outcome ∷ []) seen'
 told_more c tries scripts outcomes script outcome seen seen' here told (chunk, seen_is, account) whole =
     let rows : is_some (seat_after (seen ++ chunk)) ≡ true = ap (λ es. is_some (seat_after es)) (sym seen_is) ∙ whole in
     subst (AreAccounts c tries (tolds_of scripts (outcomes ++ outcome ∷ []))) (sym seen_is)

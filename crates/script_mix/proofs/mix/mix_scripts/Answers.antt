@@ -14,17 +14,20 @@ pub loop-turn-init : goal.loop-turn-init
 loop-turn-init c =
     let core_is : c.in-Ok.core ≡ start c.args.work.now.sizes = c.in-Ok.ensures ∙ ap start c.limits-limits.ensures in
     let crew = rw (c.scripts.ensures, c.limits-limits.ensures) at (c.in_ok-workers.ensures.crew c.args.work.now.tries) in
-    let first = c.in_ok-workers.ensures.first ∙ (λ i. first_crew (c.scripts.ensures i) (c.limits-limits.ensures i) (c.limits-limits.ensures i).callers) in
+    let first = c.in_ok-workers.ensures.first
+    ∙ (λ i. first_crew (c.scripts.ensures i) (c.limits-limits.ensures i) (c.limits-limits.ensures i).callers) in
     record {
       limits = ap (λ (s : State). s.limits) core_is;
-      crew = subst (λ (s : State). IsCrew c.args.work.now.scripts c.args.work.now.tries c.args.work.now.sizes.callers s.history c.in_ok-workers.workers.items) (sym core_is) crew;
+      crew = subst (λ (s : State). IsCrew c.args.work.now.scripts c.args.work.now.tries c.args.work.now.sizes.callers s.history
+          c.in_ok-workers.workers.items) (sym core_is) crew;
       live = c.in_ok-live.ensures ∙ ap (λ (ws : List Worker). live_from 0 ws) c.deref.ensures.value;
       turns = ([], refl, λ i. record { core = core_is i; crew = first i; generator = c.seed_from_u64-generator.ensures i });
     }
 
 pub index_mut-requires : goal.index_mut-requires
 index_mut-requires c =
-    let found = drawn c.loop-turn.workers.items c.loop-turn.live.items c.in-Some.place c.index-number.result.now c.loop-turn.invariant.live (rw c.deref-in-loop-turn.ensures.value at c.in-Some.ensures.below) c.index-number.ensures in
+    let found = drawn c.loop-turn.workers.items c.loop-turn.live.items c.in-Some.place c.index-number.result.now c.loop-turn.invariant.live
+    (rw c.deref-in-loop-turn.ensures.value at c.in-Some.ensures.below) c.index-number.ensures in
     let within = found.within in
     let len = c.loop-turn.workers.ok.0 in
     omega (arith, within, len)
@@ -44,8 +47,9 @@ pub take_turn-lives-requires-clause-keeps : goal.take_turn-lives-requires-clause
 take_turn-lives-requires-clause-keeps c =
     let found = found_at (goal.at.take_turn-lives-requires-clause-keeps c).After-index_mut in
     rw (c.scripts-in-loop-turn.ensures, c.tries.ensures)
-    (member_keeps c.args.work.now.scripts c.args.work.now.tries c.args.work.now.sizes.callers c.index-number.result.now c.loop-turn.core.history
-    c.loop-turn.workers.items c.index_mut.result.now found.within c.index_mut.ensures.value c.loop-turn.invariant.crew)
+    (member_keeps c.args.work.now.scripts c.args.work.now.tries c.args.work.now.sizes.callers c.index-number.result.now
+    c.loop-turn.core.history c.loop-turn.workers.items c.index_mut.result.now found.within c.index_mut.ensures.value
+    c.loop-turn.invariant.crew)
 
 pub loop-turn-preserved : goal.loop-turn-preserved
 loop-turn-preserved c =

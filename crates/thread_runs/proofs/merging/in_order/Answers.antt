@@ -1,5 +1,5 @@
 use Rattle.std.proofs.Common.{◌≡◌, ℕ, ◌<◌, ◌+◌, length, refl, sym, ap, set, subst, ◌∙◌, arith}
-use Rattle.std.proofs.lemmas.List.{length_push}
+use Rattle.thread_runs.proofs.Vocabulary.{length_push}
 use Rattle.thread_runs.proofs.Ordering.{IsLeft, left_none, left_more, left_some, left_all, row_at}
 use Rattle.thread_runs.proofs.merging.in_order.Goals as goal
 
