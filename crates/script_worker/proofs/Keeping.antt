@@ -105,26 +105,22 @@ module _ (scripts : List (List Action)) (tries w : ℕ) (limits : Sizes) (below 
   follows : (p : Progress) → ChunkAfter w tries at.script heard (at.chunk ++ made task.drive) outcome p → KeepsAt tries workers scripts w (followed scripts w limits task at.script p) seen
   follows (Next attempt) chunk =
       moved_to tries workers limits.half scripts w task attempt (new_drive limits.half w (call_at at.script attempt.stage))
-      (txn_then at.txn outcome)
-      (replies_then at.replies outcome) (at.chunk ++ made task.drive) seen seen at refl refl
+      (txn_then at.txn outcome) (replies_then at.replies outcome) (at.chunk ++ made task.drive) seen seen at refl refl
       (rw (made-new limits.half w (call_at at.script attempt.stage), append-nil (at.chunk ++ made task.drive)) at.entries) chunk
   follows (Over over) account =
       let told = outcome_by over outcome heard in
       let some : 0 < workers = omega (arith, below) in
       let here = get-every workers some scripts w (length at.outcomes) ∙ ap (slice_get scripts) (sym at.number) ∙ at.there in
       let longer : length (at.outcomes ++ told ∷ []) ≡ suc (length at.outcomes) = omega (arith, length-append at.outcomes (told ∷ [])) in
-      let number : task.script + workers ≡ w + suc (length at.outcomes) * workers =
-      omega (arith, suc-mul (length at.outcomes) workers, at.number) in
-      keeps_started tries workers limits.half scripts w (at.outcomes ++ told ∷ []) (task.script + workers) seen (number ∙ ap (λ n. w + n * workers) (sym longer))
-      (subst (AreAccounts w tries (tolds_of (every workers w scripts) (at.outcomes ++ told ∷ []))) (sym at.entries)
+      keeps_started tries workers limits.half scripts w (at.outcomes ++ told ∷ []) (task.script + workers) seen
+      (rw (longer, suc-mul (length at.outcomes) workers) (omega (arith, at.number)))
+      (rw at.entries
       (account_more w tries (every workers w scripts) at.outcomes at.script told at.earlier (at.chunk ++ made task.drive) here at.told account))
 
   progressed_keeps : KeepsAt tries workers scripts w (progressed scripts tries w limits task outcome) seen
   progressed_keeps =
-      subst (λ o. KeepsAt tries workers scripts w (option_and_then (λ script. followed scripts w limits task script (progress_of script tries task.attempt outcome)) o) seen) (sym at.there)
-      (follows (progress_of at.script tries task.attempt outcome)
-      (after_call w tries at.script heard at.chunk (made task.drive) outcome _ made_is
-      (ended_quiet task.drive outcome ended) at.so_far refl))
+      let quiet = ended_quiet task.drive outcome ended in
+      rw at.there (follows _ (after_call w tries at.script heard at.chunk (made task.drive) outcome _ made_is quiet at.so_far refl))
 
 -- The task of a worker that moves on keeps to its scripts.
 module _ (scripts : List (List Action)) (tries w : ℕ) (limits : Sizes) (below : w < limits.callers) (seen : List Entry) where
@@ -159,7 +155,5 @@ stays scripts tries w limits step (Some task) is = ap (settled_in scripts tries 
 
 pub told_on : (scripts : List (List Action)) (tries : ℕ) (worker : Standing) (answer : Answer) (step : Step) → step_by (told_drive worker answer) ≡ Some step → told_by scripts tries worker answer ≡ told_drive worker answer
 told_on scripts tries worker answer step is =
-    let told : Option Task = drive_told worker.task answer in
-    let with_task : Option Task → Standing = λ o. record { number = worker.number; limits = worker.limits; task = o } in
-    let once : settled scripts tries worker.number worker.limits told ≡ told = stays scripts tries worker.number worker.limits step told is in
-    ap with_task (ap (settled scripts tries worker.number worker.limits) once ∙ once)
+    let once = stays scripts tries worker.number worker.limits step (drive_told worker.task answer) is in
+    rw (once, once)

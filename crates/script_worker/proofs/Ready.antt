@@ -79,9 +79,8 @@ module _ (scripts : List (List Action)) (tries w : ℕ) (limits : Sizes) where
       → FollowsReady task script (progress_at script tries again (stages.Acting i) outcome)
   bad_help again task script i c key false outcome here ended = absurd (cc ended)
   bad_help again task script i c key true outcome here ended =
-      let same : ends.Refused BadKey ≡ outcome = cc ended in
-      subst (λ o. FollowsReady task script (progress_at script tries again (stages.Acting i) o)) same
-      (subst (λ o. FollowsReady task script (refused_with again o BadKey)) (sym here) refl)
+      let same : outcome ≡ ends.Refused BadKey = cc ended in
+      rw (same, here)
 
   ready_action : (half : Bool) (again : ℕ) (task : Task) (script : List Action) (i c : ℕ) (o : Option Action) (outcome : End)
       → slice_get script i ≡ o → end_of (new_drive half c (call_of o)) ≡ Some outcome → FollowsReady task script (progress_at script tries again (stages.Acting i) outcome)
@@ -97,7 +96,7 @@ module _ (scripts : List (List Action)) (tries w : ℕ) (limits : Sizes) where
   ready_progressed : (task : Task) (outcome : End) → end_of task.drive ≡ Some outcome → HasStep task.drive ⊎ IsCalled scripts task → IsReadyTask (progressed scripts tries w limits task outcome)
   ready_progressed task outcome ended (inl steps) = absurd (cc (ended, steps_ended (step_of task.drive) task.drive refl steps))
   ready_progressed task outcome ended (inr called) =
-      subst (λ o. IsReadyTask (option_and_then (λ script. followed scripts w limits task script (progress_of script tries task.attempt outcome)) o)) (sym called.there)
+      rw called.there
       (ready_stage called.half task.attempt.again task called.script called.caller task.attempt.stage outcome (ap end_of (sym called.drive) ∙ ended))
 
   ready_in : (task : Task) (o : Option End) → end_of task.drive ≡ o → HasStep task.drive ⊎ IsCalled scripts task → IsReadyTask (settled_in scripts tries w limits task o)
