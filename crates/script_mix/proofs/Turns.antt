@@ -78,7 +78,7 @@ own-others w c h es other all = filter-append (λ e. caller_of e == c) h es ∙ 
 step_mine : (tries workers : ℕ) (scripts : List (List Action)) (w : ℕ) (task : Option Task) (seen : List Entry) (step : Step) (answer : Answer)
     → KeepsAt tries workers scripts w task seen → task_step task ≡ Some step → AreOf w (entries_of step answer)
 step_mine tries workers scripts w None seen step answer keeps is = absurd (cc is)
-step_mine tries workers scripts w (Some task) seen step answer keeps is = subst (λ c. AreOf c (entries_of step answer)) keeps.caller (entries_callers task.drive step answer is)
+step_mine tries workers scripts w (Some task) seen step answer keeps is = rw keeps.caller at (entries_callers task.drive step answer is)
 
 -- A worker's step.
 step_goes : (scripts : List (List Action)) (tries : ℕ) (old new : State) (before : Worker) (step : Step) (answer : Answer) → Move old step answer new → step_by before ≡ Some step
@@ -92,7 +92,8 @@ step_goes scripts tries old new before step answer move is keeps =
       number = refl;
       same = refl;
       others = λ c other. ap (own c) history ∙ own-others before.number c old.history es other mine;
-      keeps = subst (Keeps scripts tries (told_by scripts tries before answer)) (sym (ap (own before.number) history ∙ own-mine before.number old.history es mine)) (told_keeps scripts tries before answer (own before.number old.history) step is keeps);
+      keeps = rw (history, own-mine before.number old.history es mine)
+          (told_keeps scripts tries before answer (own before.number old.history) step is keeps);
     }
 
 goes_then : (scripts : List (List Action)) (tries : ℕ) (a b c : State) (x y z : Worker) → Goes scripts tries a b x y → Goes scripts tries b c y z → Goes scripts tries a c x z
@@ -112,7 +113,7 @@ module _ (scripts : List (List Action)) (tries : ℕ) where
   one_goes : (old : Working State) (step : Step) (answer : Answer) (new : Working State) → step_by old.worker ≡ Some step → Keeps scripts tries old.worker (own old.worker.number old.taker.history)
       → Steps old step answer new → Goes scripts tries old.taker new.taker old.worker new.worker
   one_goes old step answer new is keeps takes =
-      subst (λ (w : Worker). Goes scripts tries old.taker new.taker old.worker w) (sym takes.told) (step_goes scripts tries old.taker new.taker old.worker step answer takes.taken is keeps)
+      rw takes.told (step_goes scripts tries old.taker new.taker old.worker step answer takes.taken is keeps)
 
   second_goes : (old : Working State) (first second : Step) (answer : Answer) (between new : Working State) → step_by old.worker ≡ Some first → step_by (told_drive old.worker answers.Placed) ≡ Some second
       → Keeps scripts tries old.worker (own old.worker.number old.taker.history) → Steps old first answer between → TakesSecond Steps between second answer new
@@ -124,7 +125,7 @@ module _ (scripts : List (List Action)) (tries : ℕ) where
       goes_then scripts tries old.taker between.taker new.taker old.worker between.worker new.worker goes
       (one_goes between second answer new there goes.keeps then)
   second_goes old first second answer between new is next keeps takes same =
-      subst (λ (x : Working State). Goes scripts tries old.taker x.taker old.worker x.worker) (sym same) (one_goes old first answer between is keeps takes)
+      rw same (one_goes old first answer between is keeps takes)
 
   turn_goes_in : (old : Working State) (turn : Option Turn) (new : Working State) → IsTurnBy old.worker turn → Keeps scripts tries old.worker (own old.worker.number old.taker.history)
       → TakesIn Move scripts tries old turn new → Goes scripts tries old.taker new.taker old.worker new.worker
@@ -150,7 +151,7 @@ crew_goes scripts tries count w old new crew before after within at is goes read
 }
   where
     before_is : IsMember scripts tries count old.history w before
-    before_is = subst (IsMember scripts tries count old.history w) (sym at) (is.each w before within)
+    before_is = rw at (is.each w before within)
 
     stays : (d : ℕ) (worker : Worker) → d ≢ w → IsMember scripts tries count old.history d worker → IsMember scripts tries count new.history d worker
     stays d worker away member = record {
@@ -163,17 +164,16 @@ crew_goes scripts tries count w old new crew before after within at is goes read
     each : (d : ℕ) (other : Worker) → d < length (set crew w after) → IsMember scripts tries count new.history d (get_or (set crew w after) d other)
     each d other less = elim (cases_eq d w) [
       | inl mine ↦
-          subst (λ x. IsMember scripts tries count new.history x (get_or (set crew w after) x other)) (sym mine)
-          (subst (IsMember scripts tries count new.history w) (sym (get_or-set_same crew w after other within)) (record {
-            number = goes.number ∙ before_is.number;
+          let number = goes.number ∙ before_is.number in
+          rw (mine, get_or-set_same crew w after other within) (record {
+            number = number;
             workers = ap (λ (limits : Sizes). limits.callers) goes.same ∙ before_is.workers;
-            keeps = subst (λ x. Keeps scripts tries after (own x new.history)) (goes.number ∙ before_is.number) goes.keeps;
+            keeps = subst (λ x. Keeps scripts tries after (own x new.history)) number goes.keeps;
             ready = ready;
-          }))
+          })
       | inr away ↦
-          let still : d < length crew = subst (λ n. d < n) (length-set crew w after) less in
-          subst (IsMember scripts tries count new.history d) (sym (get_or-set_other crew w d after other away))
-          (stays d (get_or crew d other) away (is.each d other still))
+          rw (get_or-set_other crew w d after other away)
+          (stays d (get_or crew d other) away (is.each d other (rw (length-set crew w after) at less)))
     ]
 
 -- Each member keeps to its scripts.
@@ -181,7 +181,7 @@ pub member_keeps : (scripts : List (List Action)) (tries count w : ℕ) (h : Lis
     → w < length crew → worker ≡ get_or crew w worker → IsCrew scripts tries count h crew
     → Keeps scripts tries worker (own worker.number h)
 member_keeps scripts tries count w h crew worker within at is =
-    let member : IsMember scripts tries count h w worker = subst (IsMember scripts tries count h w) (sym at) (is.each w worker within) in
+    let member : IsMember scripts tries count h w worker = rw at (is.each w worker within) in
     subst (λ n. Keeps scripts tries worker (own n h)) (sym member.number) member.keeps
 
 -- One more member.
@@ -190,10 +190,10 @@ pub crew_more : (scripts : List (List Action)) (tries count : ℕ) (crew : List 
     → (w : ℕ) (other : Worker) → w < length (crew ++ worker ∷ []) → IsMember scripts tries count [] w (get_or (crew ++ worker ∷ []) w other)
 crew_more scripts tries count crew worker member each w other less = elim (cases_lt w (length crew)) [
   | inl within ↦
-      subst (IsMember scripts tries count [] w) (sym (get_or-append crew (worker ∷ []) other w within)) (each w other within)
+      rw (get_or-append crew (worker ∷ []) other w within) (each w other within)
   | inr past ↦
       let last : w ≡ length crew = omega (arith, length-append crew (worker ∷ [])) in
-      subst (λ x. IsMember scripts tries count [] x (get_or (crew ++ worker ∷ []) x other)) (sym last) (subst (IsMember scripts tries count [] (length crew)) (sym (get_or-append_seam crew worker [] other)) member)
+      rw (last, get_or-append_seam crew worker [] other) member
 ]
 
 -- In a crew's history the outcomes of each worker's scripts are true, and its committed transactions
@@ -207,8 +207,7 @@ crew_told limits scripts tries count stripes h crew legal is c below =
     let (outcomes, told) = keeps_told scripts tries worker (own c h) member.ready member.keeps in (
       outcomes,
       accounts_true c tries h (tolds_of (every count c scripts) outcomes) legal.shape legal.replies
-          (subst (λ n. AreAccounts c tries (tolds_of (every n c scripts) outcomes) (own c h)) member.workers
-          (subst (λ w. AreAccounts w tries (tolds_of (every worker.limits.callers w scripts) outcomes) (own c h)) member.number told)),
+          (rw (member.workers, member.number) at told),
     )
 
 pub crew_plays : {rule : Holder} (limits : Sizes) (scripts : List (List Action)) (tries count stripes : ℕ) (h : List Entry) (crew : List Worker) → IsLegal rule stripes h → IsCrew scripts tries count h crew → PlayScripts count scripts h
