@@ -113,13 +113,13 @@ seat_refused half script (Acting i) s refusal is = by (slice_get script i) refl 
     by : (o : Option Action) → slice_get script i ≡ o → option_or (refusal_in half (record s { phase = Opened }) (first_step 0 (call_of o))) (refused_help half (call_of o)) ≡ Some refusal → (is_out refusal ≡ false) × IsGood half script refusal o
     by (Some (actions.Op op)) at is =
         let bad = or_bad (is_bad_key half (key_of op)) BadKey refusal is in
-        subst (λ (r : Refusal). (is_out r ≡ false) × IsGood half script r (Some (actions.Op op))) bad.1 (refl, any_at (has_bad_key half) script i (actions.Op op) at bad.0)
+        rw (← bad.1) (refl, any_at (has_bad_key half) script i (actions.Op op) at bad.0)
     by (Some (actions.Back n)) at is =
         let bad = or_bad (nat_le (length s.kept) n) NoSuchLevel refusal is in
-        subst (λ (r : Refusal). (is_out r ≡ false) × IsGood half script r (Some (actions.Back n))) bad.1 (refl, any_at is_back script i (actions.Back n) at refl)
+        rw (← bad.1) (refl, any_at is_back script i (actions.Back n) at refl)
     by (Some (actions.Help key)) at is =
         let bad = if_bad (is_bad_key half key) BadKey refusal is in
-        subst (λ (r : Refusal). (is_out r ≡ false) × IsGood half script r (Some (actions.Help key))) bad.1 (refl, any_at (has_bad_key half) script i (actions.Help key) at bad.0)
+        rw (← bad.1) (refl, any_at (has_bad_key half) script i (actions.Help key) at bad.0)
     by o at is = absurd (cc is)
 seat_refused half script (Leaving why) s refusal is = absurd (cc is)
 
@@ -165,21 +165,14 @@ module _ {S : Type 0} (half : Bool) (script : List Action) (tries again : ℕ) (
   failed_stands OutOfStep free fell = out_stands half script tries again l.broken l.seen stage fell.broken
   failed_stands refusal free none =
       let before = sound_in k.limits.half k.broken k.seen call (phase_at stage) free at in
-      leaves half script tries again l.broken l.seen refusal stage (inr (subst (λ es. HasPhase (phase_at stage) (seat_after es)) (sym none.seen) before)) (want_good half script stage refusal none.may)
-
-  same_stands : (p : Progress) → l ≡ k → Stands half script k.broken k.seen p → Stands half script l.broken l.seen p
-  same_stands p same stands = subst (λ (t : Token S). Stands half script t.broken t.seen p) (sym same) stands
+      leaves half script tries again l.broken l.seen refusal stage (inr (rw none.seen before))
+      (want_good half script stage refusal none.may)
 
   token_stands : (refusal : Refusal) → refused_token k.limits.half k.broken (seat_after k.seen) call ≡ Some refusal → Stands half script k.broken k.seen (refused_at script again stage refusal)
-  token_stands refusal is = elim (token_refused half script stage k.broken (seat_after k.seen) refusal (ap (λ (b : Bool). refused_token b k.broken (seat_after k.seen) call) (sym halves) ∙ is) at) [
-    | inl out ↦ subst (λ (r : Refusal). Stands half script k.broken k.seen (refused_at script again stage r)) (sym out.0) (out_stands half script tries again k.broken k.seen stage out.1)
+  token_stands refusal is = elim (token_refused half script stage k.broken (seat_after k.seen) refusal (rw halves at is) at) [
+    | inl out ↦ rw out.0 (out_stands half script tries again k.broken k.seen stage out.1)
     | inr good ↦ refused_stands half script tries again k.broken k.seen refusal stage good.0 at good.1
   ]
-
-  none_stands : (refusal : Refusal) → ends.Refused refusal ≡ ends.Refused NoMemory → may_refuse call NoMemory ≡ true → Stands half script k.broken k.seen (refused_at script again stage refusal)
-  none_stands refusal is want =
-      let same : refusal ≡ NoMemory = cc is in
-      subst (λ (r : Refusal). Stands half script k.broken k.seen (refused_at script again stage r)) (sym same) (leaves half script tries again k.broken k.seen NoMemory stage at (want_good half script stage NoMemory want))
 
   -- The caller's phase after a call of a script's attempt.
   pub stands_at : (outcome : End) → HasEnded k call outcome l
@@ -190,10 +183,12 @@ module _ {S : Type 0} (half : Bool) (script : List Action) (tries again : ℕ) (
       done_stands half script tries again l.broken l.seen stage (landed_by ended.0 ends.Helped refl ended.1) may
   stands_at (ends.Busy x) (inl ended) = busy_stands half script tries again l.broken l.seen (landed_by ended.0 (ends.Busy x) refl ended.1)
   stands_at (ends.Refused refusal) (inl ended) = elim ended.1 [
-    | inl token ↦ same_stands (refused_at script again stage refusal) token.1 (token_stands refusal token.0)
+    | inl token ↦ rw token.1 (token_stands refusal token.0)
     | inr later ↦ failed_stands refusal later.0 later.1
   ]
-  stands_at (ends.Refused refusal) (inr none) = same_stands (refused_at script again stage refusal) none.2 (none_stands refusal none.0 none.1)
+  stands_at (ends.Refused refusal) (inr none) =
+      let same : refusal ≡ NoMemory = cc none.0 in
+      rw (none.2, same) (leaves half script tries again k.broken k.seen NoMemory stage at (want_good half script stage NoMemory none.1))
   stands_at outcome (inr none) = absurd (cc none.0)
 
 pub over_may : (half : Bool) (script : List Action) (finish : Finish) (outcome : End) (heard : Heard) → MayBeOver half script finish

@@ -16,7 +16,7 @@ get_push (z ∷ xs) y (suc i) x is = elim (get_push xs y i x is) [
 pub each_push : {X : Type 0} (P : ℕ → X → Type 0) (xs : List X) (y : X) → Each P xs → P (length xs) y → Each P (xs ++ y ∷ [])
 each_push {X} P xs y each here i x is = elim (get_push xs y i x is) [
   | inl before ↦ each i x before
-  | inr last ↦ subst (λ (n : ℕ). P n x) (sym last.0) (subst (P (length xs)) last.1 here)
+  | inr last ↦ rw (last.0, ← last.1) here
 ]
 
 -- An element of a mapped list is that of an element.

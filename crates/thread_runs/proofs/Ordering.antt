@@ -60,15 +60,9 @@ left_more {R} {X} items n rows left out c row row' x some as_many turn is popped
       | inr apart ↦ other i was (omega (arith, as_many, slice_get_within rows i was in_rows)) apart (so_far.each i was in_rows)
     ]
 
--- The row that is next.
-pub row_at : {R X : Type 0} (items : R → List X) (rows left : List R) (out : List X) (number workers k : ℕ) (row : R) → k ≡ number % workers → 0 < length rows → workers ≡ length rows → length out ≡ number → IsLeft items (length rows) rows left out
-    → row ≡ slice_index_or left k row → (k ≡ length out % length rows) × (slice_get left k ≡ Some row)
-row_at items rows left out number workers k row turn some as_many at so_far is =
-    let rest = so_far.as_many in
-    (turn ∙ (λ i. sym at i % as_many i), slice_get_read left (length left) k row refl (omega (arith, turn, some, as_many, rest)) is)
-
 -- The row that is next has an element left, as long as not all are out.
-pub left_some : {R X Y : Type 0} (items : R → List X) (n : ℕ) (rows left : List R) (out : List X) (ys : List Y) (c : ℕ) (row : R) → 0 < n → length rows ≡ n → c ≡ length out % n → length out < length ys → AreWholeRows items n rows ys
+left_some : {R X Y : Type 0} (items : R → List X) (n : ℕ) (rows left : List R) (out : List X) (ys : List Y) (c : ℕ) (row : R) → 0 < n
+    → length rows ≡ n → c ≡ length out % n → length out < length ys → AreWholeRows items n rows ys
     → slice_get left c ≡ Some row → IsLeft items n rows left out → 0 < length (items row)
 left_some items n rows left out ys c row some as_many turn fewer whole is so_far =
     let (was, in_rows) = get_within rows c (omega (arith, as_many, turn, some)) in
@@ -76,6 +70,16 @@ left_some items n rows left out ys c row some as_many turn fewer whole is so_far
     let parts = simp (length-append, length-reverse) at (ap length (rw (same_row left c row old is there) at rest)) in
     let less : length (every n c out) < length (every n c ys) = rw turn (every-fewer n some out ys fewer) in
     omega (arith, parts, less, whole c was in_rows)
+
+-- The row that is next, in terms of the values in the code.
+pub row_at : {R X Y : Type 0} (items : R → List X) (rows left : List R) (out : List X) (ys : List Y) (number workers k : ℕ) (row : R)
+    → k ≡ number % workers → 0 < length rows → workers ≡ length rows → length out ≡ number → number < length ys
+    → AreWholeRows items (length rows) rows ys → IsLeft items (length rows) rows left out → row ≡ slice_index_or left k row
+    → (k ≡ length out % length rows) × (slice_get left k ≡ Some row) × (0 < length (items row))
+row_at items rows left out ys number workers k row turn some as_many at fewer whole so_far is =
+    let next : k ≡ length out % length rows = turn ∙ (λ i. sym at i % as_many i) in
+    let there = slice_get_read left (length left) k row refl (omega (arith, turn, some, as_many, so_far.as_many)) is in
+    (next, there, left_some items (length rows) rows left out ys k row some refl next (rw at fewer) whole there so_far)
 
 -- When all are out, each row has given all of its elements.
 pub left_all : {R X Y : Type 0} (items : R → List X) (n : ℕ) (rows left : List R) (out : List X) (ys : List Y) → length out ≡ length ys → AreWholeRows items n rows ys → IsLeft items n rows left out

@@ -53,8 +53,7 @@ module _ {L W : Type 0} (items : W → List codes.Outcome) (half : Bool) (worker
             let (r, at) = report_at c below in
             let report = each c r at in
             let mine : own c h ≡ r.caller.seen = ap (λ (n : ℕ). own n h) (sym report.number_is) ∙ owns c r at in
-            subst (λ es. AreToldIn c tries (every workers c scripts) (every workers c (map told_of outcomes)) es) (sym mine)
-            (subst (λ os. AreToldIn c tries (every workers c scripts) os r.caller.seen) (sym (own_outcomes c r at)) report.ran.told)
+            rw (mine, own_outcomes c r at) report.ran.told
 
     -- Each outcome is one that its script allows.
     pub reports_may : 0 < workers → (i : ℕ) (script : List Action) (outcome : Outcome) → slice_get scripts i ≡ Some script → slice_get (map told_of outcomes) i ≡ Some outcome → MayCome half script outcome
@@ -66,7 +65,7 @@ module _ {L W : Type 0} (items : W → List codes.Outcome) (half : Bool) (worker
         told_within (λ told. MayCome half told.script told.outcome) (every workers c scripts) (every workers c (map told_of outcomes)) k script outcome
         (get-every workers some scripts c k ∙ ap (slice_get scripts) (sym at) ∙ is)
         (get-every workers some (map told_of outcomes) c k ∙ ap (slice_get (map told_of outcomes)) (sym at) ∙ js)
-        (subst (MayAllCome half (every workers c scripts)) (sym (own_outcomes c r here)) (each c r here).ran.may)
+        (rw (own_outcomes c r here) (each c r here).ran.may)
 
 -- The result of a run, from its reports, the callers and rows that these are divided into, and the
 -- history of the map.
@@ -76,11 +75,11 @@ pub run_true : {L W : Type 0} (items : W → List codes.Outcome) (limits sizes :
     → HasRunScripts limits workers tries scripts (map told_of outcomes) trace
 run_true items limits sizes workers tries scripts reports callers rows outcomes trace h some as_many each callers_are rows_are one_each order same is all_workers legal below own =
     let trues : AreAllTrue workers tries scripts (map told_of outcomes) trace =
-    subst (AreAllTrue workers tries scripts (map told_of outcomes)) (sym same)
-    (reports_true items limits.half workers tries scripts reports rows as_many each rows_are outcomes order h legal.shape legal.replies (λ c r at. all_at (λ k. IsOwn h k) (λ q. q.caller) reports callers callers_are own c r at)) in
+    rw same (reports_true items limits.half workers tries scripts reports rows as_many each rows_are outcomes order h legal.shape
+    legal.replies (λ c r at. all_at (λ k. IsOwn h k) (λ q. q.caller) reports callers callers_are own c r at)) in
     record {
-      legal = subst (IsLegal Begun limits.stripes) (sym same) (subst (λ (z : Sizes). IsLegal Begun z.stripes h) is legal);
-      callers = subst (All (λ e. caller_of e < workers)) (sym same) (subst (λ (n : ℕ). All (λ e. caller_of e < n) h) (ap (λ (z : Sizes). z.callers) is ∙ sym all_workers) below);
+      legal = rw (same, ← is) legal;
+      callers = rw (same, all_workers, ← is) below;
       one_each = length-map outcomes told_of ∙ one_each;
       true_of = trues;
       plays = λ c low. true_plays workers c low scripts trace tries (every workers c (map told_of outcomes)) (trues c low);

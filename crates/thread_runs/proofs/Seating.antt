@@ -78,7 +78,6 @@ made_landed c phase (calls.Back n) (ends.Answered (answers.Returned m)) seen see
 made_landed c phase calls.Commit (ends.Answered (answers.Committed p)) seen seen' added plain before is made some = added_landed seen seen' [] (Committed c p) refl (is ∙ ap (λ es. seen ++ es) made) some
 made_landed c phase calls.Abort (ends.Answered answers.Aborted) seen seen' added plain before is made some = undone_landed c (Leave c None) (Aborted c) seen seen' added refl is made some
 made_landed c phase (calls.Help key) ends.Helped seen seen' added plain before is made some =
-    let same : seen' ≡ seen = is ∙ ap (λ es. seen ++ es) made ∙ append-nil seen in
-    subst (λ es. HasPhase phase (seat_after es)) (sym same) before
+    rw (is, made, append-nil) before
 made_landed c phase call (ends.Refused refusal) seen seen' added plain before is made some = absurd (false≢true (sym plain))
 made_landed c phase call outcome seen seen' added plain before is made some = absurd made

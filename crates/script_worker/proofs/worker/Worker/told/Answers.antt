@@ -6,11 +6,13 @@ use Rattle.script_worker.proofs.worker.Worker.told.Goals as goal
 
 pub invariant_of-self : goal.invariant_of-self
 invariant_of-self c =
-    rw c.tell.ensures.task (told_ready c.args.scripts.now c.args.tries c.self.inside.number c.self.inside.limits c.self.inside.task c.args.answer)
+    rw c.tell.ensures.task (told_ready c.args.scripts.now c.args.tries c.self.inside.number c.self.inside.limits c.self.inside.task
+    c.args.answer)
 
 pub returns-clause-ready : goal.returns-clause-ready
 returns-clause-ready c =
-    rw c.tell.ensures.task (told_ready c.args.scripts.now c.args.tries c.self.inside.number c.self.inside.limits c.self.inside.task c.args.answer)
+    rw c.tell.ensures.task (told_ready c.args.scripts.now c.args.tries c.self.inside.number c.self.inside.limits c.self.inside.task
+    c.args.answer)
 
 pub returns-clause-finish : goal.returns-clause-finish
 returns-clause-finish c = rw (← c.self.view_is) c.tell.ensures.finish
