@@ -22,12 +22,12 @@ tolds_of-push (first ∷ scripts) [] script outcome is =
 tolds_of-push (first ∷ scripts) (o ∷ outcomes) script outcome is = ap (λ ts. record { script = first; outcome = o } ∷ ts) (tolds_of-push scripts outcomes script outcome is)
 
 pub no_account : (c tries : ℕ) (scripts : List (List Action)) → AreAccounts c tries (tolds_of scripts []) []
-no_account c tries scripts = subst (λ ts. AreAccounts c tries ts []) (sym (tolds_of-none scripts)) refl
+no_account c tries scripts = rw (tolds_of-none scripts)
 
 pub account_more : (c tries : ℕ) (scripts : List (List Action)) (outcomes : List Outcome) (script : List Action) (outcome : Outcome) (es chunk : List Entry) → slice_get scripts (length outcomes) ≡ Some script
     → AreAccounts c tries (tolds_of scripts outcomes) es → IsAccount c tries script outcome chunk → AreAccounts c tries (tolds_of scripts (outcomes ++ outcome ∷ [])) (es ++ chunk)
 account_more c tries scripts outcomes script outcome es chunk here told account =
-    subst (λ ts. AreAccounts c tries ts (es ++ chunk)) (sym (tolds_of-push scripts outcomes script outcome here))
+    rw (tolds_of-push scripts outcomes script outcome here)
     (accounts_more c tries (tolds_of scripts outcomes) script outcome es chunk told account)
 
 -- The committed transactions of a caller play its scripts, with rising numbers.
@@ -70,8 +70,7 @@ module _ (callers c : ℕ) (below : c < callers) (scripts : List (List Action)) 
 
   pub true_plays : (tries : ℕ) (outcomes : List Outcome) → AreTrue c tries h (tolds_of (every callers c scripts) outcomes) → PlayRising callers scripts c h 0 (length scripts) (commits_of c h)
   true_plays tries outcomes trues =
-      subst (PlayRising callers scripts c h 0 (length scripts)) (sym trues.txns_are)
-      (rising (every callers c scripts) outcomes 0 0 first (omega arith) trues.each)
+      rw trues.txns_are (rising (every callers c scripts) outcomes 0 0 first (omega arith) trues.each)
     where
       first : AreFrom (every callers c scripts) 0
       first j script is =

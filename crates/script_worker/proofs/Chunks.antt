@@ -81,20 +81,14 @@ module _ (c tries : ℕ) (script : List Action) (heard : Heard) (before part : L
       at true is = record { before = before ++ (part ++ added); part = []; whole = sym (append-nil (before ++ (part ++ added))); busy = more; at = refl }
       at false is = let past : tries ≤ again = ltb-false again tries is in busy_fewer (again + 1) (tries + 1) (before ++ (part ++ added)) (omega arith) more
 
-  goes : (i : ℕ) (action : Action) (end : End) (es added : List Entry) → slice_get script i ≡ Some action → added ≡ es → txn_then txn end ≡ txn → replies_then replies end ≡ replies ++ replies_in es → CommitNothing es
+  goes : (i : ℕ) (action : Action) (end : End) (es added : List Entry) → slice_get script i ≡ Some action → added ≡ es
+      → txn_then txn end ≡ txn → replies_then replies end ≡ replies ++ replies_in es → CommitNothing es
       → ((rest : List Entry) → ArePlayed (drop (i + 1) script) rest → ArePlayed (action ∷ drop (i + 1) script) (without_undone es ++ rest))
       → IsFront c script (drop i script) txn replies part → After added end (Next (attempt_at again (Acting (i + 1))))
   goes i action end es added here is same replied quiet asked front =
-      let further : IsFront c script (drop (i + 1) script) txn (replies ++ replies_in es) (part ++ es) =
-      front_more c script (drop i script) (drop (i + 1) script) txn replies part es quiet (λ rest plays. subst (λ s. ArePlayed s (without_undone es ++ rest)) (sym (from_here script i action here)) (asked rest plays)) front in
-      subst (λ xs. After xs end (Next (attempt_at again (Acting (i + 1))))) (sym is)
-      (record {
-        before = before;
-        part = part ++ es;
-        whole = refl;
-        busy = busy;
-        at = subst (λ t. IsFront c script (drop (i + 1) script) t (replies_then replies end) (part ++ es)) (sym same) (subst (λ rs. IsFront c script (drop (i + 1) script) txn rs (part ++ es)) (sym replied) further);
-      })
+      let further = front_more c script (drop i script) (drop (i + 1) script) txn replies part es quiet
+      (λ rest plays. rw (from_here script i action here) (asked rest plays)) front in
+      rw is (record { before = before; part = part ++ es; whole = refl; busy = busy; at = rw (same, replied) further })
 
   none_more : replies ≡ replies ++ []
   none_more = sym (append-nil replies)
@@ -111,15 +105,15 @@ module _ (c tries : ℕ) (script : List Action) (heard : Heard) (before part : L
     part = part ++ added;
     whole = refl;
     busy = busy;
-    at = subst (IsFront c script script t []) (sym ((λ i. none i ++ made i))) (front_begun c script t);
+    at = rw (none, made) (front_begun c script t);
   }
   done_told (Acting i) a added made front = by (slice_get script i) refl a made
     where
       by : (o : Option Action) → slice_get script i ≡ o → (a : Answer) → IsMade c (call_of o) (ends.Answered a) added
           → After added (ends.Answered a) (done_with again i o)
       by None here (answers.Committed place) made =
-          subst (λ es. After es (ends.Answered (answers.Committed place)) (Over finishes.Committed)) (sym made)
-          (before, part ++ entries.Committed c place ∷ [], refl, busy.nothing, front_committed c script txn place replies part (subst (λ left. IsFront c script left txn replies part) (none_left script i here) front))
+          let done = front_committed c script txn place replies part (rw (none_left script i here) at front) in
+          rw made (before, part ++ entries.Committed c place ∷ [], refl, busy.nothing, done)
       by (Some (actions.Op op)) here (answers.Done reply) made =
           goes i (actions.Op op) (ends.Answered (answers.Done reply)) (entries.Asked c op ∷ entries.Did c reply ∷ []) added here made refl refl refl (λ rest plays. (refl, plays)) front
       by (Some actions.Save) here (answers.Saved n) made =
@@ -129,8 +123,7 @@ module _ (c tries : ℕ) (script : List Action) (heard : Heard) (before part : L
           let back : Entry = entries.Returned c level in
           goes i (actions.Back level) (ends.Answered (answers.Returned reached)) (entries.Leave c (Some level) ∷ undone_by c k ++ back ∷ []) added here made.1.1 refl
           (none_more ∙ ap (λ rs. replies ++ rs) (sym (undone_replies c k (back ∷ [])))) (filter_undone is_commit c k (back ∷ []) refl)
-          (λ rest plays. subst (λ es. ArePlayed (actions.Back level ∷ drop (i + 1) script) ((entries.Leave c (Some level) ∷ es) ++ rest))
-          (sym (filter_undone (λ e. not (is_undone e)) c k (back ∷ []) refl)) (refl, refl, plays)) front
+          (λ rest plays. rw (filter_undone (λ e. not (is_undone e)) c k (back ∷ []) refl) (refl, refl, plays)) front
       by (Some actions.Abort) here answers.Aborted made = aborted added made front.quiet
       by o here a made = absurd made
   done_told (Leaving refusal) answers.Aborted added made quiet = aborted added made quiet

@@ -21,19 +21,17 @@ placed_push : (g : List Entry) (e : Entry) → IsShaped g → Callers g → is_s
 placed_push g e shape callers shaped placed t c p front is = elim (in_or_out (txn_at g e) t) [
   | inl at ↦
       let same : e ≡ Committed c p = (same_from_push (of t g) front e (Committed c p) (sym (of-push_in t g e at) ∙ is)).1 in
-      let numbered : is_numbered g (Committed c p) ≡ true = subst (λ f. is_numbered g f ≡ true) same (shaped_number g e shaped) in
+      let numbered : is_numbered g (Committed c p) ≡ true = rw same at (shaped_number g e shaped) in
       let number : p ≡ how_many is_commit g + 1 = eqb-true p (how_many is_commit g + 1) numbered in
       let count : length (txns_of is_commit g) ≡ how_many is_commit g = ap length (sym (commits_are g shape)) ∙ length-commits g shape in
-      ap (λ ts. slice_get ts (p - 1)) (txns_of-push is_commit g e ∙ ap (λ f. txns_of is_commit g ++ cons_option (cond (is_commit f) (txn_at g e) None) []) same ∙ ap (λ o. txns_of is_commit g ++ cons_option o []) at)
-      ∙ get_last (txns_of is_commit g) t (p - 1) (omega arith)
+      rw (txns_of-push is_commit g e, at, same) (get_last (txns_of is_commit g) t (p - 1) (omega arith))
   | inr out ↦
-      ap (λ ts. slice_get ts (p - 1)) (txns_of-push is_commit g e)
-      ∙ get_front (txns_of is_commit g) (cons_option (cond (is_commit e) (txn_at g e) None) []) (p - 1) t (placed t c p front (sym (of-push_out t g e out) ∙ is))
+      rw (txns_of-push is_commit g e) (get_front (txns_of is_commit g) _ (p - 1) t (placed t c p front (sym (of-push_out t g e out) ∙ is)))
 ]
 
 pub committed_placed : (h : List Entry) → IsShaped h → (t c p : ℕ) (front : List Entry) → of t h ≡ front ++ Committed c p ∷ [] → slice_get (commits h) (p - 1) ≡ Some t
 committed_placed h shape t c p front is =
-    ap (λ ts. slice_get ts (p - 1)) (commits_are h shape) ∙ by_entries IsPlaced placed_push (λ t c p front is. absurd (none front (Committed c p) is)) h shape t c p front is
+    rw (commits_are h shape) (by_entries IsPlaced placed_push (λ t c p front is. absurd (none front (Committed c p) is)) h shape t c p front is)
   where
     none : (front : List Entry) (e : Entry) → [] ≡ front ++ e ∷ [] → ⊥
     none [] e is = cc is

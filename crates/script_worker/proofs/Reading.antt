@@ -47,19 +47,14 @@ read_push c g e r = elim (cases_eq (caller_of e) c) [
       let at : txn_at g e ≡ next_txn (fold next_txn None (own c g)) e = at-next g e ∙ ap (λ o. next_txn o e) (ap (txn_in g) mine ∙ r.last) in
       record {
         last = ap (λ f. f c) (txn_in-push g e) ∙ ap (λ d. txn_after (txn_in g) e d) (sym mine) ∙ at ∙ sym (ap (fold next_txn None) own_is ∙ fold-append next_txn None (own c g) (e ∷ []));
-        all =
-            txns_of-push (is_commit_of c) g e ∙ ap (λ b. commits_of c g ++ cons_option (cond b (txn_at g e) None) []) (ap (λ b. is_commit e && b) (eq-eqb (caller_of e) c mine) ∙ and-true (is_commit e))
-            ∙ (λ i. r.all i ++ cons_option (cond (is_commit e) (at i) None) [])
-            ∙ sym (ap (ended_txns None) own_is ∙ ended-append None (own c g) (e ∷ []));
+        all = rw (own_is, ended-append, txns_of-push (is_commit_of c) g e, eq-eqb (caller_of e) c mine, and-true, at, r.all);
       }
   | inr other ↦
       let apart : (caller_of e == c) ≡ false = ne_eqb (caller_of e) c other in
       let own_is : own c (g ++ e ∷ []) ≡ own c g = own-push_out c g e apart in
       record {
         last = ap (λ f. f c) (txn_in-push g e) ∙ txn_stays g e c apart ∙ r.last ∙ ap (fold next_txn None) (sym own_is);
-        all =
-            txns_of-push (is_commit_of c) g e ∙ ap (λ b. commits_of c g ++ cons_option (cond b (txn_at g e) None) []) (ap (λ b. is_commit e && b) apart ∙ and-false (is_commit e))
-            ∙ append-nil (commits_of c g) ∙ r.all ∙ ap (ended_txns None) (sym own_is);
+        all = rw (own_is, txns_of-push (is_commit_of c) g e, apart, and-false, append-nil) r.all;
       }
 ]
 
