@@ -60,11 +60,7 @@ module _ (c tries : ℕ) (script : List Action) (heard : Heard) (before part : L
   busy_one : (call : Call) (x : ℕ) (added : List Entry) → IsMade c call (ends.Busy x) added → AreBusy 1 added
   busy_one (calls.Op op) x added made =
       let none = ap length (filter_undone is_busy c made.0 (entries.Aborted c ∷ []) refl) in
-      let one : AreBusy 1 (entries.Busy c op x ∷ undone_by c made.0 ++ entries.Aborted c ∷ []) = record {
-        nothing = filter_undone is_commit c made.0 (entries.Aborted c ∷ []) refl;
-        enough = omega (arith, none);
-      } in
-      subst (AreBusy 1) (sym made.1) one
+      rw made.1 (record { nothing = filter_undone is_commit c made.0 (entries.Aborted c ∷ []) refl; enough = omega (arith, none) })
   busy_one call x added made = absurd made
 
   after_busy : (x : ℕ) (added : List Entry) → CommitNothing part → AreBusy 1 added → After added (ends.Busy x) (busy_at tries again)
@@ -173,10 +169,8 @@ pub after_call : (c tries : ℕ) (script : List Action) (heard : Heard) (chunk a
     → IsMade c (call_at script heard.attempt.stage) end added → IsQuiet end added → IsChunk c script heard chunk
     → progress_of script tries heard.attempt end ≡ p → ChunkAfter c tries script heard (chunk ++ added) end p
 after_call c tries script heard chunk added end p made silent so_far is =
-    subst (λ es. ChunkAfter c tries script heard es end p)
-    (sym (ap (λ es. es ++ added) so_far.whole ∙ append_assoc so_far.before so_far.part added))
-    (subst (ChunkAfter c tries script heard (so_far.before ++ (so_far.part ++ added)) end) is
-    (told_at c tries script heard so_far.before so_far.part so_far.busy heard.attempt.stage end added made silent so_far.at))
+    rw (so_far.whole, append_assoc, ← is)
+    (told_at c tries script heard so_far.before so_far.part so_far.busy heard.attempt.stage end added made silent so_far.at)
 
 -- An attempt continues only if it is not out of step.
 pub goes_quiet : (script : List Action) (tries : ℕ) (attempt next : Attempt) (end : End) (added : List Entry)
@@ -187,4 +181,5 @@ goes_quiet script tries attempt next end added is = tt
 -- Before the end of its script a chunk commits nothing.
 pub chunk_quiet : (c : ℕ) (script : List Action) (heard : Heard) (chunk : List Entry) → IsChunk c script heard chunk → CommitNothing chunk
 chunk_quiet c script heard chunk so_far =
-    subst CommitNothing (sym so_far.whole) (append_quiet so_far.before so_far.part so_far.busy.nothing (stage_quiet c 0 script heard so_far.before so_far.part so_far.busy heard.attempt.stage so_far.at))
+    rw so_far.whole (append_quiet so_far.before so_far.part so_far.busy.nothing
+    (stage_quiet c 0 script heard so_far.before so_far.part so_far.busy heard.attempt.stage so_far.at))

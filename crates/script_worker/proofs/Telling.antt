@@ -17,13 +17,14 @@ module _ (c tries : ℕ) (h : List Entry) (shape : IsShaped h) (replies : Replie
       let (before, part, here_is, quiet, p) = account in
       let own_then : own c h ≡ (front ++ before) ++ ((Began c txn ∷ p.inner ++ Committed c place ∷ []) ++ later) =
       rw (own_is, here_is, p.whole) (simp append_assoc) in
-      let quiet_inside = inner_begins c script txn place p.inner (rw p.whole at p.plays) in
+      let plays = rw p.whole at p.plays in
+      let quiet_inside = inner_begins c script txn place p.inner plays in
       let whole : of txn h ≡ Began c txn ∷ p.inner ++ Committed c place ∷ [] =
       (has_committed c txn place h (front ++ before) p.inner later shape replies own_then quiet_inside).whole in
       record {
         inner = p.inner;
         whole = whole;
-        plays = subst (λ es. IsPlayed script (without_undone es)) (p.whole ∙ sym whole) p.plays;
+        plays = rw whole plays;
         committed = ap (ends_in is_commit) whole ∙ ends_in-push is_commit (Began c txn ∷ p.inner) (Committed c place);
         placed = committed_placed h shape txn c place (Began c txn ∷ p.inner) whole;
         replied = ap replies_in (whole ∙ sym p.whole) ∙ p.replied;
@@ -56,7 +57,7 @@ busy_told : (c tries : ℕ) (tolds : List Told) (es : List Entry) → AreAccount
     → length (filter (λ told. accounts.is_busy_outcome told.outcome) tolds) * (tries + 1) ≤ how_many accounts.is_busy es
 busy_told c tries [] es none = omega arith
 busy_told c tries (told ∷ tolds) es (here, later, es_is, account, rest) =
-    subst (λ n. length (cond (accounts.is_busy_outcome told.outcome) (told ∷ busy) busy) * (tries + 1) ≤ n) (sym (ap (how_many accounts.is_busy) es_is ∙ how_many-append accounts.is_busy here later))
+    rw (es_is, how_many-append accounts.is_busy here later)
     (at told.outcome account (busy_told c tries tolds later rest))
   where
     busy : List Told
