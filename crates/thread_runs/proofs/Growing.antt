@@ -86,7 +86,7 @@ fell_by {S} words k key l rows ended = elim ended [
 
 -- Only an operation has a reply, and it commits nothing.
 done_quiet : (c : ℕ) (call : Call) (reply : Option ℕ) (added : List Entry) → IsMade c call (ends.Answered (answers.Done reply)) added → CommitNothing added
-done_quiet c (calls.Op op) reply added made = subst CommitNothing (sym made) refl
+done_quiet c (calls.Op op) reply added made = rw made
 done_quiet c call reply added made = absurd made
 
 -- A script whose caller fell out of step by a call for help after a put.

@@ -46,7 +46,7 @@ landed e (Some s) w h = at e s.phase refl w h
 added_landed : (seen seen' front : List Entry) (e : Entry) → ends_work e ≡ true → seen' ≡ seen ++ (front ++ e ∷ []) → is_some (seat_after seen') ≡ true → HasPhase (lands e) (seat_after seen')
 added_landed seen seen' front e w is some =
     let pushed = ap seat_after (is ∙ sym (append_assoc seen front (e ∷ []))) ∙ seat_after-push (seen ++ front) e in
-    subst (HasPhase (lands e)) (sym pushed) (landed e (seat_after (seen ++ front)) w (sym (ap is_some pushed) ∙ some))
+    rw pushed (landed e (seat_after (seen ++ front)) w (sym (ap is_some pushed) ∙ some))
 
 undone_landed : (c : ℕ) (opening e : Entry) (seen seen' added : List Entry) → ends_work e ≡ true → seen' ≡ seen ++ added → IsUndone c opening added e → is_some (seat_after seen') ≡ true → HasPhase (lands e) (seat_after seen')
 undone_landed c opening e seen seen' added w is made some =

@@ -13,7 +13,7 @@ pub told_more : (c tries : ℕ) (scripts : List (List Action)) (outcomes : List 
     → HasRunTo c tries script outcome seen seen' → AreToldIn c tries scripts (outcomes ++ outcome ∷ []) seen'
 told_more c tries scripts outcomes script outcome seen seen' here told (chunk, seen_is, account) whole =
     let rows : is_some (seat_after (seen ++ chunk)) ≡ true = ap (λ es. is_some (seat_after es)) (sym seen_is) ∙ whole in
-    subst (AreAccounts c tries (tolds_of scripts (outcomes ++ outcome ∷ []))) (sym seen_is)
+    rw seen_is
     (account_more c tries scripts outcomes script outcome seen chunk here (told (seat_front seen chunk rows)) (account whole))
 
 -- If each caller has seen its own entries in the history, the outcomes are true.

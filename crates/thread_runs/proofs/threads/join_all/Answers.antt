@@ -22,7 +22,7 @@ loop-thread-preserved g c =
     let here = rw pass at c.in_ok-report.ensures in
     let P = HasReported c.args.limits.half g.T.Terms.workers g.T.Terms.tries g.T.Terms.scripts in (
       ap length items ∙ length_push reports report ∙ ap (λ (n : ℕ). n + 1) inv.0 ∙ sym (length_push c.loop-thread.yielded thread),
-      subst (λ rs. Each P rs) (sym items) (each_push P reports report inv.1 (subst (λ (n : ℕ). P n report) (sym inv.0) here)),
+      rw items (each_push P reports report inv.1 (rw inv.0 here)),
     )
 
 pub returns-clause-len : goal.returns-clause-len
