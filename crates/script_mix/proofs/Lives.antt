@@ -54,7 +54,7 @@ stands n (w ∷ ws) place d less =
 
 pub drawn : (ws : List Worker) (numbers : List ℕ) (place number : ℕ) → numbers ≡ live_from 0 ws → place < length numbers → number ≡ get_or numbers place number → IsAtPlace ws place number
 drawn ws numbers place number is less at =
-    let (i, here, within, before, on) = stands 0 ws place number (subst (λ ns. place < length ns) is less) in
+    let (i, here, within, before, on) = stands 0 ws place number (rw is at less) in
     let zero_on : 0 + i ≡ i = omega arith in
     subst (IsAtPlace ws place) (sym (at ∙ ap (λ ns. get_or ns place number) is ∙ here ∙ zero_on))
     (record { within = within; before = before; lives = ap (λ k. live (take k ws)) (add-one i) ∙ on ∙ sym (add-one place) })

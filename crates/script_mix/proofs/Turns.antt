@@ -28,7 +28,7 @@ use Rattle.script_worker.specs.declared.task.Task.{Task}
 use Rattle.script_worker.specs.declared.worker.Worker.{Worker}
 use Rattle.script_worker.specs.declared.attempt.Finish.{Finish}
 use Rattle.script_worker.specs.Workers.{told_drive, told_by, sized_by, turn_by, task_step, step_by, IsReady, IsTurnBy, Working, TakesStep, TakesIn, TakesNext}
-use Rattle.script_worker.specs.Accounts.{Outcome, AreAccounts, AreTrue, every, tolds_of}
+use Rattle.script_worker.specs.Accounts.{Outcome, AreTrue, every, tolds_of}
 use Rattle.script_worker.specs.Keeps.{KeepsAt, Keeps}
 use Rattle.script_worker.proofs.Accounts.{true_plays}
 use Rattle.script_worker.proofs.Telling.{accounts_true}
@@ -157,7 +157,7 @@ crew_goes scripts tries count w old new crew before after within at is goes read
     stays d worker away member = record {
       number = member.number;
       workers = member.workers;
-      keeps = subst (Keeps scripts tries worker) (sym (goes.others d (λ is. away (is ∙ before_is.number)))) member.keeps;
+      keeps = rw (goes.others d (λ is. away (is ∙ before_is.number))) member.keeps;
       ready = member.ready;
     }
 
@@ -203,7 +203,7 @@ pub crew_told : {rule : Holder} (limits : Sizes) (scripts : List (List Action)) 
 crew_told limits scripts tries count stripes h crew legal is c below =
     let nobody : Worker = record { number = 0; limits = limits; task = None } in
     let worker : Worker = get_or crew c nobody in
-    let member : IsMember scripts tries count h c worker = is.each c nobody (subst (λ n. c < n) (sym is.size) below) in
+    let member : IsMember scripts tries count h c worker = is.each c nobody (rw is.size below) in
     let (outcomes, told) = keeps_told scripts tries worker (own c h) member.ready member.keeps in (
       outcomes,
       accounts_true c tries h (tolds_of (every count c scripts) outcomes) legal.shape legal.replies

@@ -1,9 +1,8 @@
 use Rattle.std.proofs.Common.{◌≡◌, ◌∙◌, inl, inr, List, [], ◌∷◌, length, refl, sym, ap, subst, arith}
 use Rattle.rand_pcg.specs.Pcg.{pcg32}
-use Rattle.txn_trace.specs.Legal.{IsLegal}
-use Rattle.boost_core.specs.Machine.{State, holder_by, start}
+use Rattle.boost_core.specs.Machine.{State, start}
 use Rattle.script_worker.specs.declared.worker.Worker.{Worker}
-use Rattle.script_mix.specs.Crews.{IsCrew, IsMixed}
+use Rattle.script_mix.specs.Crews.{IsCrew}
 use Rattle.script_mix.specs.Turns.{first_crew, live, live_from, IsAtPlace}
 use Rattle.script_mix.proofs.Turns.{crew_goes, crew_plays, crew_told, member_keeps}
 use Rattle.script_mix.proofs.Lives.{all_done, drawn, drawn_at, drawn_lives, kept, length-live, removed}
@@ -91,8 +90,8 @@ pub returns : goal.returns
 returns c =
     let (numbers, count, turns) = c.loop-turn.invariant.turns in
     let is : c.into_core-core.result ≡ c.loop-turn.core = c.into_core-core.ensures.value in
-    let legal = subst (λ (s : State). IsLegal (holder_by s.words) s.limits.stripes s.history) is c.trace-history.ensures.legal in
-    subst (IsMixed c.args.work.now c.args.seed) (sym is) (record {
+    let legal = rw is at c.trace-history.ensures.legal in
+    rw is (record {
       limits = c.loop-turn.invariant.limits;
       words = ap (λ (s : State). s.words) (sym is) ∙ c.into_core-core.ensures.ordinary;
       plays = crew_plays c.args.work.now.sizes c.args.work.now.scripts c.args.work.now.tries c.args.work.now.sizes.callers c.loop-turn.core.limits.stripes c.loop-turn.core.history c.loop-turn.workers.items legal c.loop-turn.invariant.crew;
