@@ -1,6 +1,6 @@
 -- The growth of a caller's account of a script with each call: the chunk of its entries since the
 -- script began.
-use Rattle.std.proofs.Common.{◌≡◌, ℕ, suc, ◌+◌, ◌≤◌, ◌<◌, nat_lt, Bool, true, false, not, if◌then◌else◌, List, [], ◌∷◌, ◌++◌, append_assoc, append-nil, length, drop, drop-cons, filter, slice_get, Option, Some, None, refl, sym, ap, subst, ◌∙◌, arith, ltb-false}
+use Rattle.std.proofs.Common.{◌≡◌, ℕ, suc, ◌+◌, ◌≤◌, ◌<◌, nat_lt, Bool, true, false, not, if◌then◌else◌, List, [], ◌∷◌, ◌++◌, append_assoc, append-nil, length, drop, drop-cons, filter, slice_get, Option, Some, None, refl, sym, ap, ◌∙◌, arith, ltb-false}
 use Rattle.script_worker.proofs.Vocabulary.{drop_all, slice_get_within, get_or_from_slice_get, Action, Answer, Entry, OutOfStep, is_commit, is_undone, without_undone, ArePlayed, Call, End, undone_by, IsMade, IsRefused, CommitNothing, IsQuiet, append_quiet}
 use Rattle.txn_words.specs.declared.action.Action.TheVariants as actions
 use Rattle.txn_words.specs.declared.answer.Answer.TheVariants as answers

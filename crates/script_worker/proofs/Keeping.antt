@@ -1,5 +1,5 @@
 -- A worker keeps to its scripts with each answer, and when it moves on to its next call.
-use Rattle.std.proofs.Common.{[], ◌≡◌, ℕ, suc, ◌+◌, ◌*◌, ◌<◌, nat_lt, Bool, true, false, if◌then◌else◌, List, ◌∷◌, ◌++◌, append_assoc, append-nil, length, length-append, get_or, slice_get, Option, Some, None, option_and_then, refl, sym, ap, subst, ◌∙◌, inl, inr, arith, suc-mul, ltb-true}
+use Rattle.std.proofs.Common.{[], ◌≡◌, ℕ, suc, ◌+◌, ◌*◌, ◌<◌, nat_lt, Bool, true, false, if◌then◌else◌, List, ◌∷◌, ◌++◌, append_assoc, append-nil, length, length-append, get_or, slice_get, Option, Some, None, refl, sym, ap, subst, ◌∙◌, inl, inr, arith, suc-mul, ltb-true}
 use Rattle.script_worker.proofs.Vocabulary.{slice_get-get_or, Action, Answer, Entry, Step, Call, End, Drive, sized_of, told_of, end_of, new_drive, made, made_quiet, IsMade, IsQuiet, OutOfStep}
 use Rattle.txn_words.specs.Entries.{entries_of}
 use Rattle.txn_words.specs.Sizes.{Sizes}
@@ -13,7 +13,7 @@ use Rattle.script_worker.specs.declared.attempt.Progress.{Progress}
 use Rattle.script_worker.specs.declared.attempt.Progress.TheVariants.{Next, Over}
 use Rattle.script_worker.specs.declared.task.Task.{Task}
 use Rattle.script_worker.specs.Accounts.{Outcome, AreAccounts, every, tolds_of}
-use Rattle.script_worker.specs.Attempts.{attempt_at, call_at, progress_of}
+use Rattle.script_worker.specs.Attempts.{attempt_at, call_at}
 use Rattle.script_worker.specs.Chunks.{Heard, IsChunk, heard_at, txn_then, replies_then, outcome_by}
 use Rattle.script_worker.specs.Workers.{Standing, new_worker, started, with_drive, followed, progressed, settled_in, settled, drive_told, told_drive, told_by, sized_by, task_step, step_by}
 use Rattle.script_worker.specs.Keeps.{KeepsTask, KeepsAt, Keeps}

@@ -1,6 +1,6 @@
 -- A committed transaction has its commit number as its position among the commits.
-use Rattle.std.proofs.Common.{◌≡◌, ℕ, ◌+◌, ◌-◌, ◌<◌, true, cond, List, [], ◌∷◌, ◌++◌, length, length-append, slice_get, Some, None, sym, ap, subst, ◌∙◌, inl, inr, arith, eqb-true}
-use Rattle.script_worker.proofs.Vocabulary.{cons_option, same_from_push, get_or_append_left, slice_get_within, get_or_from_slice_get, slice_get-get_or, Entry, Committed, of, txns_of, commits, is_commit, how_many, is_shaped, is_numbered, IsShaped, txn_at, of-push_in, of-push_out}
+use Rattle.std.proofs.Common.{◌≡◌, ℕ, ◌+◌, ◌-◌, ◌<◌, true, List, [], ◌∷◌, ◌++◌, length, length-append, slice_get, Some, sym, ap, ◌∙◌, inl, inr, arith, eqb-true}
+use Rattle.script_worker.proofs.Vocabulary.{same_from_push, get_or_append_left, slice_get_within, get_or_from_slice_get, slice_get-get_or, Entry, Committed, of, txns_of, commits, is_commit, how_many, is_shaped, is_numbered, IsShaped, txn_at, of-push_in, of-push_out}
 use Rattle.txn_trace.proofs.Callers.{Callers, shaped_number, in_or_out}
 use Rattle.txn_trace.proofs.Inductions.{by_entries}
 use Rattle.txn_trace.proofs.Steps.{txns_of-push, commits_are}

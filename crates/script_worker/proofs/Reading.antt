@@ -1,5 +1,5 @@
 -- The committed transactions of a caller, found in its own entries.
-use Rattle.std.proofs.Common.{◌≡◌, ℕ, ◌==◌, ◌&&◌, false, cond, List, [], ◌∷◌, ◌++◌, append-nil, fold, Some, None, Option, refl, sym, ap, ◌∙◌, inl, inr, eq-eqb, ne_eqb}
+use Rattle.std.proofs.Common.{◌≡◌, ℕ, ◌==◌, false, cond, List, [], ◌∷◌, ◌++◌, append-nil, fold, Some, None, Option, refl, sym, ap, ◌∙◌, inl, inr, eq-eqb, ne_eqb}
 use Rattle.script_worker.proofs.Vocabulary.{cons_option, Entry, Began, Committed, txn_after, caller_of, is_commit, own, IsShaped, is_commit_of, commits_of, txn_in, txn_at, txn_in-push, own-push_in, own-push_out, CommitNothing}
 use Rattle.std.proofs.lemmas.Bool.{cases_eq}
 use Rattle.std.proofs.Math.Bool.{and-true, and-false}

@@ -1,5 +1,5 @@
 -- A worker with a script left has a step to take.
-use Rattle.std.proofs.Common.{◌≡◌, ℕ, ◌+◌, nat_lt, Bool, true, false, if◌then◌else◌, List, length, slice_get, Option, Some, None, is_some, option_and_then, inl, inr, ◌⊎◌, refl, sym, ap, subst, ◌∙◌}
+use Rattle.std.proofs.Common.{◌≡◌, ℕ, ◌+◌, nat_lt, Bool, true, false, if◌then◌else◌, List, length, slice_get, Option, Some, None, is_some, option_and_then, inl, inr, ◌⊎◌, refl, sym, ap, ◌∙◌}
 use Rattle.script_worker.proofs.Vocabulary.{Action, Answer, BadKey, Step, Call, Drive, End, step_in, step_of, turn_in, ended_by, end_of, new_drive}
 use Rattle.txn_words.specs.declared.action.Action.TheVariants as actions
 use Rattle.txn_words.specs.Sizes.{Sizes, is_bad_key}
@@ -12,7 +12,7 @@ use Rattle.script_worker.specs.declared.attempt.Progress.TheVariants.{Next, Over
 use Rattle.script_worker.specs.declared.attempt.Stage.{Stage}
 use Rattle.script_worker.specs.declared.attempt.Stage.TheVariants as stages
 use Rattle.script_worker.specs.declared.task.Task.{Task}
-use Rattle.script_worker.specs.Attempts.{first_attempt, call_of, call_at, refused_with, progress_at, progress_of}
+use Rattle.script_worker.specs.Attempts.{first_attempt, call_of, call_at, progress_at, progress_of}
 use Rattle.script_worker.specs.Workers.{started, followed, progressed, settled_in, settled, drive_told, task_told, IsReadyTask}
 use Rattle.txn_drive.proofs.DriveLaws.{goes_on}
 

@@ -1,6 +1,6 @@
 -- A caller's accounts of its scripts, as statements about the history.
-use Rattle.std.proofs.Common.{◌≡◌, ℕ, ◌+◌, ◌*◌, ◌≤◌, cond, List, [], ◌∷◌, ◌++◌, length, append_assoc, fold, filter, filter_map, Some, None, Option, refl, sym, ap, subst, ◌∙◌, arith, suc-mul}
-use Rattle.script_worker.proofs.Vocabulary.{cons_option, AllByRecursion, filter-append, Action, Entry, Began, Committed, of, ends_in, is_commit, own, how_many, IsShaped, without_undone, IsPlayed, ends_in-push}
+use Rattle.std.proofs.Common.{◌≡◌, ℕ, ◌+◌, ◌*◌, ◌≤◌, cond, List, [], ◌∷◌, ◌++◌, length, append_assoc, fold, filter, filter_map, Some, None, Option, refl, sym, ap, ◌∙◌, arith, suc-mul}
+use Rattle.script_worker.proofs.Vocabulary.{cons_option, AllByRecursion, filter-append, Action, Entry, Began, Committed, of, ends_in, is_commit, own, how_many, IsShaped, ends_in-push}
 use Rattle.txn_trace.specs.Replies.{RepliesHold}
 use Rattle.script_worker.specs.Accounts as accounts
 use Rattle.script_worker.specs.Accounts.{Outcome, Told, replies_in, IsAccount, AreAccounts, HasCome, AreTrue}
