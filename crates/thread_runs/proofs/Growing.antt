@@ -1,5 +1,5 @@
 -- A call for help between two calls of a script, which adds no entry unless it falls out of step.
-use Rattle.std.proofs.Common.{◌≡◌, ℕ, Bool, true, false, not, List, [], ◌++◌, append_assoc, Option, Some, None, is_some, refl, sym, ap, subst, ◌∙◌, inl, inr, append-nil}
+use Rattle.std.proofs.Common.{◌≡◌, ℕ, Bool, true, false, not, List, [], ◌++◌, append_assoc, Option, Some, None, is_some, refl, sym, ap, ◌∙◌, inl, inr, append-nil}
 use Rattle.thread_runs.proofs.Vocabulary.{false≢true, Action, Entry, Refusal, BadKey, OutOfStep, Closed, Seat, seat_after, is_bad_key, Call, End, IsMade, CommitNothing, Progress, Over, call_at, progress_of, Heard, first_heard, Ended, Failed, FellOut, Token}
 use Rattle.txn_words.specs.declared.answer.Answer.TheVariants as answers
 use Rattle.txn_drive.specs.declared.call.Call.TheVariants as calls

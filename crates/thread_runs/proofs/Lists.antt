@@ -1,5 +1,5 @@
 -- Elements of lists by their positions, and lists whose elements all have a property.
-use Rattle.std.proofs.Common.{◌≡◌, ℕ, ◌⊎◌, zero, suc, List, [], ◌∷◌, ◌++◌, length, map, set, Some, refl, sym, ap, subst, ◌∙◌, inl, inr, slice_get, All, option_map}
+use Rattle.std.proofs.Common.{◌≡◌, ℕ, ◌⊎◌, zero, suc, List, [], ◌∷◌, ◌++◌, length, map, set, Some, refl, ap, subst, ◌∙◌, inl, inr, slice_get, All, option_map}
 use Rattle.thread_runs.proofs.Vocabulary.{slice_get_within, slice_get-map, get_or_from_slice_get, get_empty}
 use Rattle.thread_runs.specs.Each.{Each}
 

@@ -1,5 +1,5 @@
 -- The reports of all workers of a run, and their rows of outcomes, each with its last one first.
-use Rattle.std.proofs.Common.{◌≡◌, ℕ, ◌+◌, ◌*◌, ◌/◌, ◌%◌, ◌<◌, Bool, List, get_or, length, map, reverse, Some, sym, ap, subst, ◌∙◌, arith, slice_get, All, mod-lt}
+use Rattle.std.proofs.Common.{◌≡◌, ℕ, ◌+◌, ◌*◌, ◌/◌, ◌%◌, ◌<◌, Bool, List, get_or, length, map, reverse, Some, sym, ap, ◌∙◌, arith, slice_get, All, mod-lt}
 use Rattle.thread_runs.proofs.Vocabulary.{range_with_len, get_or-map, length-map, length-reverse, reverse-reverse, Action, Entry, own, IsShaped, Sizes, Outcome, every, AreAllTrue, every-map, get-every, number_at, get_within, true_plays}
 use Rattle.std.proofs.lemmas.List.FromFn.{length-map-range_with_len, get_or-map-range_with_len}
 use Rattle.txn_words.specs.declared.holder.Holder.TheVariants.{Begun}
@@ -11,7 +11,7 @@ use Rattle.thread_runs.specs.declared.outcome.Outcome as codes
 use Rattle.thread_runs.specs.declared.worker.WorkerReport.{WorkerReport}
 use Rattle.thread_runs.specs.Each.{Each}
 use Rattle.thread_runs.specs.Possible.{MayCome}
-use Rattle.thread_runs.specs.Runs.{AreToldIn, MayAllCome, HasReported, HasRunScripts, told_of}
+use Rattle.thread_runs.specs.Runs.{AreToldIn, HasReported, HasRunScripts, told_of}
 use Rattle.thread_runs.proofs.Lists.{all_at, get_map, map_get}
 use Rattle.thread_runs.proofs.Working.{all_true, told_within}
 

@@ -1,6 +1,6 @@
 -- The phase of a caller's seat after each call of a script, and the refusals with which the call
 -- may end.
-use Rattle.std.proofs.Common.{◌≡◌, ℕ, ◌+◌, take, slice_index, ◌==◌, ◌&&◌, Bool, true, false, cond, List, [], ◌∷◌, ◌++◌, append_assoc, Option, Some, None, is_some, refl, sym, ap, subst, ◌∙◌, option_and_then, append-nil}
+use Rattle.std.proofs.Common.{◌≡◌, ℕ, ◌+◌, take, slice_index, ◌==◌, ◌&&◌, Bool, true, false, cond, List, [], ◌∷◌, ◌++◌, append_assoc, Option, Some, None, is_some, refl, sym, ap, ◌∙◌, option_and_then, append-nil}
 use Rattle.thread_runs.proofs.Vocabulary.{false≢true, Entry, Closed, Opened, Waiting, LeavingTo, LeavingToEnd, Seat, row, seat_after, closed_seat, Call, End, undone_by, IsUndone, IsMade}
 use Rattle.txn_words.specs.declared.answer.Answer.TheVariants as answers
 use Rattle.txn_words.specs.declared.entry.Entry.TheVariants.{Began, Asked, Did, Saved, Leave, Returned, Committed, Busy, Aborted}

@@ -4,7 +4,7 @@ pub use Rattle.locked_map.specs.Calls.{Ended, Failed, FellOut, Ran}
 pub use Rattle.script_worker.proofs.Accounts.{account_more, no_account, tolds_of-none, tolds_of-push, true_plays}
 pub use Rattle.script_worker.proofs.Every.{every-fewer, every-hit, every-length, every-map, every-miss, get-every, number_at, one_remainder}
 pub use Rattle.script_worker.proofs.Places.{get_empty, get_none, get_within}
-pub use Rattle.script_worker.specs.Accounts.{AreAccounts, AreAllTrue, Outcome, Told, every, tolds_of}
+pub use Rattle.script_worker.specs.Accounts.{AreAllTrue, Outcome, Told, every, tolds_of}
 pub use Rattle.script_worker.specs.Attempts.{attempt_at, busy_at, call_at, call_of, done_at, done_with, progress_at, progress_of, refused_at, refused_in, refused_with}
 pub use Rattle.script_worker.specs.Chunks.{Heard, IsChunk, first_heard, heard_then, outcome_by}
 pub use Rattle.script_worker.specs.declared.attempt.Progress.{Progress}

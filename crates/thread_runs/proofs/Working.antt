@@ -1,6 +1,6 @@
 -- The scripts of each caller, and the outcomes of all of them as statements about the history.
 use Rattle.std.proofs.Common.{◌≡◌, ℕ, zero, suc, ◌<◌, true, List, [], ◌∷◌, ◌++◌, length, slice_get, is_some, Some, sym, ap, subst, ◌∙◌}
-use Rattle.thread_runs.proofs.Vocabulary.{AllByRecursion, Action, Entry, seat_after, own, IsShaped, Outcome, Told, AreAccounts, every, tolds_of, AreAllTrue, account_more, get_empty}
+use Rattle.thread_runs.proofs.Vocabulary.{AllByRecursion, Action, Entry, seat_after, own, IsShaped, Outcome, Told, every, tolds_of, AreAllTrue, account_more, get_empty}
 use Rattle.txn_trace.specs.Replies.{RepliesHold}
 use Rattle.thread_runs.specs.Runs.{AreToldIn, HasRunTo}
 use Rattle.txn_trace.proofs.Running.{has_seat}

@@ -1,4 +1,4 @@
-use Rattle.std.proofs.Common.{◌≡◌, ℕ, ◌<◌, ◌+◌, length, refl, sym, ap, set, subst, ◌∙◌, arith}
+use Rattle.std.proofs.Common.{◌≡◌, ℕ, ◌+◌, length, refl, ap, ◌∙◌, arith}
 use Rattle.thread_runs.proofs.Vocabulary.{length_push}
 use Rattle.thread_runs.proofs.Ordering.{left_none, left_more, left_all, row_at}
 use Rattle.thread_runs.proofs.merging.in_order.Goals as goal

@@ -1,9 +1,8 @@
-use Rattle.std.proofs.Common.{ℕ, ◌∙◌, ◌+◌, length, sym, ap, subst}
+use Rattle.std.proofs.Common.{ℕ, ◌∙◌, ◌+◌, length, sym, ap}
 use Rattle.thread_runs.proofs.Vocabulary.{length-map, length_push, new_ticket}
 use Rattle.std.proofs.lemmas.Iterator.Adapters.{YieldsList-from_vec}
 use Rattle.std.proofs.lemmas.Iterator.Consumers.{YieldsList-end, YieldsList-turn}
 use Rattle.std.proofs.lemmas.List.FromFn.{length-map-range_with_len}
-use Rattle.thread_runs.specs.Each.{Each}
 use Rattle.thread_runs.specs.Runs.{HasReported}
 use Rattle.thread_runs.proofs.Lists.{each_push}
 use Rattle.thread_runs.proofs.Reports.{shown_at}

@@ -1,5 +1,3 @@
-use Rattle.std.proofs.Common.{not, sym, subst}
-use Rattle.thread_runs.specs.Runs.{Grows}
 use Rattle.thread_runs.proofs.Growing.{grown_by}
 use Rattle.thread_runs.proofs.growth.Growth.grow.Goals as goal
 
