@@ -1,9 +1,7 @@
 -- A worker's step is a move of the core that adds only its entries.
-use Rattle.std.proofs.Common.{◌≡◌, ◌≢◌, ℕ, ◌<◌, ◌≤◌, ◌==◌, true, false, cond, List, [], ◌∷◌, ◌++◌, length, get_or, set, Option, Some, None, refl, sym, ap, subst, ◌∙◌, arith, length-append, length-set, get_or-set_same, get_or-set_other}
-use Rattle.std.specs.Prelude.{nat_lt}
+use Rattle.std.proofs.Common.{◌≡◌, ◌≢◌, ℕ, ◌<◌, ◌==◌, cond, List, [], ◌∷◌, ◌++◌, length, get_or, set, Option, Some, None, refl, sym, ap, subst, ◌∙◌, arith, inl, inr, eq-eqb, ne_eqb, append-nil, length-append, length-set, get_or-set_same, get_or-set_other}
 use Rattle.std.specs.List.{AllByRecursion}
-use Rattle.std.proofs.lemmas.Bool.{eq-eqb, eqb-true, ne_eqb, false≢true, ltb-true, ltb-false}
-use Rattle.std.proofs.lemmas.List.{append-nil}
+use Rattle.std.proofs.lemmas.Bool.{cases_eq, cases_lt}
 use Rattle.std.proofs.Math.ListN.{get_or-append}
 use Rattle.std.proofs.Math.Seq.{get_or-append_seam}
 use Rattle.std.proofs.lemmas.List.Elements.{filter-append}
@@ -30,7 +28,7 @@ use Rattle.script_worker.specs.declared.task.Task.{Task}
 use Rattle.script_worker.specs.declared.worker.Worker.{Worker}
 use Rattle.script_worker.specs.declared.attempt.Finish.{Finish}
 use Rattle.script_worker.specs.Workers.{told_drive, told_by, sized_by, turn_by, task_step, step_by, IsReady, IsTurnBy, Working, TakesStep, TakesIn, TakesNext}
-use Rattle.script_worker.specs.Accounts.{Outcome, AreAccounts, AreTrue, every, tolds_of}
+use Rattle.script_worker.specs.Accounts.{Outcome, AreTrue, every, tolds_of}
 use Rattle.script_worker.specs.Keeps.{KeepsAt, Keeps}
 use Rattle.script_worker.proofs.Accounts.{true_plays}
 use Rattle.script_worker.proofs.Telling.{accounts_true}
@@ -80,7 +78,7 @@ own-others w c h es other all = filter-append (λ e. caller_of e == c) h es ∙ 
 step_mine : (tries workers : ℕ) (scripts : List (List Action)) (w : ℕ) (task : Option Task) (seen : List Entry) (step : Step) (answer : Answer)
     → KeepsAt tries workers scripts w task seen → task_step task ≡ Some step → AreOf w (entries_of step answer)
 step_mine tries workers scripts w None seen step answer keeps is = absurd (cc is)
-step_mine tries workers scripts w (Some task) seen step answer keeps is = subst (λ c. AreOf c (entries_of step answer)) keeps.caller (entries_callers task.drive step answer is)
+step_mine tries workers scripts w (Some task) seen step answer keeps is = rw keeps.caller at (entries_callers task.drive step answer is)
 
 -- A worker's step.
 step_goes : (scripts : List (List Action)) (tries : ℕ) (old new : State) (before : Worker) (step : Step) (answer : Answer) → Move old step answer new → step_by before ≡ Some step
@@ -94,7 +92,8 @@ step_goes scripts tries old new before step answer move is keeps =
       number = refl;
       same = refl;
       others = λ c other. ap (own c) history ∙ own-others before.number c old.history es other mine;
-      keeps = subst (Keeps scripts tries (told_by scripts tries before answer)) (sym (ap (own before.number) history ∙ own-mine before.number old.history es mine)) (told_keeps scripts tries before answer (own before.number old.history) step is keeps);
+      keeps = rw (history, own-mine before.number old.history es mine)
+          (told_keeps scripts tries before answer (own before.number old.history) step is keeps);
     }
 
 goes_then : (scripts : List (List Action)) (tries : ℕ) (a b c : State) (x y z : Worker) → Goes scripts tries a b x y → Goes scripts tries b c y z → Goes scripts tries a c x z
@@ -114,7 +113,7 @@ module _ (scripts : List (List Action)) (tries : ℕ) where
   one_goes : (old : Working State) (step : Step) (answer : Answer) (new : Working State) → step_by old.worker ≡ Some step → Keeps scripts tries old.worker (own old.worker.number old.taker.history)
       → Steps old step answer new → Goes scripts tries old.taker new.taker old.worker new.worker
   one_goes old step answer new is keeps takes =
-      subst (λ (w : Worker). Goes scripts tries old.taker new.taker old.worker w) (sym takes.told) (step_goes scripts tries old.taker new.taker old.worker step answer takes.taken is keeps)
+      rw takes.told (step_goes scripts tries old.taker new.taker old.worker step answer takes.taken is keeps)
 
   second_goes : (old : Working State) (first second : Step) (answer : Answer) (between new : Working State) → step_by old.worker ≡ Some first → step_by (told_drive old.worker answers.Placed) ≡ Some second
       → Keeps scripts tries old.worker (own old.worker.number old.taker.history) → Steps old first answer between → TakesSecond Steps between second answer new
@@ -126,7 +125,7 @@ module _ (scripts : List (List Action)) (tries : ℕ) where
       goes_then scripts tries old.taker between.taker new.taker old.worker between.worker new.worker goes
       (one_goes between second answer new there goes.keeps then)
   second_goes old first second answer between new is next keeps takes same =
-      subst (λ (x : Working State). Goes scripts tries old.taker x.taker old.worker x.worker) (sym same) (one_goes old first answer between is keeps takes)
+      rw same (one_goes old first answer between is keeps takes)
 
   turn_goes_in : (old : Working State) (turn : Option Turn) (new : Working State) → IsTurnBy old.worker turn → Keeps scripts tries old.worker (own old.worker.number old.taker.history)
       → TakesIn Move scripts tries old turn new → Goes scripts tries old.taker new.taker old.worker new.worker
@@ -143,11 +142,6 @@ module _ (scripts : List (List Action)) (tries : ℕ) where
       (sized_keeps size scripts tries before (own before.number old.history) keeps) takes.steps in
       record { limits = goes.limits; number = goes.number; same = goes.same; others = goes.others; keeps = goes.keeps }
 
--- A turn at the size of the core's table.
-pub took : (scripts : List (List Action)) (tries size : ℕ) (old new : State) (before after : Worker) (finish : Option Finish) → size ≡ old.size
-    → TakesNext Move size scripts tries old before finish new after → TakesNext Move old.size scripts tries old before finish new after
-took scripts tries size old new before after finish is takes = subst (λ n. TakesNext Move n scripts tries old before finish new after) is takes
-
 -- One member moves on, and the others are unchanged.
 pub crew_goes : (scripts : List (List Action)) (tries count w : ℕ) (old new : State) (crew : List Worker) (before after : Worker) → w < length crew → before ≡ get_or crew w before
     → IsCrew scripts tries count old.history crew → Goes scripts tries old new before after → IsReady after → IsCrew scripts tries count new.history (set crew w after)
@@ -157,55 +151,50 @@ crew_goes scripts tries count w old new crew before after within at is goes read
 }
   where
     before_is : IsMember scripts tries count old.history w before
-    before_is = subst (IsMember scripts tries count old.history w) (sym at) (is.each w before within)
+    before_is = rw at (is.each w before within)
 
     stays : (d : ℕ) (worker : Worker) → d ≢ w → IsMember scripts tries count old.history d worker → IsMember scripts tries count new.history d worker
     stays d worker away member = record {
       number = member.number;
       workers = member.workers;
-      keeps = subst (Keeps scripts tries worker) (sym (goes.others d (λ is. away (is ∙ before_is.number)))) member.keeps;
+      keeps = rw (goes.others d (λ is. away (is ∙ before_is.number))) member.keeps;
       ready = member.ready;
     }
 
     each : (d : ℕ) (other : Worker) → d < length (set crew w after) → IsMember scripts tries count new.history d (get_or (set crew w after) d other)
-    each d other less = elim (d == w) as (λ b. (d == w) ≡ b → IsMember scripts tries count new.history d (get_or (set crew w after) d other)) [
-      | true ↦ λ same.
-          let mine : d ≡ w = eqb-true d w same in
-          subst (λ x. IsMember scripts tries count new.history x (get_or (set crew w after) x other)) (sym mine)
-          (subst (IsMember scripts tries count new.history w) (sym (get_or-set_same crew w after other within)) (record {
-            number = goes.number ∙ before_is.number;
+    each d other less = elim (cases_eq d w) [
+      | inl mine ↦
+          let number = goes.number ∙ before_is.number in
+          rw (mine, get_or-set_same crew w after other within) (record {
+            number = number;
             workers = ap (λ (limits : Sizes). limits.callers) goes.same ∙ before_is.workers;
-            keeps = subst (λ x. Keeps scripts tries after (own x new.history)) (goes.number ∙ before_is.number) goes.keeps;
+            keeps = subst (λ x. Keeps scripts tries after (own x new.history)) number goes.keeps;
             ready = ready;
-          }))
-      | false ↦ λ apart.
-          let away : d ≢ w = λ mine. false≢true (sym apart ∙ eq-eqb d w mine) in
-          let still : d < length crew = subst (λ n. d < n) (length-set crew w after) less in
-          subst (IsMember scripts tries count new.history d) (sym (get_or-set_other crew w d after other away))
-          (stays d (get_or crew d other) away (is.each d other still))
-    ] refl
+          })
+      | inr away ↦
+          rw (get_or-set_other crew w d after other away)
+          (stays d (get_or crew d other) away (is.each d other (rw (length-set crew w after) at less)))
+    ]
 
 -- Each member keeps to its scripts.
-pub member_keeps : (scripts theirs : List (List Action)) (tries allowed count w : ℕ) (h : List Entry) (crew : List Worker) (worker : Worker) → scripts ≡ theirs → tries ≡ allowed → w < length crew → worker ≡ get_or crew w worker → IsCrew theirs allowed count h crew
+pub member_keeps : (scripts : List (List Action)) (tries count w : ℕ) (h : List Entry) (crew : List Worker) (worker : Worker)
+    → w < length crew → worker ≡ get_or crew w worker → IsCrew scripts tries count h crew
     → Keeps scripts tries worker (own worker.number h)
-member_keeps scripts theirs tries allowed count w h crew worker scripts_is tries_is within at is =
-    let member : IsMember theirs allowed count h w worker = subst (IsMember theirs allowed count h w) (sym at) (is.each w worker within) in
-    subst (λ s. Keeps s tries worker (own worker.number h)) (sym scripts_is)
-    (subst (λ n. Keeps theirs n worker (own worker.number h)) (sym tries_is) (subst (λ n. Keeps theirs allowed worker (own n h)) (sym member.number) member.keeps))
+member_keeps scripts tries count w h crew worker within at is =
+    let member : IsMember scripts tries count h w worker = rw at (is.each w worker within) in
+    subst (λ n. Keeps scripts tries worker (own n h)) (sym member.number) member.keeps
 
 -- One more member.
 pub crew_more : (scripts : List (List Action)) (tries count : ℕ) (crew : List Worker) (worker : Worker) → IsMember scripts tries count [] (length crew) worker
     → ((w : ℕ) (other : Worker) → w < length crew → IsMember scripts tries count [] w (get_or crew w other))
     → (w : ℕ) (other : Worker) → w < length (crew ++ worker ∷ []) → IsMember scripts tries count [] w (get_or (crew ++ worker ∷ []) w other)
-crew_more scripts tries count crew worker member each w other less = elim (nat_lt w (length crew)) as (λ b. nat_lt w (length crew) ≡ b → IsMember scripts tries count [] w (get_or (crew ++ worker ∷ []) w other)) [
-  | true ↦ λ is.
-      let within : w < length crew = ltb-true w (length crew) is in
-      subst (IsMember scripts tries count [] w) (sym (get_or-append crew (worker ∷ []) other w within)) (each w other within)
-  | false ↦ λ is.
-      let past : length crew ≤ w = ltb-false w (length crew) is in
+crew_more scripts tries count crew worker member each w other less = elim (cases_lt w (length crew)) [
+  | inl within ↦
+      rw (get_or-append crew (worker ∷ []) other w within) (each w other within)
+  | inr past ↦
       let last : w ≡ length crew = omega (arith, length-append crew (worker ∷ [])) in
-      subst (λ x. IsMember scripts tries count [] x (get_or (crew ++ worker ∷ []) x other)) (sym last) (subst (IsMember scripts tries count [] (length crew)) (sym (get_or-append_seam crew worker [] other)) member)
-] refl
+      rw (last, get_or-append_seam crew worker [] other) member
+]
 
 -- In a crew's history the outcomes of each worker's scripts are true, and its committed transactions
 -- play its scripts.
@@ -214,12 +203,11 @@ pub crew_told : {rule : Holder} (limits : Sizes) (scripts : List (List Action)) 
 crew_told limits scripts tries count stripes h crew legal is c below =
     let nobody : Worker = record { number = 0; limits = limits; task = None } in
     let worker : Worker = get_or crew c nobody in
-    let member : IsMember scripts tries count h c worker = is.each c nobody (subst (λ n. c < n) (sym is.size) below) in
+    let member : IsMember scripts tries count h c worker = is.each c nobody (rw is.size below) in
     let (outcomes, told) = keeps_told scripts tries worker (own c h) member.ready member.keeps in (
       outcomes,
       accounts_true c tries h (tolds_of (every count c scripts) outcomes) legal.shape legal.replies
-          (subst (λ n. AreAccounts c tries (tolds_of (every n c scripts) outcomes) (own c h)) member.workers
-          (subst (λ w. AreAccounts w tries (tolds_of (every worker.limits.callers w scripts) outcomes) (own c h)) member.number told)),
+          (rw (member.workers, member.number) at told),
     )
 
 pub crew_plays : {rule : Holder} (limits : Sizes) (scripts : List (List Action)) (tries count stripes : ℕ) (h : List Entry) (crew : List Worker) → IsLegal rule stripes h → IsCrew scripts tries count h crew → PlayScripts count scripts h

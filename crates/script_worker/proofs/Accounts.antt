@@ -1,15 +1,12 @@
 -- The accounts of a caller's scripts, with one more script, and the scripts that they play.
-use Rattle.std.proofs.Common.{◌≡◌, ℕ, zero, suc, ◌+◌, ◌*◌, ◌%◌, ◌<◌, ◌≤◌, List, [], ◌∷◌, ◌++◌, length, Some, refl, sym, ap, subst, ◌∙◌, arith}
-use Rattle.std.specs.List.{slice_get, filter_map, AllByRecursion}
-use Rattle.std.proofs.lemmas.Option.{slice_get_within}
-use Rattle.std.proofs.Math.Nat.{add-mod_right, mod-eq_of_lt, suc-mul}
-use Rattle.txn_words.specs.declared.action.Action.{Action}
-use Rattle.txn_words.specs.declared.entry.Entry.{Entry}
-use Rattle.txn_trace.specs.Plays.{PlayRising, commits_of}
+use Rattle.std.proofs.Common.{◌≡◌, ℕ, suc, ◌+◌, ◌*◌, ◌%◌, ◌<◌, ◌≤◌, List, [], ◌∷◌, ◌++◌, length, slice_get, filter_map, Some, refl, sym, ap, ◌∙◌, arith, suc-mul, mod-eq_of_lt}
+use Rattle.script_worker.proofs.Vocabulary.{AllByRecursion, slice_get_within, Action, Entry, PlayRising, commits_of}
+use Rattle.std.proofs.Math.Nat.{add-mul-mod_self_right}
 use Rattle.script_worker.specs.Accounts as accounts
 use Rattle.script_worker.specs.Accounts.{Outcome, IsAccount, AreAccounts, AreTrue, HasCome, every, tolds_of, txn_in}
 use Rattle.script_worker.proofs.Attempting.{accounts_more}
-use Rattle.script_worker.proofs.Every.{get-every, get_empty}
+use Rattle.script_worker.proofs.Every.{get-every}
+use Rattle.script_worker.proofs.Places.{get_empty}
 
 pub tolds_of-none : (scripts : List (List Action)) → tolds_of scripts [] ≡ []
 tolds_of-none [] = refl
@@ -25,12 +22,12 @@ tolds_of-push (first ∷ scripts) [] script outcome is =
 tolds_of-push (first ∷ scripts) (o ∷ outcomes) script outcome is = ap (λ ts. record { script = first; outcome = o } ∷ ts) (tolds_of-push scripts outcomes script outcome is)
 
 pub no_account : (c tries : ℕ) (scripts : List (List Action)) → AreAccounts c tries (tolds_of scripts []) []
-no_account c tries scripts = subst (λ ts. AreAccounts c tries ts []) (sym (tolds_of-none scripts)) refl
+no_account c tries scripts = rw (tolds_of-none scripts)
 
 pub account_more : (c tries : ℕ) (scripts : List (List Action)) (outcomes : List Outcome) (script : List Action) (outcome : Outcome) (es chunk : List Entry) → slice_get scripts (length outcomes) ≡ Some script
     → AreAccounts c tries (tolds_of scripts outcomes) es → IsAccount c tries script outcome chunk → AreAccounts c tries (tolds_of scripts (outcomes ++ outcome ∷ [])) (es ++ chunk)
 account_more c tries scripts outcomes script outcome es chunk here told account =
-    subst (λ ts. AreAccounts c tries ts (es ++ chunk)) (sym (tolds_of-push scripts outcomes script outcome here))
+    rw (tolds_of-push scripts outcomes script outcome here)
     (accounts_more c tries (tolds_of scripts outcomes) script outcome es chunk told account)
 
 -- The committed transactions of a caller play its scripts, with rising numbers.
@@ -38,48 +35,45 @@ module _ (callers c : ℕ) (below : c < callers) (scripts : List (List Action)) 
   abbrev number : ℕ → ℕ
   number k = c + k * callers
 
-  its : (k : ℕ) → number k % callers ≡ c
-  its zero = let first : c + 0 * callers ≡ c = omega arith in ap (λ n. n % callers) first ∙ mod-eq_of_lt below
-  its (suc k) =
-      let more : suc k * callers ≡ k * callers + callers = suc-mul k callers in
-      let next : number (suc k) ≡ number k + callers = omega (arith, more) in
-      ap (λ n. n % callers) next ∙ add-mod_right (number k) callers ∙ its k
-
   -- These scripts are the caller's from its k-th on.
   abbrev AreFrom : List (List Action) → ℕ → Type 0
   AreFrom xs k = (j : ℕ) (script : List Action) → slice_get xs j ≡ Some script → slice_get scripts (number (k + j)) ≡ Some script
 
   later : (x : List Action) (xs : List (List Action)) (k : ℕ) → AreFrom (x ∷ xs) k → AreFrom xs (suc k)
   later x xs k from j script is =
-      let same : k + suc j ≡ suc k + j = omega arith in
-      ap (λ i. slice_get scripts (number i)) (sym same) ∙ from (suc j) script is
+      let same : suc k + j ≡ k + suc j = omega arith in
+      ap (λ i. slice_get scripts (number i)) same ∙ from (suc j) script is
 
   rising : (xs : List (List Action)) (outcomes : List Outcome) (k low : ℕ) → AreFrom xs k → low ≤ number k → AllByRecursion (λ told. HasCome c h told.script told.outcome) (tolds_of xs outcomes)
       → PlayRising callers scripts c h low (length scripts) (filter_map (λ told. txn_in told.outcome) (tolds_of xs outcomes))
   rising [] outcomes k low from le all = tt
   rising (x ∷ xs) [] k low from le all = tt
   rising (x ∷ xs) (o ∷ outcomes) k low from le all =
-      let more : suc k * callers ≡ k * callers + callers = suc-mul k callers in
-      let next : suc (number k) ≤ number (suc k) = omega (arith, more, below) in
+      let next : suc (number k) ≤ number (suc k) = omega (arith, suc-mul k callers, below) in
       at o all.0 (λ from_low le. rising xs outcomes (suc k) from_low (later x xs k from) le all.1) next
     where
       at : (o : Outcome) → HasCome c h x o → ((from_low : ℕ) → from_low ≤ number (suc k) → PlayRising callers scripts c h from_low (length scripts) (filter_map (λ told. txn_in told.outcome) (tolds_of xs outcomes)))
           → suc (number k) ≤ number (suc k) → PlayRising callers scripts c h low (length scripts) (filter_map (λ told. txn_in told.outcome) (record { script = x; outcome = o } ∷ tolds_of xs outcomes))
       at (accounts.Committed txn place replies) come rest next =
-          let here : k + 0 ≡ k = omega arith in
-          let there : slice_get scripts (number k) ≡ Some x = ap (λ i. slice_get scripts (number i)) (sym here) ∙ from 0 x refl in
-          (number k, x, le, slice_get_within scripts (number k) x there, record { mine = its k; there = there }, come.plays, rest (suc (number k)) next)
-      at accounts.Aborted come rest next = rest low (omega (arith, le, next))
-      at accounts.Busy come rest next = rest low (omega (arith, le, next))
-      at (accounts.Refused refusal) come rest next = rest low (omega (arith, le, next))
+          let here : k ≡ k + 0 = omega arith in
+          let there : slice_get scripts (number k) ≡ Some x = ap (λ i. slice_get scripts (number i)) here ∙ from 0 x refl in
+          let mine : number k % callers ≡ c = add-mul-mod_self_right c k callers ∙ mod-eq_of_lt below in (
+            number k,
+            x,
+            le,
+            slice_get_within scripts (number k) x there,
+            record { mine = mine; there = there },
+            come.plays,
+            rest (suc (number k)) next,
+          )
+      at outcome come rest next = rest low (omega (arith, le, next))
 
   pub true_plays : (tries : ℕ) (outcomes : List Outcome) → AreTrue c tries h (tolds_of (every callers c scripts) outcomes) → PlayRising callers scripts c h 0 (length scripts) (commits_of c h)
   true_plays tries outcomes trues =
-      subst (PlayRising callers scripts c h 0 (length scripts)) (sym trues.txns_are)
-      (rising (every callers c scripts) outcomes 0 0 first (omega arith) trues.each)
+      rw trues.txns_are (rising (every callers c scripts) outcomes 0 0 first (omega arith) trues.each)
     where
       first : AreFrom (every callers c scripts) 0
       first j script is =
-          let some : 0 < callers = omega (arith, below) in
-          let same : j ≡ 0 + j = omega arith in
-          ap (λ i. slice_get scripts (number i)) (sym same) ∙ sym (get-every callers some scripts c j) ∙ is
+          let some : 0 < callers = omega arith in
+          let same : 0 + j ≡ j = omega arith in
+          ap (λ i. slice_get scripts (number i)) same ∙ sym (get-every callers some scripts c j) ∙ is

@@ -1,17 +1,11 @@
 -- The growth of a caller's account of a script, attempt by attempt and call by call.
-use Rattle.std.proofs.Common.{◌≡◌, ℕ, ◌+◌, ◌≤◌, List, [], ◌∷◌, ◌++◌, not, length, length-append, append_assoc, Option, refl, sym, ap, subst, ◌∙◌, arith}
-use Rattle.std.specs.List.{filter}
-use Rattle.std.proofs.lemmas.List.{append-nil}
-use Rattle.std.proofs.lemmas.List.Elements.{filter-append, filter_map-append}
-use Rattle.txn_words.specs.declared.action.Action.{Action}
-use Rattle.txn_words.specs.declared.entry.Entry.{Entry}
-use Rattle.txn_words.specs.declared.entry.Entry.TheVariants.{Began, Committed}
-use Rattle.txn_words.specs.Shape.{how_many}
-use Rattle.txn_trace.specs.Plays.{is_undone, without_undone, ArePlayed, IsPlayed}
-use Rattle.txn_drive.specs.Made.{CommitNothing}
-use Rattle.txn_drive.proofs.Quiet.{append_quiet}
+use Rattle.std.proofs.Common.{◌≡◌, ℕ, ◌+◌, ◌≤◌, Bool, List, [], ◌∷◌, ◌++◌, not, filter, length, length-append, append_assoc, append-nil, Option, refl, sym, ap, ◌∙◌, arith}
+use Rattle.script_worker.proofs.Vocabulary.{filter-append, filter_map-append, Action, Entry, Began, Committed, how_many, is_undone, without_undone, ArePlayed, CommitNothing, append_quiet}
 use Rattle.script_worker.specs.Chunks.{IsFront}
 use Rattle.script_worker.specs.Accounts.{Outcome, Told, is_busy, reply_in, replies_in, AreBusy, IsPlayedBy, IsAccount, AreAccounts}
+
+pub how_many-append : (test : Entry → Bool) (xs ys : List Entry) → how_many test (xs ++ ys) ≡ how_many test xs + how_many test ys
+how_many-append test xs ys = ap length (filter-append test xs ys) ∙ length-append (filter test xs) (filter test ys)
 
 -- No attempt yet, and one more that found a stripe held.
 pub busy_none : AreBusy 0 []
@@ -21,8 +15,7 @@ pub busy_more : (n : ℕ) (es fs : List Entry) → AreBusy n es → AreBusy 1 fs
 busy_more n es fs busy one =
     let before = busy.enough in
     let last = one.enough in
-    let longer : how_many is_busy (es ++ fs) ≡ how_many is_busy es + how_many is_busy fs = ap length (filter-append is_busy es fs) ∙ length-append (filter is_busy es) (filter is_busy fs) in
-    record { nothing = append_quiet es fs busy.nothing one.nothing; enough = omega arith }
+    record { nothing = append_quiet es fs busy.nothing one.nothing; enough = omega (arith, how_many-append is_busy es fs) }
 
 pub busy_fewer : (n m : ℕ) (es : List Entry) → m ≤ n → AreBusy n es → AreBusy m es
 busy_fewer n m es le busy = let many = busy.enough in record { nothing = busy.nothing; enough = omega arith }
@@ -40,8 +33,7 @@ front_more c script left fewer txn replies es added quiet asked front = record {
   whole = ap (λ xs. xs ++ added) front.whole;
   quiet = append_quiet es added front.quiet quiet;
   replied = filter_map-append reply_in es added ∙ ap (λ rs. rs ++ replies_in added) front.replied;
-  goes = λ rest plays.
-      subst (IsPlayed script) (sym (append_assoc (without_undone es) (without_undone added) rest) ∙ ap (λ xs. xs ++ rest) (sym (filter-append (λ e. not (is_undone e)) es added)))
+  goes = λ rest plays. rw (filter-append (λ e. not (is_undone e)) es added, append_assoc)
       (front.goes (without_undone added ++ rest) (asked rest plays));
 }
 
@@ -51,14 +43,11 @@ pub front_committed : (c : ℕ) (script : List Action) (txn place : ℕ) (replie
 front_committed c script txn place replies es front = record {
   inner = front.inner;
   whole = ap (λ xs. xs ++ Committed c place ∷ []) front.whole;
-  plays = subst (IsPlayed script) (sym (filter-append (λ e. not (is_undone e)) es (Committed c place ∷ []))) (front.goes (Committed c place ∷ []) tt);
+  plays = rw (filter-append (λ e. not (is_undone e)) es (Committed c place ∷ [])) (front.goes (Committed c place ∷ []) tt);
   replied = filter_map-append reply_in es (Committed c place ∷ []) ∙ append-nil (replies_in es) ∙ front.replied;
 }
 
--- No script was run yet, and one more was.
-pub accounts_none : (c tries : ℕ) → AreAccounts c tries [] []
-accounts_none c tries = refl
-
+-- One more script was run.
 pub accounts_more : (c tries : ℕ) (tolds : List Told) (script : List Action) (outcome : Outcome) (es chunk : List Entry) → AreAccounts c tries tolds es → IsAccount c tries script outcome chunk
     → AreAccounts c tries (tolds ++ record { script = script; outcome = outcome } ∷ []) (es ++ chunk)
 accounts_more c tries [] script outcome es chunk none account = (chunk, [], ap (λ xs. xs ++ chunk) none ∙ sym (append-nil chunk), account, refl)

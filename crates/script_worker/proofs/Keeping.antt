@@ -1,38 +1,33 @@
 -- A worker keeps to its scripts with each answer, and when it moves on to its next call.
-use Rattle.std.proofs.Common.{[], ◌≡◌, ℕ, ◌+◌, ◌*◌, ◌<◌, nat_lt, Bool, true, false, if◌then◌else◌, List, ◌∷◌, ◌++◌, append_assoc, length, length-append, get_or, Option, Some, None, refl, sym, ap, subst, ◌∙◌, arith}
-use Prim.Native.Nat.{suc}
-use Rattle.std.specs.List.{slice_get}
-use Rattle.std.specs.Option.{option_and_then}
-use Rattle.std.proofs.lemmas.Bool.{ltb-true}
-use Rattle.std.proofs.lemmas.List.{append-nil}
-use Rattle.std.proofs.lemmas.Option.{slice_get-get_or}
-use Rattle.std.proofs.Math.Nat.{suc-mul}
-use Rattle.txn_words.specs.declared.action.Action.{Action}
-use Rattle.txn_words.specs.declared.answer.Answer.{Answer}
-use Rattle.txn_words.specs.declared.entry.Entry.{Entry}
-use Rattle.txn_words.specs.declared.step.Step.{Step}
+use Rattle.std.proofs.Common.{[], ◌≡◌, ℕ, suc, ◌+◌, ◌*◌, ◌<◌, nat_lt, Bool, true, false, if◌then◌else◌, List, ◌∷◌, ◌++◌, append_assoc, append-nil, length, length-append, get_or, slice_get, Option, Some, None, refl, sym, ap, subst, ◌∙◌, inl, inr, arith, suc-mul, ltb-true}
+use Rattle.script_worker.proofs.Vocabulary.{slice_get-get_or, Action, Answer, Entry, Step, Call, End, Drive, sized_of, told_of, end_of, new_drive, made, made_quiet, IsMade, IsQuiet, OutOfStep}
 use Rattle.txn_words.specs.Entries.{entries_of}
 use Rattle.txn_words.specs.Sizes.{Sizes}
-use Rattle.txn_drive.specs.declared.call.Call.{Call}
 use Rattle.txn_drive.specs.declared.call.Call.TheVariants as calls
-use Rattle.txn_drive.specs.declared.«end».End.{End}
-use Rattle.txn_drive.specs.Drives.{sized_of, end_of, new_drive}
-use Rattle.txn_drive.specs.Made.{made, IsMade}
+use Rattle.txn_drive.specs.declared.«end».End.TheVariants as ends
 use Rattle.txn_drive.proofs.DriveLaws.{goes_on, made_at_end, made-new, made-sized}
 use Rattle.txn_drive.proofs.MadeLemmas.{made-told_of}
+use Rattle.script_worker.specs.declared.attempt.Attempt.{Attempt}
 use Rattle.script_worker.specs.declared.attempt.Stage.TheVariants.{Beginning}
 use Rattle.script_worker.specs.declared.attempt.Progress.{Progress}
 use Rattle.script_worker.specs.declared.attempt.Progress.TheVariants.{Next, Over}
 use Rattle.script_worker.specs.declared.task.Task.{Task}
 use Rattle.script_worker.specs.Accounts.{Outcome, AreAccounts, every, tolds_of}
-use Rattle.script_worker.specs.Attempts.{attempt_at, call_at, progress_of}
-use Rattle.script_worker.specs.Chunks.{Heard, heard_at, txn_then, replies_then, outcome_by}
+use Rattle.script_worker.specs.Attempts.{attempt_at, call_at}
+use Rattle.script_worker.specs.Chunks.{Heard, IsChunk, heard_at, txn_then, replies_then, outcome_by}
 use Rattle.script_worker.specs.Workers.{Standing, new_worker, started, with_drive, followed, progressed, settled_in, settled, drive_told, told_drive, told_by, sized_by, task_step, step_by}
 use Rattle.script_worker.specs.Keeps.{KeepsTask, KeepsAt, Keeps}
 use Rattle.script_worker.proofs.Accounts.{account_more, no_account}
 use Rattle.script_worker.proofs.Chunks.{ChunkAfter, after_call, chunk_begun}
 use Rattle.script_worker.proofs.Every.{get-every}
-use Rattle.script_worker.proofs.Quiet.{ended_quiet}
+
+-- A call whose drive has ended out of step has committed nothing.
+ended_quiet : (d : Drive) (outcome : End) → end_of d ≡ Some outcome → IsQuiet outcome (made d)
+ended_quiet d (ends.Refused OutOfStep) is = elim (made_quiet d) [
+  | inl quiet ↦ quiet
+  | inr (p, committed) ↦ absurd (cc (is, committed))
+]
+ended_quiet d outcome is = tt
 
 -- The next script of the worker, if there is one.
 module _ (tries workers : ℕ) (half : Bool) (scripts : List (List Action)) (w : ℕ) where
@@ -58,45 +53,41 @@ module _ (tries workers : ℕ) (half : Bool) (scripts : List (List Action)) (w :
       }
       at false is = (outcomes, told)
 
+  -- A task whose entries are those of its script's chunk, which may have grown, and of another drive.
+  moved_to : (task : Task) (attempt : Attempt) (drive : Drive) (txn : ℕ) (replies : List (Option ℕ)) (chunk seen later : List Entry)
+      → (at : KeepsTask tries workers scripts w task seen) → drive.caller ≡ w → drive.call ≡ call_at at.script attempt.stage
+      → later ≡ at.earlier ++ (chunk ++ made drive) → IsChunk w at.script (heard_at attempt txn replies) chunk
+      → KeepsTask tries workers scripts w (record { script = task.script; attempt = attempt; drive = drive }) later
+  moved_to task attempt drive txn replies chunk seen later at caller call entries so_far = record {
+    outcomes = at.outcomes;
+    number = at.number;
+    script = at.script;
+    there = at.there;
+    caller = caller;
+    call = call;
+    earlier = at.earlier;
+    chunk = chunk;
+    entries = entries;
+    told = at.told;
+    txn = txn;
+    replies = replies;
+    so_far = so_far;
+  }
+
   -- An answer that the drive is told, and the table's size.
   drive_keeps : (task : Option Task) (step : Step) (answer : Answer) (seen : List Entry) → task_step task ≡ Some step → KeepsAt tries workers scripts w task seen
       → KeepsAt tries workers scripts w (drive_told task answer) (seen ++ entries_of step answer)
   drive_keeps None step answer seen is at = absurd (cc is)
-  drive_keeps (Some task) step answer seen is at = record {
-    outcomes = at.outcomes;
-    number = at.number;
-    script = at.script;
-    there = at.there;
-    caller = at.caller;
-    call = at.call;
-    earlier = at.earlier;
-    chunk = at.chunk;
-    entries =
-        ap (λ es. es ++ entries_of step answer) at.entries ∙ append_assoc at.earlier (at.chunk ++ made task.drive) (entries_of step answer)
-        ∙ ap (λ es. at.earlier ++ es) (append_assoc at.chunk (made task.drive) (entries_of step answer)) ∙ ap (λ es. at.earlier ++ (at.chunk ++ es)) (sym (made-told_of task.drive step answer is));
-    told = at.told;
-    txn = at.txn;
-    replies = at.replies;
-    so_far = at.so_far;
-  }
+  drive_keeps (Some task) step answer seen is at =
+      moved_to task task.attempt (told_of task.drive answer) at.txn at.replies at.chunk seen
+      (seen ++ entries_of step answer) at at.caller at.call
+      (rw (at.entries, made-told_of task.drive step answer is) (simp append_assoc)) at.so_far
 
   task_sized : (size : ℕ) (task : Option Task) (seen : List Entry) → KeepsAt tries workers scripts w task seen → KeepsAt tries workers scripts w (with_drive (sized_of size) task) seen
   task_sized size None seen at = at
-  task_sized size (Some task) seen at = record {
-    outcomes = at.outcomes;
-    number = at.number;
-    script = at.script;
-    there = at.there;
-    caller = at.caller;
-    call = at.call;
-    earlier = at.earlier;
-    chunk = at.chunk;
-    entries = at.entries ∙ ap (λ es. at.earlier ++ (at.chunk ++ es)) (sym (made-sized size task.drive.caller task.drive.call task.drive.phase));
-    told = at.told;
-    txn = at.txn;
-    replies = at.replies;
-    so_far = at.so_far;
-  }
+  task_sized size (Some task) seen at =
+      moved_to task task.attempt (sized_of size task.drive) at.txn at.replies at.chunk seen seen at at.caller at.call
+      (rw (made-sized size task.drive.caller task.drive.call task.drive.phase) at.entries) at.so_far
 
 -- The call of a task has ended.
 module _ (scripts : List (List Action)) (tries w : ℕ) (limits : Sizes) (below : w < limits.callers) (task : Task) (outcome : End) (seen : List Entry) (ended : end_of task.drive ≡ Some outcome)
@@ -104,48 +95,32 @@ module _ (scripts : List (List Action)) (tries w : ℕ) (limits : Sizes) (below 
   abbrev workers : ℕ
   workers = limits.callers
 
-  made_is : IsMade w (call_at at.script task.attempt.stage) outcome (made task.drive)
-  made_is = subst (λ c. IsMade c (call_at at.script task.attempt.stage) outcome (made task.drive)) at.caller (subst (λ (call : Call). IsMade task.drive.caller call outcome (made task.drive)) at.call (made_at_end task.drive outcome ended))
-
   abbrev heard : Heard
   heard = heard_at task.attempt at.txn at.replies
 
-  after : ChunkAfter w tries at.script heard (at.chunk ++ made task.drive) outcome (progress_of at.script tries task.attempt outcome)
-  after = after_call w tries at.script heard at.chunk (made task.drive) outcome made_is (ended_quiet task.drive outcome ended) at.so_far
+  made_is : IsMade w (call_at at.script task.attempt.stage) outcome (made task.drive)
+  made_is = subst (λ c. IsMade c (call_at at.script task.attempt.stage) outcome (made task.drive)) at.caller
+      (subst (λ (call : Call). IsMade task.drive.caller call outcome (made task.drive)) at.call (made_at_end task.drive outcome ended))
 
   follows : (p : Progress) → ChunkAfter w tries at.script heard (at.chunk ++ made task.drive) outcome p → KeepsAt tries workers scripts w (followed scripts w limits task at.script p) seen
-  follows (Next attempt) chunk = record {
-    outcomes = at.outcomes;
-    number = at.number;
-    script = at.script;
-    there = at.there;
-    caller = refl;
-    call = refl;
-    earlier = at.earlier;
-    chunk = at.chunk ++ made task.drive;
-    entries =
-        at.entries ∙ ap (λ es. at.earlier ++ es) (sym (append-nil (at.chunk ++ made task.drive)))
-        ∙ ap (λ es. at.earlier ++ ((at.chunk ++ made task.drive) ++ es)) (sym (made-new limits.half w (call_at at.script attempt.stage)));
-    told = at.told;
-    txn = txn_then at.txn outcome;
-    replies = replies_then at.replies outcome;
-    so_far = chunk;
-  }
+  follows (Next attempt) chunk =
+      moved_to tries workers limits.half scripts w task attempt (new_drive limits.half w (call_at at.script attempt.stage))
+      (txn_then at.txn outcome) (replies_then at.replies outcome) (at.chunk ++ made task.drive) seen seen at refl refl
+      (rw (made-new limits.half w (call_at at.script attempt.stage), append-nil (at.chunk ++ made task.drive)) at.entries) chunk
   follows (Over over) account =
       let told = outcome_by over outcome heard in
       let some : 0 < workers = omega (arith, below) in
       let here = get-every workers some scripts w (length at.outcomes) ∙ ap (slice_get scripts) (sym at.number) ∙ at.there in
-      let longer : length (at.outcomes ++ told ∷ []) ≡ suc (length at.outcomes) = let n = length-append at.outcomes (told ∷ []) in omega (arith, n) in
-      let more : suc (length at.outcomes) * workers ≡ length at.outcomes * workers + workers = suc-mul (length at.outcomes) workers in
-      let number : task.script + workers ≡ w + suc (length at.outcomes) * workers = let now = at.number in omega (arith, more, now) in
-      keeps_started tries workers limits.half scripts w (at.outcomes ++ told ∷ []) (task.script + workers) seen (number ∙ ap (λ n. w + n * workers) (sym longer))
-      (subst (AreAccounts w tries (tolds_of (every workers w scripts) (at.outcomes ++ told ∷ []))) (sym at.entries)
+      let longer : length (at.outcomes ++ told ∷ []) ≡ suc (length at.outcomes) = omega (arith, length-append at.outcomes (told ∷ [])) in
+      keeps_started tries workers limits.half scripts w (at.outcomes ++ told ∷ []) (task.script + workers) seen
+      (rw (longer, suc-mul (length at.outcomes) workers) (omega (arith, at.number)))
+      (rw at.entries
       (account_more w tries (every workers w scripts) at.outcomes at.script told at.earlier (at.chunk ++ made task.drive) here at.told account))
 
   progressed_keeps : KeepsAt tries workers scripts w (progressed scripts tries w limits task outcome) seen
   progressed_keeps =
-      subst (λ o. KeepsAt tries workers scripts w (option_and_then (λ script. followed scripts w limits task script (progress_of script tries task.attempt outcome)) o) seen) (sym at.there)
-      (follows (progress_of at.script tries task.attempt outcome) after)
+      let quiet = ended_quiet task.drive outcome ended in
+      rw at.there (follows _ (after_call w tries at.script heard at.chunk (made task.drive) outcome _ made_is quiet at.so_far refl))
 
 -- The task of a worker that moves on keeps to its scripts.
 module _ (scripts : List (List Action)) (tries w : ℕ) (limits : Sizes) (below : w < limits.callers) (seen : List Entry) where
@@ -180,7 +155,5 @@ stays scripts tries w limits step (Some task) is = ap (settled_in scripts tries 
 
 pub told_on : (scripts : List (List Action)) (tries : ℕ) (worker : Standing) (answer : Answer) (step : Step) → step_by (told_drive worker answer) ≡ Some step → told_by scripts tries worker answer ≡ told_drive worker answer
 told_on scripts tries worker answer step is =
-    let told : Option Task = drive_told worker.task answer in
-    let with_task : Option Task → Standing = λ o. record { number = worker.number; limits = worker.limits; task = o } in
-    let once : settled scripts tries worker.number worker.limits told ≡ told = stays scripts tries worker.number worker.limits step told is in
-    ap with_task (ap (settled scripts tries worker.number worker.limits) once ∙ once)
+    let once = stays scripts tries worker.number worker.limits step (drive_told worker.task answer) is in
+    rw (once, once)

@@ -1,20 +1,11 @@
 -- The committed transactions of a caller, found in its own entries.
-use Rattle.std.proofs.Common.{◌≡◌, ℕ, ◌==◌, ◌&&◌, Bool, true, false, cond, List, [], ◌∷◌, ◌++◌, Some, None, Option, refl, sym, ap, ◌∙◌, inl, inr}
-use Rattle.std.specs.List.{fold, cons_option}
-use Rattle.std.proofs.lemmas.Bool.{false≢true, eq-eqb, cases_eq, ne_eqb}
-use Rattle.std.proofs.Math.Bool.{and-false}
-use Rattle.std.proofs.lemmas.List.{append-nil}
+use Rattle.std.proofs.Common.{◌≡◌, ℕ, ◌==◌, false, cond, List, [], ◌∷◌, ◌++◌, append-nil, fold, Some, None, Option, refl, sym, ap, ◌∙◌, inl, inr, eq-eqb, ne_eqb}
+use Rattle.script_worker.proofs.Vocabulary.{cons_option, Entry, Began, Committed, txn_after, caller_of, is_commit, own, IsShaped, is_commit_of, commits_of, txn_in, txn_at, txn_in-push, own-push_in, own-push_out, CommitNothing}
+use Rattle.std.proofs.lemmas.Bool.{cases_eq}
+use Rattle.std.proofs.Math.Bool.{and-true, and-false}
 use Rattle.std.proofs.lemmas.List.Sums.{fold-append}
-use Rattle.txn_words.specs.declared.entry.Entry.{Entry}
-use Rattle.txn_words.specs.declared.entry.Entry.TheVariants.{Began, Committed}
-use Rattle.txn_trace.specs.History.{txn_after}
-use Rattle.txn_words.specs.Kinds.{caller_of, is_commit}
-use Rattle.txn_words.specs.Shape.{own, IsShaped}
-use Rattle.txn_trace.specs.Plays.{is_commit_of, commits_of}
-use Rattle.txn_trace.proofs.Pushes.{txn_in, txn_at, txn_in-push, own-push_in, own-push_out}
 use Rattle.txn_trace.proofs.Inductions.{by_entries}
 use Rattle.txn_trace.proofs.Steps.{txns_of-push}
-use Rattle.txn_drive.specs.Made.{CommitNothing}
 use Rattle.script_worker.proofs.Parts.{BeginNothing}
 
 -- The committed transactions, from a caller's own entries: at each Committed that of the last
@@ -27,15 +18,15 @@ abbrev pub ended_txns : Option ℕ → List Entry → List ℕ
 ended_txns o [] = []
 ended_txns o (e ∷ es) = cons_option (cond (is_commit e) (next_txn o e) None) (ended_txns (next_txn o e) es)
 
+pub cons_append : {X : Type 0} (o : Option X) (xs ys : List X) → cons_option o (xs ++ ys) ≡ cons_option o xs ++ ys
+cons_append None xs ys = refl
+cons_append (Some x) xs ys = refl
+
 pub ended-append : (o : Option ℕ) (xs ys : List Entry) → ended_txns o (xs ++ ys) ≡ ended_txns o xs ++ ended_txns (fold next_txn o xs) ys
 ended-append o [] ys = refl
 ended-append o (x ∷ xs) ys =
     let first : Option ℕ = cond (is_commit x) (next_txn o x) None in
     ap (cons_option first) (ended-append (next_txn o x) xs ys) ∙ cons_append first (ended_txns (next_txn o x) xs) (ended_txns (fold next_txn (next_txn o x) xs) ys)
-  where
-    cons_append : (o : Option ℕ) (ts us : List ℕ) → cons_option o (ts ++ us) ≡ cons_option o ts ++ us
-    cons_append None ts us = refl
-    cons_append (Some t) ts us = refl
 
 pub record IsRead (c : ℕ) (h : List Entry) : Type 0 where
   pub last : txn_in h c ≡ fold next_txn None (own c h)
@@ -56,25 +47,16 @@ read_push c g e r = elim (cases_eq (caller_of e) c) [
       let at : txn_at g e ≡ next_txn (fold next_txn None (own c g)) e = at-next g e ∙ ap (λ o. next_txn o e) (ap (txn_in g) mine ∙ r.last) in
       record {
         last = ap (λ f. f c) (txn_in-push g e) ∙ ap (λ d. txn_after (txn_in g) e d) (sym mine) ∙ at ∙ sym (ap (fold next_txn None) own_is ∙ fold-append next_txn None (own c g) (e ∷ []));
-        all =
-            txns_of-push (is_commit_of c) g e ∙ ap (λ b. commits_of c g ++ cons_option (cond b (txn_at g e) None) []) (ap (λ b. is_commit e && b) (eq-eqb (caller_of e) c mine) ∙ and-true (is_commit e))
-            ∙ (λ i. r.all i ++ cons_option (cond (is_commit e) (at i) None) [])
-            ∙ sym (ap (ended_txns None) own_is ∙ ended-append None (own c g) (e ∷ []));
+        all = rw (own_is, ended-append, txns_of-push (is_commit_of c) g e, eq-eqb (caller_of e) c mine, and-true, at, r.all);
       }
   | inr other ↦
       let apart : (caller_of e == c) ≡ false = ne_eqb (caller_of e) c other in
       let own_is : own c (g ++ e ∷ []) ≡ own c g = own-push_out c g e apart in
       record {
         last = ap (λ f. f c) (txn_in-push g e) ∙ txn_stays g e c apart ∙ r.last ∙ ap (fold next_txn None) (sym own_is);
-        all =
-            txns_of-push (is_commit_of c) g e ∙ ap (λ b. commits_of c g ++ cons_option (cond b (txn_at g e) None) []) (ap (λ b. is_commit e && b) apart ∙ and-false (is_commit e))
-            ∙ append-nil (commits_of c g) ∙ r.all ∙ ap (ended_txns None) (sym own_is);
+        all = rw (own_is, txns_of-push (is_commit_of c) g e, apart, and-false, append-nil) r.all;
       }
 ]
-  where
-    and-true : (b : Bool) → (b && true) ≡ b
-    and-true true = refl
-    and-true false = refl
 
 pub are_read : (c : ℕ) (h : List Entry) → IsShaped h → IsRead c h
 are_read c = by_entries (IsRead c) (λ g e shape callers shaped r. read_push c g e r) (record { last = refl; all = refl })
@@ -87,7 +69,7 @@ quiet_txns o (Committed c p ∷ es) quiet = absurd (cc quiet)
 quiet_txns o (Began c t ∷ es) quiet = quiet_txns (Some t) es quiet
 quiet_txns o (e ∷ es) quiet = quiet_txns o es quiet
 
-pub same_txn : (o : Option ℕ) (es : List Entry) (e : Entry) → BeginNothing (es ++ e ∷ []) → fold next_txn o es ≡ o
-same_txn o [] e quiet = refl
-same_txn o (Began c t ∷ es) e quiet = absurd (false≢true (sym quiet.0))
-same_txn o (f ∷ es) e quiet = same_txn o es e quiet.1
+pub same_txn : (o : Option ℕ) (es : List Entry) → BeginNothing es → fold next_txn o es ≡ o
+same_txn o [] quiet = refl
+same_txn o (Began c t ∷ es) quiet = absurd (cc quiet)
+same_txn o (e ∷ es) quiet = same_txn o es quiet

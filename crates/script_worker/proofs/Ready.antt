@@ -1,27 +1,18 @@
 -- A worker with a script left has a step to take.
-use Rattle.std.proofs.Common.{◌≡◌, ℕ, ◌+◌, nat_lt, Bool, true, false, if◌then◌else◌, List, length, Option, Some, None, inl, inr, ◌⊎◌, refl, sym, ap, subst, ◌∙◌}
-use Rattle.std.specs.Prelude.{is_some, slice_get}
-use Rattle.std.specs.Option.{option_and_then}
-use Rattle.txn_words.specs.declared.action.Action.{Action}
+use Rattle.std.proofs.Common.{◌≡◌, ℕ, ◌+◌, nat_lt, Bool, true, false, if◌then◌else◌, List, length, slice_get, Option, Some, None, is_some, option_and_then, inl, inr, ◌⊎◌, refl, sym, ap, ◌∙◌}
+use Rattle.script_worker.proofs.Vocabulary.{Action, Answer, BadKey, Step, Call, Drive, End, step_in, step_of, turn_in, ended_by, end_of, new_drive}
 use Rattle.txn_words.specs.declared.action.Action.TheVariants as actions
-use Rattle.txn_words.specs.declared.answer.Answer.{Answer}
-use Rattle.txn_words.specs.declared.refusal.Refusal.TheVariants.{BadKey}
-use Rattle.txn_words.specs.declared.step.Step.{Step}
 use Rattle.txn_words.specs.Sizes.{Sizes, is_bad_key}
-use Rattle.txn_drive.specs.declared.call.Call.{Call}
 use Rattle.txn_drive.specs.declared.call.Call.TheVariants as calls
-use Rattle.txn_drive.specs.declared.drive.Drive.{Drive}
-use Rattle.txn_drive.specs.declared.«end».End.{End}
 use Rattle.txn_drive.specs.declared.«end».End.TheVariants as ends
 use Rattle.txn_drive.specs.declared.phase.Phase.{Phase}
 use Rattle.txn_drive.specs.declared.phase.Phase.TheVariants.{Fresh, Seeking, Acting, Doubling, Initialising, Linking, Storing, Refused}
-use Rattle.txn_drive.specs.Drives.{step_in, step_of, turn_in, ended_by, end_of, new_drive}
 use Rattle.script_worker.specs.declared.attempt.Progress.{Progress}
 use Rattle.script_worker.specs.declared.attempt.Progress.TheVariants.{Next, Over}
 use Rattle.script_worker.specs.declared.attempt.Stage.{Stage}
 use Rattle.script_worker.specs.declared.attempt.Stage.TheVariants as stages
 use Rattle.script_worker.specs.declared.task.Task.{Task}
-use Rattle.script_worker.specs.Attempts.{first_attempt, call_of, call_at, refused_with, progress_at, progress_of}
+use Rattle.script_worker.specs.Attempts.{first_attempt, call_of, call_at, progress_at, progress_of}
 use Rattle.script_worker.specs.Workers.{started, followed, progressed, settled_in, settled, drive_told, task_told, IsReadyTask}
 use Rattle.txn_drive.proofs.DriveLaws.{goes_on}
 
@@ -40,7 +31,7 @@ steps_in c call phase is = absurd (cc is)
 abbrev HasStep : Drive → Type 0
 HasStep drive = is_some (step_of drive) ≡ true
 
-steps_ended : (o : Option Step) (drive : Drive) → step_of drive ≡ o → is_some o ≡ true → end_of drive ≡ None
+pub steps_ended : (o : Option Step) (drive : Drive) → step_of drive ≡ o → is_some o ≡ true → end_of drive ≡ None
 steps_ended None drive is some = absurd (cc some)
 steps_ended (Some step) drive is some = goes_on drive step is
 
@@ -88,30 +79,24 @@ module _ (scripts : List (List Action)) (tries w : ℕ) (limits : Sizes) where
       → FollowsReady task script (progress_at script tries again (stages.Acting i) outcome)
   bad_help again task script i c key false outcome here ended = absurd (cc ended)
   bad_help again task script i c key true outcome here ended =
-      let same : ends.Refused BadKey ≡ outcome = cc ended in
-      subst (λ o. FollowsReady task script (progress_at script tries again (stages.Acting i) o)) same
-      (subst (λ o. FollowsReady task script (refused_with again o BadKey)) (sym here) refl)
+      let same : outcome ≡ ends.Refused BadKey = cc ended in
+      rw (same, here)
 
   ready_action : (half : Bool) (again : ℕ) (task : Task) (script : List Action) (i c : ℕ) (o : Option Action) (outcome : End)
       → slice_get script i ≡ o → end_of (new_drive half c (call_of o)) ≡ Some outcome → FollowsReady task script (progress_at script tries again (stages.Acting i) outcome)
-  ready_action half again task script i c None outcome here ended = absurd (cc ended)
   ready_action half again task script i c (Some (actions.Help key)) outcome here ended = bad_help again task script i c key (is_bad_key half key) outcome here ended
-  ready_action half again task script i c (Some (actions.Op op)) outcome here ended = absurd (cc ended)
-  ready_action half again task script i c (Some actions.Save) outcome here ended = absurd (cc ended)
-  ready_action half again task script i c (Some (actions.Back n)) outcome here ended = absurd (cc ended)
-  ready_action half again task script i c (Some actions.Abort) outcome here ended = absurd (cc ended)
+  ready_action half again task script i c o outcome here ended = absurd (cc ended)
 
   ready_stage : (half : Bool) (again : ℕ) (task : Task) (script : List Action) (c : ℕ) (stage : Stage) (outcome : End)
       → end_of (new_drive half c (call_at script stage)) ≡ Some outcome → FollowsReady task script (progress_at script tries again stage outcome)
-  ready_stage half again task script c stages.Beginning outcome ended = absurd (cc ended)
   ready_stage half again task script c (stages.Acting i) outcome ended = ready_action half again task script i c (slice_get script i) outcome refl ended
-  ready_stage half again task script c (stages.Leaving refusal) outcome ended = absurd (cc ended)
+  ready_stage half again task script c stage outcome ended = absurd (cc ended)
 
   -- The second settling.
   ready_progressed : (task : Task) (outcome : End) → end_of task.drive ≡ Some outcome → HasStep task.drive ⊎ IsCalled scripts task → IsReadyTask (progressed scripts tries w limits task outcome)
   ready_progressed task outcome ended (inl steps) = absurd (cc (ended, steps_ended (step_of task.drive) task.drive refl steps))
   ready_progressed task outcome ended (inr called) =
-      subst (λ o. IsReadyTask (option_and_then (λ script. followed scripts w limits task script (progress_of script tries task.attempt outcome)) o)) (sym called.there)
+      rw called.there
       (ready_stage called.half task.attempt.again task called.script called.caller task.attempt.stage outcome (ap end_of (sym called.drive) ∙ ended))
 
   ready_in : (task : Task) (o : Option End) → end_of task.drive ≡ o → HasStep task.drive ⊎ IsCalled scripts task → IsReadyTask (settled_in scripts tries w limits task o)

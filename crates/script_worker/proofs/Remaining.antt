@@ -1,14 +1,6 @@
 -- The accounts of a worker that keeps to its scripts.
-use Rattle.std.proofs.Common.{◌≡◌, ℕ, ◌<◌, true, List, [], ◌∷◌, ◌++◌, length, Option, Some, None, is_some, refl, sym, ap, subst, ◌∙◌, arith}
-use Rattle.std.specs.List.{slice_get}
-use Rattle.txn_words.specs.declared.action.Action.{Action}
-use Rattle.txn_words.specs.declared.entry.Entry.{Entry}
-use Rattle.txn_words.specs.declared.step.Step.{Step}
-use Rattle.txn_drive.specs.Drives.{step_of}
-use Rattle.txn_drive.specs.Made.{made, CommitNothing}
-use Rattle.txn_drive.proofs.DriveLaws.{goes_on}
-use Rattle.txn_drive.proofs.Quiet.{going_quiet}
-use Rattle.txn_drive.proofs.Quiet.{append_quiet}
+use Rattle.std.proofs.Common.{ℕ, ◌<◌, List, [], ◌∷◌, ◌++◌, length, slice_get, Option, Some, None, refl, sym, ap, ◌∙◌, arith}
+use Rattle.script_worker.proofs.Vocabulary.{Action, Entry, step_of, made, CommitNothing, going_quiet, append_quiet}
 use Rattle.script_worker.specs.declared.task.Task.{Task}
 use Rattle.script_worker.specs.Accounts as accounts
 use Rattle.script_worker.specs.Accounts.{Outcome, AreAccounts, every, tolds_of}
@@ -18,23 +10,22 @@ use Rattle.script_worker.specs.Keeps.{KeepsAt, Keeps}
 use Rattle.script_worker.proofs.Accounts.{account_more}
 use Rattle.script_worker.proofs.Chunks.{chunk_quiet}
 use Rattle.script_worker.proofs.Every.{get-every}
+use Rattle.script_worker.proofs.Ready.{steps_ended}
 
 -- The entries of a worker are the accounts of its scripts. Those of a script that is not over
 -- commit nothing, as if it had aborted.
 module _ (tries workers : ℕ) (scripts : List (List Action)) (w : ℕ) (below : w < workers) where
-  open_quiet : (task : Task) (o : Option Step) → step_of task.drive ≡ o → is_some o ≡ true → CommitNothing (made task.drive)
-  open_quiet task None is some = absurd (cc some)
-  open_quiet task (Some step) is some = going_quiet task.drive (goes_on task.drive step is)
-
   at_told : (task : Option Task) (seen : List Entry) → IsReadyTask task → KeepsAt tries workers scripts w task seen
       → (outcomes : List Outcome) × AreAccounts w tries (tolds_of (every workers w scripts) outcomes) seen
   at_told None seen ready at = at
   at_told (Some task) seen ready at =
       let some : 0 < workers = omega (arith, below) in
       let here = get-every workers some scripts w (length at.outcomes) ∙ ap (slice_get scripts) (sym at.number) ∙ at.there in
-      let quiet : CommitNothing (at.chunk ++ made task.drive) = append_quiet at.chunk (made task.drive) (chunk_quiet w at.script (heard_at task.attempt at.txn at.replies) at.chunk at.so_far) (open_quiet task (step_of task.drive) refl ready) in (
+      let quiet : CommitNothing (at.chunk ++ made task.drive) = append_quiet at.chunk (made task.drive)
+      (chunk_quiet w at.script (heard_at task.attempt at.txn at.replies) at.chunk at.so_far)
+      (going_quiet task.drive (steps_ended (step_of task.drive) task.drive refl ready)) in (
         at.outcomes ++ accounts.Aborted ∷ [],
-        subst (AreAccounts w tries (tolds_of (every workers w scripts) (at.outcomes ++ accounts.Aborted ∷ []))) (sym at.entries)
+        rw at.entries
             (account_more w tries (every workers w scripts) at.outcomes at.script accounts.Aborted at.earlier (at.chunk ++ made task.drive) here at.told quiet),
       )
 

@@ -1,11 +1,9 @@
 -- A worker's turn is taken.
 use Rattle.std.proofs.Common.{◌≡◌, ℕ, List, Option, Some, None, sym, subst, ◌∙◌}
+use Rattle.script_worker.proofs.Vocabulary.{Action, Answer, Step}
 use Rattle.std.specs.Option.{option_or}
-use Rattle.txn_words.specs.declared.action.Action.{Action}
-use Rattle.txn_words.specs.declared.answer.Answer.{Answer}
-use Rattle.txn_words.specs.declared.step.Step.{Step}
 use Rattle.txn_drive.specs.declared.turn.Turn.{Turn}
-use Rattle.txn_drive.specs.declared.turn.Turn.TheVariants.{One, Two, Ended}
+use Rattle.txn_drive.specs.declared.turn.Turn.TheVariants.{Ended}
 use Rattle.txn_drive.specs.Turns.{TakesTurn, HasTaken}
 use Rattle.txn_drive.proofs.TurnLemmas.{turn_maps}
 use Rattle.script_worker.specs.declared.attempt.Finish.{Finish}
@@ -18,10 +16,8 @@ pub told_step : {X : Type 0} (takes : X → Step → Answer → X → Type 0) (s
     → y.finish ≡ option_or (finish_told each times x.worker a) x.finish → TakesStep takes scripts tries x s a y
 told_step takes scripts tries x s a y each times each_is times_is taken told ended = record {
   taken = taken;
-  told = subst (λ e. y.worker ≡ told_by e tries x.worker a) each_is (subst (λ t. y.worker ≡ told_by each t x.worker a) times_is told);
-  ended =
-      subst (λ e. y.finish ≡ option_or (finish_told e tries x.worker a) x.finish) each_is
-      (subst (λ t. y.finish ≡ option_or (finish_told each t x.worker a) x.finish) times_is ended);
+  told = rw (each_is, times_is) at told;
+  ended = rw (each_is, times_is) at ended;
 }
 
 -- A turn that the worker takes is its next.
@@ -32,9 +28,8 @@ module _ {X : Type 0} (takes : X → Step → Answer → X → Type 0) (size : �
 
   taken_in : (w : Standing) (x : Working X) (turn : Turn) (y : Working X) → IsTurnBy w (Some turn)
       → TakesTurn (TakesStep takes scripts tries) x turn y → TakesIn takes scripts tries x (Some turn) y
-  taken_in w x (One step) y is taken = taken
-  taken_in w x (Two first second) y is taken = taken
   taken_in w x (Ended outcome) y is taken = absurd is
+  taken_in w x turn y is taken = taken
 
   taken_next : (w v : Standing) (o : Option Turn) (f : Option Finish) (turn : Turn) (y : Working X) → w ≡ sized_by size before
       → o ≡ turn_by w → IsTurnBy w o → o ≡ Some turn → w ≡ v → f ≡ None → TakesTurn (TakesStep takes scripts tries) (begun v f) turn y
@@ -43,9 +38,7 @@ module _ {X : Type 0} (takes : X → Step → Answer → X → Type 0) (size : �
     steps =
         subst (λ (v : Standing). TakesIn takes scripts tries (begun v None) (turn_by v) y) w_is
         (subst (λ t. TakesIn takes scripts tries (begun w None) t y) (sym some ∙ turn_is)
-        (taken_in w (begun w None) turn y (subst (IsTurnBy w) some by)
-        (subst (λ (v : Standing). TakesTurn (TakesStep takes scripts tries) (begun v None) turn y) (sym v_is)
-        (subst (λ f. TakesTurn (TakesStep takes scripts tries) (begun v f) turn y) none taken))));
+        (taken_in w (begun w None) turn y (subst (IsTurnBy w) some by) (rw (none, ← v_is) at taken)));
   }
 
 -- A turn of which each step is one of the worker's is the worker's next.
@@ -76,25 +69,19 @@ module _ {X F : Type 0} (takes : X → Step → Answer → X → Type 0) (R : F 
   in_maps : (x : Working F) (o : Option Turn) (y : Working F) → I x.taker → TakesIn R scripts tries x o y → TakesIn takes scripts tries (on_part x) o (on_part y) × I y.taker
   in_maps x None y i taken = absurd taken
   in_maps x (Some (Ended outcome)) y i taken = absurd taken
-  in_maps x (Some (One s)) y i taken =
-      turn_maps (TakesStep R scripts tries) (TakesStep takes scripts tries) (λ w. I w.taker) on_part x (One s) y i (record { steps = taken }) step_maps
-  in_maps x (Some (Two s t)) y i taken =
-      turn_maps (TakesStep R scripts tries) (TakesStep takes scripts tries) (λ w. I w.taker) on_part x (Two s t) y i (record { steps = taken }) step_maps
-
-  part_next : (size : ℕ) (x : F) (before : Standing) (finish : Option Finish) (y : F) (after : Standing) → I x → TakesNext R size scripts tries x before finish y after
-      → TakesNext takes size scripts tries (p x) before finish (p y) after × I y
-  part_next size x before finish y after i taken =
-      let mapped = in_maps (record { taker = x; worker = sized_by size before; finish = None }) (turn_by (sized_by size before)) (record { taker = y; worker = after; finish = finish }) i taken.steps in
-      (record { steps = mapped.0 }, mapped.1)
+  in_maps x (Some turn) y i taken =
+      turn_maps (TakesStep R scripts tries) (TakesStep takes scripts tries) (λ w. I w.taker) on_part x turn y i
+      (record { steps = taken }) step_maps
 
 pub next_maps : {X F : Type 0} (takes : X → Step → Answer → X → Type 0) (R : F → Step → Answer → F → Type 0) (I : F → F → Type 0) (p : F → X)
     (scripts : List (List Action)) (tries size : ℕ) (x : F) (before : Standing) (finish : Option Finish) (y : F) (after : Standing) → I x x → TakesNext R size scripts tries x before finish y after
     → ((z : F) (s : Step) (a : Answer) (y : F) → I x z → R z s a y → takes (p z) s a (p y) × I x y) → TakesNext takes size scripts tries (p x) before finish (p y) after × I x y
-next_maps takes R I p scripts tries size x before finish y after i taken each = part_next takes R (I x) p each scripts tries size x before finish y after i taken
+next_maps takes R I p scripts tries size x before finish y after i taken each =
+    let mapped = in_maps takes R (I x) p each scripts tries (record { taker = x; worker = sized_by size before; finish = None })
+    (turn_by (sized_by size before)) (record { taker = y; worker = after; finish = finish }) i taken.steps in
+    (record { steps = mapped.0 }, mapped.1)
 
 -- The worker and the step after a turn, and how the script is over.
 pub next_at : {X : Type 0} (takes : X → Step → Answer → X → Type 0) (size : ℕ) (scripts : List (List Action)) (tries : ℕ) (old : X) (before : Standing) (o p : Option Finish) (y z : X) (v w : Standing)
     → TakesNext takes size scripts tries old before o y v → o ≡ p → y ≡ z → v ≡ w → TakesNext takes size scripts tries old before p z w
-next_at takes size scripts tries old before o p y z v w taken o_is y_is v_is =
-    subst (λ x. TakesNext takes size scripts tries old before x z w) o_is
-    (subst (λ x. TakesNext takes size scripts tries old before o x w) y_is (subst (λ (x : Standing). TakesNext takes size scripts tries old before o y x) v_is taken))
+next_at takes size scripts tries old before o p y z v w taken o_is y_is v_is = rw (o_is, y_is, v_is) at taken

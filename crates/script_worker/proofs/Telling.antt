@@ -1,24 +1,14 @@
 -- A caller's accounts of its scripts, as statements about the history.
-use Rattle.std.proofs.Common.{◌≡◌, ℕ, ◌+◌, ◌*◌, ◌≤◌, Bool, cond, List, [], ◌∷◌, ◌++◌, length, length-append, append_assoc, Some, None, Option, refl, sym, ap, subst, ◌∙◌, arith}
-use Prim.Native.Nat.{suc}
-use Rattle.std.specs.List.{fold, filter, filter_map, cons_option, AllByRecursion}
-use Rattle.std.proofs.Math.Nat.{suc-mul}
-use Rattle.std.proofs.lemmas.List.Elements.{filter-append}
-use Rattle.txn_words.specs.declared.action.Action.{Action}
-use Rattle.txn_words.specs.declared.entry.Entry.{Entry}
-use Rattle.txn_words.specs.declared.entry.Entry.TheVariants.{Began, Committed}
-use Rattle.txn_trace.specs.History.{of, ends_in}
-use Rattle.txn_words.specs.Kinds.{is_commit}
+use Rattle.std.proofs.Common.{◌≡◌, ℕ, ◌+◌, ◌*◌, ◌≤◌, cond, List, [], ◌∷◌, ◌++◌, length, append_assoc, fold, filter, filter_map, Some, None, Option, refl, sym, ap, ◌∙◌, arith, suc-mul}
+use Rattle.script_worker.proofs.Vocabulary.{cons_option, AllByRecursion, filter-append, Action, Entry, Began, Committed, of, ends_in, is_commit, own, how_many, IsShaped, ends_in-push}
 use Rattle.txn_trace.specs.Replies.{RepliesHold}
-use Rattle.txn_words.specs.Shape.{own, how_many, IsShaped}
-use Rattle.txn_trace.specs.Plays.{without_undone, IsPlayed}
 use Rattle.script_worker.specs.Accounts as accounts
 use Rattle.script_worker.specs.Accounts.{Outcome, Told, replies_in, IsAccount, AreAccounts, HasCome, AreTrue}
-use Rattle.txn_trace.proofs.Pushes.{ends_in-push}
 use Rattle.txn_trace.proofs.Committing.{has_committed}
-use Rattle.script_worker.proofs.Parts.{inner_begins, inner_commits, none_begin, part_commits}
+use Rattle.script_worker.proofs.Attempting.{how_many-append}
+use Rattle.script_worker.proofs.Parts.{inner_begins, inner_commits, part_commits}
 use Rattle.script_worker.proofs.Placing.{committed_placed}
-use Rattle.script_worker.proofs.Reading.{next_txn, ended_txns, ended-append, are_read, quiet_txns, same_txn}
+use Rattle.script_worker.proofs.Reading.{next_txn, cons_append, ended_txns, ended-append, are_read, quiet_txns, same_txn}
 
 -- One account, wherever it is among the caller's own entries.
 module _ (c tries : ℕ) (h : List Entry) (shape : IsShaped h) (replies : RepliesHold h) where
@@ -26,15 +16,15 @@ module _ (c tries : ℕ) (h : List Entry) (shape : IsShaped h) (replies : Replie
   has_come script (accounts.Committed txn place told) front here later own_is account =
       let (before, part, here_is, quiet, p) = account in
       let own_then : own c h ≡ (front ++ before) ++ ((Began c txn ∷ p.inner ++ Committed c place ∷ []) ++ later) =
-      own_is ∙ ap (λ es. front ++ (es ++ later)) (here_is ∙ ap (λ es. before ++ es) p.whole) ∙ ap (λ es. front ++ es) (append_assoc before (Began c txn ∷ p.inner ++ Committed c place ∷ []) later)
-      ∙ sym (append_assoc front before ((Began c txn ∷ p.inner ++ Committed c place ∷ []) ++ later)) in
-      let quiet_inside = none_begin p.inner (Committed c place) (inner_begins c script txn place p.inner (subst (λ es. IsPlayed script (without_undone es)) p.whole p.plays)) in
+      rw (own_is, here_is, p.whole) (simp append_assoc) in
+      let plays = rw p.whole at p.plays in
+      let quiet_inside = inner_begins c script txn place p.inner plays in
       let whole : of txn h ≡ Began c txn ∷ p.inner ++ Committed c place ∷ [] =
       (has_committed c txn place h (front ++ before) p.inner later shape replies own_then quiet_inside).whole in
       record {
         inner = p.inner;
         whole = whole;
-        plays = subst (λ es. IsPlayed script (without_undone es)) (p.whole ∙ sym whole) p.plays;
+        plays = rw whole plays;
         committed = ap (ends_in is_commit) whole ∙ ends_in-push is_commit (Began c txn ∷ p.inner) (Committed c place);
         placed = committed_placed h shape txn c place (Began c txn ∷ p.inner) whole;
         replied = ap replies_in (whole ∙ sym p.whole) ∙ p.replied;
@@ -52,33 +42,22 @@ module _ (c tries : ℕ) (h : List Entry) (shape : IsShaped h) (replies : Replie
 -- The Committed entries of an account, and of all accounts.
 account_commits : (c tries : ℕ) (script : List Action) (outcome : Outcome) (here : List Entry) → IsAccount c tries script outcome here → filter is_commit here ≡ cons_option (accounts.commit_in c outcome) []
 account_commits c tries script (accounts.Committed txn place replies) here (before, part, here_is, quiet, p) =
-    ap (filter is_commit) (here_is ∙ ap (λ es. before ++ es) p.whole) ∙ filter-append is_commit before (Began c txn ∷ p.inner ++ Committed c place ∷ [])
-    ∙ ap (λ es. es ++ filter is_commit (Began c txn ∷ p.inner ++ Committed c place ∷ [])) quiet
-    ∙ part_commits c script txn place p.inner (subst (λ es. IsPlayed script (without_undone es)) p.whole p.plays)
-account_commits c tries script accounts.Aborted here quiet = quiet
+    rw (here_is, p.whole, filter-append, quiet) (part_commits c script txn place p.inner (rw p.whole at p.plays))
 account_commits c tries script accounts.Busy here busy = busy.nothing
-account_commits c tries script (accounts.Refused refusal) here quiet = quiet
-
-cons-append : {X : Type 0} (o : Option X) (xs : List X) → cons_option o [] ++ xs ≡ cons_option o xs
-cons-append None xs = refl
-cons-append (Some x) xs = refl
+account_commits c tries script outcome here quiet = quiet
 
 commits_told : (c tries : ℕ) (tolds : List Told) (es : List Entry) → AreAccounts c tries tolds es → filter is_commit es ≡ filter_map (λ told. accounts.commit_in c told.outcome) tolds
 commits_told c tries [] es none = ap (filter is_commit) none
 commits_told c tries (told ∷ tolds) es (here, later, es_is, account, rest) =
-    ap (filter is_commit) es_is ∙ filter-append is_commit here later
-    ∙ (λ i. account_commits c tries told.script told.outcome here account i ++ commits_told c tries tolds later rest i)
-    ∙ cons-append (accounts.commit_in c told.outcome) (filter_map (λ told. accounts.commit_in c told.outcome) tolds)
+    rw (es_is, filter-append, account_commits c tries told.script told.outcome here account, commits_told c tries tolds later rest)
+    (sym (cons_append (accounts.commit_in c told.outcome) [] (filter_map (λ told. accounts.commit_in c told.outcome) tolds)))
 
 -- The Busy entries.
-how_many-append : (test : Entry → Bool) (xs ys : List Entry) → how_many test (xs ++ ys) ≡ how_many test xs + how_many test ys
-how_many-append test xs ys = ap length (filter-append test xs ys) ∙ length-append (filter test xs) (filter test ys)
-
 busy_told : (c tries : ℕ) (tolds : List Told) (es : List Entry) → AreAccounts c tries tolds es
     → length (filter (λ told. accounts.is_busy_outcome told.outcome) tolds) * (tries + 1) ≤ how_many accounts.is_busy es
 busy_told c tries [] es none = omega arith
 busy_told c tries (told ∷ tolds) es (here, later, es_is, account, rest) =
-    subst (λ n. length (cond (accounts.is_busy_outcome told.outcome) (told ∷ busy) busy) * (tries + 1) ≤ n) (sym (ap (how_many accounts.is_busy) es_is ∙ how_many-append accounts.is_busy here later))
+    rw (es_is, how_many-append accounts.is_busy here later)
     (at told.outcome account (busy_told c tries tolds later rest))
   where
     busy : List Told
@@ -88,30 +67,25 @@ busy_told c tries (told ∷ tolds) es (here, later, es_is, account, rest) =
         → length (cond (accounts.is_busy_outcome outcome) (told ∷ busy) busy) * (tries + 1) ≤ how_many accounts.is_busy here + how_many accounts.is_busy later
     at accounts.Busy account below =
         let more = account.enough in
-        let product : suc (length busy) * (tries + 1) ≡ length busy * (tries + 1) + (tries + 1) = suc-mul (length busy) (tries + 1) in
-        omega arith
-    at (accounts.Committed txn place replies) account below = omega arith
-    at accounts.Aborted account below = omega arith
-    at (accounts.Refused refusal) account below = omega arith
+        omega (arith, suc-mul (length busy) (tries + 1))
+    at outcome account below = omega arith
 
 -- The committed transactions.
 account_txns : (c tries : ℕ) (script : List Action) (outcome : Outcome) (here : List Entry) (o : Option ℕ) → IsAccount c tries script outcome here → ended_txns o here ≡ cons_option (accounts.txn_in outcome) []
 account_txns c tries script (accounts.Committed txn place replies) here o (before, part, here_is, quiet, p) =
-    let plays = subst (λ es. IsPlayed script (without_undone es)) p.whole p.plays in
-    ap (ended_txns o) (here_is ∙ ap (λ es. before ++ es) p.whole) ∙ ended-append o before (Began c txn ∷ p.inner ++ Committed c place ∷ [])
-    ∙ ap (λ ts. ts ++ ended_txns (Some txn) (p.inner ++ Committed c place ∷ [])) (quiet_txns o before quiet)
-    ∙ ended-append (Some txn) p.inner (Committed c place ∷ [])
-    ∙ (λ i. quiet_txns (Some txn) p.inner (inner_commits c script txn place p.inner plays) i ++ cons_option (same_txn (Some txn) p.inner (Committed c place) (inner_begins c script txn place p.inner plays) i) [])
-account_txns c tries script accounts.Aborted here o quiet = quiet_txns o here quiet
+    let plays = rw p.whole at p.plays in
+    rw (here_is, p.whole, ended-append, quiet_txns o before quiet, ended-append (Some txn) p.inner (Committed c place ∷ []))
+    (λ i. quiet_txns (Some txn) p.inner (inner_commits c script txn place p.inner plays) i
+    ++ cons_option (same_txn (Some txn) p.inner (inner_begins c script txn place p.inner plays) i) [])
 account_txns c tries script accounts.Busy here o busy = quiet_txns o here busy.nothing
-account_txns c tries script (accounts.Refused refusal) here o quiet = quiet_txns o here quiet
+account_txns c tries script outcome here o quiet = quiet_txns o here quiet
 
 txns_told : (c tries : ℕ) (tolds : List Told) (es : List Entry) (o : Option ℕ) → AreAccounts c tries tolds es → ended_txns o es ≡ filter_map (λ told. accounts.txn_in told.outcome) tolds
 txns_told c tries [] es o none = ap (ended_txns o) none
 txns_told c tries (told ∷ tolds) es o (here, later, es_is, account, rest) =
-    ap (ended_txns o) es_is ∙ ended-append o here later
-    ∙ (λ i. account_txns c tries told.script told.outcome here o account i ++ txns_told c tries tolds later (fold next_txn o here) rest i)
-    ∙ cons-append (accounts.txn_in told.outcome) (filter_map (λ told. accounts.txn_in told.outcome) tolds)
+    let others = txns_told c tries tolds later (fold next_txn o here) rest in
+    rw (es_is, ended-append, account_txns c tries told.script told.outcome here o account, others)
+    (sym (cons_append (accounts.txn_in told.outcome) [] (filter_map (λ told. accounts.txn_in told.outcome) tolds)))
 
 -- The accounts in a caller's own entries are true of the history.
 pub accounts_true : (c tries : ℕ) (h : List Entry) (tolds : List Told) → IsShaped h → RepliesHold h → AreAccounts c tries tolds (own c h) → AreTrue c tries h tolds

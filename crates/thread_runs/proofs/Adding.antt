@@ -1,31 +1,21 @@
 -- The entries that a call of a shared map adds, by its end.
-use Rattle.std.proofs.Common.{◌≡◌, ℕ, List, [], refl, sym, ap, ◌∙◌, inl, inr}
-use Rattle.std.proofs.lemmas.List.{append-nil}
+use Rattle.std.proofs.Common.{◌≡◌, ℕ, List, [], refl, sym, ap, ◌∙◌, inl, inr, append-nil}
+use Rattle.thread_runs.proofs.Vocabulary.{Entry, Refusal, OutOfStep, Call, End, IsMade, Ended, Failed, Token, IsSameCaller}
 use Rattle.txn_words.specs.declared.answer.Answer.TheVariants as answers
-use Rattle.txn_words.specs.declared.entry.Entry.{Entry}
-use Rattle.txn_words.specs.declared.refusal.Refusal.{Refusal}
-use Rattle.txn_words.specs.declared.refusal.Refusal.TheVariants.{OutOfStep}
-use Rattle.txn_drive.specs.declared.call.Call.{Call}
 use Rattle.txn_drive.specs.declared.call.Call.TheVariants as calls
-use Rattle.txn_drive.specs.declared.«end».End.{End}
 use Rattle.txn_drive.specs.declared.«end».End.TheVariants as ends
-use Rattle.txn_drive.specs.Made.{IsMade}
-use Rattle.locked_map.specs.Calls.{Ended, Failed}
-use Rattle.core_tokens.specs.Tokens.{Token, IsSameCaller}
 use Rattle.thread_runs.specs.Runs.{Adds, HasRoomFor, HasRoomAt}
 
--- A call that was not made, since memory was refused for its reply, adds none.
-pub adds_none : (c : ℕ) (call : Call) (refusal : Refusal) (seen : List Entry) → Adds c call (ends.Refused refusal) seen seen
-adds_none c call OutOfStep seen = record { added = []; entries = sym (append-nil seen); made = tt; quiet = λ whole. refl }
-adds_none c call refusal seen = record { added = []; entries = sym (append-nil seen); made = refl; quiet = λ whole. tt }
-
-adds_same : (c : ℕ) (call : Call) (refusal : Refusal) (seen seen' : List Entry) → seen' ≡ seen → Adds c call (ends.Refused refusal) seen seen'
+-- A call that was refused by its token, or not made, since memory was refused for its reply, adds
+-- none.
+pub adds_same : (c : ℕ) (call : Call) (refusal : Refusal) (seen seen' : List Entry) → seen' ≡ seen
+    → Adds c call (ends.Refused refusal) seen seen'
 adds_same c call OutOfStep seen seen' is = record { added = []; entries = is ∙ sym (append-nil seen); made = tt; quiet = λ whole. refl }
 adds_same c call refusal seen seen' is = record { added = []; entries = is ∙ sym (append-nil seen); made = refl; quiet = λ whole. tt }
 
 failed_adds : {S : Type 0} (k : Token S) (call : Call) (refusal : Refusal) (l : Token S) → Failed k call refusal l → Adds k.number call (ends.Refused refusal) k.seen l.seen × IsSameCaller k l
 failed_adds k call OutOfStep l fell = (record { added = fell.added; entries = fell.entries; made = tt; quiet = fell.quiet }, fell.whose)
-failed_adds k call refusal l none = (record { added = []; entries = none.seen ∙ sym (append-nil k.seen); made = refl; quiet = λ whole. tt }, none.whose)
+failed_adds k call refusal l none = (adds_same k.number call refusal k.seen l.seen none.seen, none.whose)
 
 -- A call with this end.
 pub adds_of : {S : Type 0} (words : S → List ℕ) (k : Token S) (call : Call) (outcome : End) (l : Token S) → Ended words k call outcome l → Adds k.number call outcome k.seen l.seen × IsSameCaller k l
@@ -36,17 +26,10 @@ adds_of {S} words k call (ends.Refused refusal) l ended = elim ended [
   )
   | inr later ↦ failed_adds k call refusal l later.1
 ]
-adds_of words k call (ends.Answered a) l ran = (record { added = ran.added; entries = ran.entries; made = ran.made; quiet = λ whole. tt }, ran.whose)
-adds_of words k call ends.Helped l ran = (record { added = ran.added; entries = ran.entries; made = ran.made; quiet = λ whole. tt }, ran.whose)
-adds_of words k call (ends.Busy x) l ran = (record { added = ran.added; entries = ran.entries; made = ran.made; quiet = λ whole. tt }, ran.whose)
+adds_of words k call outcome l ran = (record { added = ran.added; entries = ran.entries; made = ran.made; quiet = λ whole. tt }, ran.whose)
 
 -- Only an operation has a reply.
 pub room_at : (c : ℕ) (call : Call) (outcome : End) (added : List Entry) (room : ℕ) → IsMade c call outcome added → HasRoomFor call room → HasRoomAt outcome room
 room_at c (calls.Op op) (ends.Answered (answers.Done reply)) added room made has = has
-room_at c calls.Begin (ends.Answered (answers.Done reply)) added room made has = absurd made
-room_at c calls.Save (ends.Answered (answers.Done reply)) added room made has = absurd made
-room_at c (calls.Back n) (ends.Answered (answers.Done reply)) added room made has = absurd made
-room_at c calls.Commit (ends.Answered (answers.Done reply)) added room made has = absurd made
-room_at c calls.Abort (ends.Answered (answers.Done reply)) added room made has = absurd made
-room_at c (calls.Help k) (ends.Answered (answers.Done reply)) added room made has = absurd made
+room_at c call (ends.Answered (answers.Done reply)) added room made has = absurd made
 room_at c call outcome added room made has = tt

@@ -1,46 +1,23 @@
 -- A script's course through its calls: the caller's phase, and the outcomes that are possible.
-use Rattle.std.proofs.Common.{◌≡◌, ℕ, ◌⊎◌, ◌+◌, nat_lt, Bool, true, false, zero, suc, ◌||◌, List, [], ◌∷◌, length, Option, Some, None, is_some, refl, sym, ap, subst, ◌∙◌, inl, inr, if◌then◌else◌}
-use Rattle.std.specs.Prelude.{slice_get, nat_le, IsTrue}
-use Rattle.std.specs.List.{list_any}
+use Rattle.std.proofs.Common.{◌≡◌, ℕ, ◌⊎◌, ◌+◌, nat_lt, Bool, true, false, zero, suc, ◌||◌, List, [], ◌∷◌, length, Option, Some, None, is_some, refl, sym, ap, subst, ◌∙◌, inl, inr, if◌then◌else◌, slice_get, nat_le, IsTrue}
+use Rattle.thread_runs.proofs.Vocabulary.{list_any, false≢true, or_right, Action, Entry, Refusal, BadKey, NoSuchLevel, NoMemory, StampsUsedUp, StaleWord, OutOfStep, Closed, Opened, Seat, seat_after, is_bad_key, Call, End, Progress, Next, Over, attempt_at, call_of, call_at, done_with, done_at, busy_at, refused_with, refused_in, refused_at, progress_at, Ran, Failed, Token, Heard, outcome_by, get_empty}
 use Rattle.std.specs.Option.{option_or}
-use Rattle.std.proofs.lemmas.Bool.{false≢true}
-use Rattle.txn_words.specs.declared.action.Action.{Action}
 use Rattle.txn_words.specs.declared.action.Action.TheVariants as actions
-use Rattle.txn_words.specs.declared.answer.Answer.{Answer}
 use Rattle.txn_words.specs.declared.answer.Answer.TheVariants as answers
-use Rattle.txn_words.specs.declared.entry.Entry.{Entry}
-use Rattle.txn_words.specs.declared.refusal.Refusal.{Refusal}
-use Rattle.txn_words.specs.declared.refusal.Refusal.TheVariants.{BadKey, NoSuchLevel, NoMemory, StampsUsedUp, StaleWord, OutOfStep}
 use Rattle.txn_words.specs.declared.seat.Phase.{Phase}
-use Rattle.txn_words.specs.declared.seat.Phase.TheVariants.{Closed, Opened}
 use Rattle.txn_words.specs.Map.{key_of}
 use Rattle.txn_words.specs.Seats.{refusal_in}
-use Rattle.txn_words.specs.Shape.{Seat, seat_after}
-use Rattle.txn_words.specs.Sizes.{is_bad_key}
-use Rattle.txn_drive.specs.declared.call.Call.{Call}
-use Rattle.txn_drive.specs.declared.call.Call.TheVariants as calls
-use Rattle.txn_drive.specs.declared.«end».End.{End}
 use Rattle.txn_drive.specs.declared.«end».End.TheVariants as ends
 use Rattle.txn_drive.specs.Drives.{first_step}
-use Rattle.txn_drive.specs.Made.{IsMade}
 use Rattle.script_worker.specs.declared.attempt.Stage.{Stage}
 use Rattle.script_worker.specs.declared.attempt.Stage.TheVariants.{Beginning, Acting, Leaving}
-use Rattle.script_worker.specs.declared.attempt.Attempt.{Attempt}
-use Rattle.script_worker.specs.declared.attempt.Progress.{Progress}
-use Rattle.script_worker.specs.declared.attempt.Progress.TheVariants.{Next, Over}
 use Rattle.script_worker.specs.declared.attempt.Finish.{Finish}
 use Rattle.script_worker.specs.declared.attempt.Finish.TheVariants as finishes
-use Rattle.script_worker.specs.Attempts.{attempt_at, first_attempt, call_of, call_at, done_with, done_at, busy_at, refused_with, refused_in, refused_at, progress_at, progress_of}
-use Rattle.locked_map.specs.Calls.{Ran, Failed}
 use Rattle.core_tokens.specs.Ready.{refused_at as refused_token, refused_help}
 use Rattle.core_tokens.specs.Suits.{may_refuse}
-use Rattle.core_tokens.specs.Tokens.{Token}
-use Rattle.script_worker.specs.Accounts.{Outcome}
 use Rattle.thread_runs.specs.Possible.{has_bad_key, is_back, is_abort, MayBeRefused, MayCome, is_op}
-use Rattle.script_worker.specs.Chunks.{Heard, outcome_by}
 use Rattle.thread_runs.specs.Runs.{HasPhase, IsIn, HasEnded, phase_at}
-use Rattle.script_worker.proofs.Every.{get_empty}
-use Rattle.thread_runs.proofs.Seating.{is_refusal, phase_by, made_landed}
+use Rattle.thread_runs.proofs.Seating.{is_refusal, phase_after, phase_by, made_landed}
 
 -- An action of the script that passes a test.
 pub any_at : (test : Action → Bool) (script : List Action) (i : ℕ) (action : Action) → slice_get script i ≡ Some action → test action ≡ true → IsTrue (list_any test script)
@@ -49,10 +26,6 @@ any_at test (first ∷ script) zero action is passes =
     let same : first ≡ action = cc is in
     ap (λ a. test a || list_any test script) same ∙ ap (λ b. b || list_any test script) passes
 any_at test (first ∷ script) (suc i) action is passes = or_right (test first) (list_any test script) (any_at test script i action is passes)
-  where
-    or_right : (a b : Bool) → b ≡ true → (a || b) ≡ true
-    or_right true b passes = refl
-    or_right false b passes = passes
 
 -- A stage, as a statement about the refusal for which it leaves.
 abbrev pub MayLeave : Bool → List Action → Stage → Type 0
@@ -87,30 +60,17 @@ is_out OutOfStep = true
 is_out refusal = false
 
 module _ (half : Bool) (script : List Action) (tries again : ℕ) (broken : Bool) (seen : List Entry) where
-  -- A call that was made, or that found a stripe held.
-  done_stands : (stage : Stage) (c : ℕ) (a : Answer) (added : List Entry) → IsMade c (call_at script stage) (ends.Answered a) added → HasPhase (phase_by (phase_at stage) (call_at script stage) (ends.Answered a)) (seat_after seen) → MayLeave half script stage
-      → Stands half script broken seen (done_at script again stage)
-  done_stands Beginning c a added made at may = (inr at, tt)
-  done_stands (Acting i) c a added made at may = by (slice_get script i) refl made at
+  -- A call that did what it was asked to do, and one that found a stripe held.
+  done_stands : (stage : Stage) → HasPhase (phase_after (phase_at stage) (call_at script stage)) (seat_after seen)
+      → MayLeave half script stage → Stands half script broken seen (done_at script again stage)
+  done_stands Beginning at may = (inr at, tt)
+  done_stands (Acting i) at may = by (slice_get script i) refl at
     where
-      by : (o : Option Action) → slice_get script i ≡ o → IsMade c (call_of o) (ends.Answered a) added → HasPhase (phase_by Opened (call_of o) (ends.Answered a)) (seat_after seen) → Stands half script broken seen (done_with again i o)
-      by None is made at = (inr at, tt)
-      by (Some (actions.Op op)) is made at = (inr at, tt)
-      by (Some actions.Save) is made at = (inr at, tt)
-      by (Some (actions.Back n)) is made at = (inr at, tt)
-      by (Some (actions.Help key)) is made at = (inr at, tt)
-      by (Some actions.Abort) is made at = (inr at, any_at is_abort script i actions.Abort is refl)
-  done_stands (Leaving refusal) c a added made at may = (inr at, may)
-
-  helped_stands : (stage : Stage) (c : ℕ) (added : List Entry) → IsMade c (call_at script stage) ends.Helped added → HasPhase (phase_by (phase_at stage) (call_at script stage) ends.Helped) (seat_after seen) → Stands half script broken seen (done_at script again stage)
-  helped_stands Beginning c added made at = absurd made
-  helped_stands (Acting i) c added made at = by (slice_get script i) refl made at
-    where
-      by : (o : Option Action) → slice_get script i ≡ o → IsMade c (call_of o) ends.Helped added → HasPhase (phase_by Opened (call_of o) ends.Helped) (seat_after seen) → Stands half script broken seen (done_with again i o)
-      by (Some (actions.Help key)) is made at = (inr at, tt)
-      by None is made at = absurd made
-      by (Some action) is made at = absurd made
-  helped_stands (Leaving refusal) c added made at = absurd made
+      by : (o : Option Action) → slice_get script i ≡ o → HasPhase (phase_after Opened (call_of o)) (seat_after seen)
+          → Stands half script broken seen (done_with again i o)
+      by (Some actions.Abort) is at = (inr at, any_at is_abort script i actions.Abort is refl)
+      by o is at = (inr at, tt)
+  done_stands (Leaving refusal) at may = (inr at, may)
 
   busy_stands : HasPhase Closed (seat_after seen) → Stands half script broken seen (busy_at tries again)
   busy_stands at = by (nat_lt again tries)
@@ -118,10 +78,6 @@ module _ (half : Bool) (script : List Action) (tries again : ℕ) (broken : Bool
       by : (b : Bool) → Stands half script broken seen (if b then Next (attempt_at (again + 1) Beginning) else Over finishes.Busy)
       by true = (inr at, tt)
       by false = (inr at, tt)
-
-  busy_phase : (call : Call) (c x : ℕ) (added : List Entry) (phase : Phase) → IsMade c call (ends.Busy x) added → HasPhase (phase_by phase call (ends.Busy x)) (seat_after seen) → HasPhase Closed (seat_after seen)
-  busy_phase (calls.Op op) c x added phase made at = at
-  busy_phase call c x added phase made at = absurd made
 
   -- A call that was refused, and has added nothing.
   leaves : (refusal : Refusal) (stage : Stage) → IsIn (phase_at stage) broken seen → IsGoodAt half script refusal stage → Stands half script broken seen (refused_in script again stage refusal)
@@ -131,10 +87,7 @@ module _ (half : Bool) (script : List Action) (tries again : ℕ) (broken : Bool
       by : (o : Option Action) → IsGood half script refusal o → Stands half script broken seen (refused_with again o refusal)
       by None good = absurd good
       by (Some actions.Abort) good = absurd good
-      by (Some (actions.Op op)) good = (at, good)
-      by (Some actions.Save) good = (at, good)
-      by (Some (actions.Back n)) good = (at, good)
-      by (Some (actions.Help key)) good = (at, good)
+      by (Some action) good = (at, good)
   leaves refusal (Leaving why) at good = absurd good
 
   out_stands : (stage : Stage) → broken ≡ true → Stands half script broken seen (refused_at script again stage OutOfStep)
@@ -145,7 +98,7 @@ module _ (half : Bool) (script : List Action) (tries again : ℕ) (broken : Bool
   refused_stands refusal stage plain at good = leaves refusal stage at good
 
 -- The refusals of a token that is not broken.
-if_bad : (b : Bool) (why refusal : Refusal) → (if b then Some why else None) ≡ Some refusal → (b ≡ true) × (why ≡ refusal)
+pub if_bad : (b : Bool) (why refusal : Refusal) → (if b then Some why else None) ≡ Some refusal → (b ≡ true) × (why ≡ refusal)
 if_bad true why refusal is = (refl, cc is)
 if_bad false why refusal is = absurd (cc is)
 
@@ -159,26 +112,23 @@ seat_refused half script Beginning s refusal is = absurd (cc is)
 seat_refused half script (Acting i) s refusal is = by (slice_get script i) refl is
   where
     by : (o : Option Action) → slice_get script i ≡ o → option_or (refusal_in half (record s { phase = Opened }) (first_step 0 (call_of o))) (refused_help half (call_of o)) ≡ Some refusal → (is_out refusal ≡ false) × IsGood half script refusal o
-    by None at is = absurd (cc is)
     by (Some (actions.Op op)) at is =
         let bad = or_bad (is_bad_key half (key_of op)) BadKey refusal is in
-        subst (λ (r : Refusal). (is_out r ≡ false) × IsGood half script r (Some (actions.Op op))) bad.1 (refl, any_at (has_bad_key half) script i (actions.Op op) at bad.0)
-    by (Some actions.Save) at is = absurd (cc is)
+        rw (← bad.1) (refl, any_at (has_bad_key half) script i (actions.Op op) at bad.0)
     by (Some (actions.Back n)) at is =
         let bad = or_bad (nat_le (length s.kept) n) NoSuchLevel refusal is in
-        subst (λ (r : Refusal). (is_out r ≡ false) × IsGood half script r (Some (actions.Back n))) bad.1 (refl, any_at is_back script i (actions.Back n) at refl)
+        rw (← bad.1) (refl, any_at is_back script i (actions.Back n) at refl)
     by (Some (actions.Help key)) at is =
         let bad = if_bad (is_bad_key half key) BadKey refusal is in
-        subst (λ (r : Refusal). (is_out r ≡ false) × IsGood half script r (Some (actions.Help key))) bad.1 (refl, any_at (has_bad_key half) script i (actions.Help key) at bad.0)
-    by (Some actions.Abort) at is = absurd (cc is)
+        rw (← bad.1) (refl, any_at (has_bad_key half) script i (actions.Help key) at bad.0)
+    by o at is = absurd (cc is)
 seat_refused half script (Leaving why) s refusal is = absurd (cc is)
 
 token_refused : (half : Bool) (script : List Action) (stage : Stage) (b : Bool) (o : Option Seat) (refusal : Refusal) → refused_token half b o (call_at script stage) ≡ Some refusal → (b ≡ true) ⊎ HasPhase (phase_at stage) o
     → ((refusal ≡ OutOfStep) × (b ≡ true)) ⊎ ((is_out refusal ≡ false) × IsGoodAt half script refusal stage)
 token_refused half script stage true o refusal is at = inl (sym (cc is), refl)
-token_refused half script stage false None refusal is (inl broken) = absurd (false≢true broken)
+token_refused half script stage false o refusal is (inl broken) = absurd (false≢true broken)
 token_refused half script stage false None refusal is (inr at) = absurd (cc at.1)
-token_refused half script stage false (Some s) refusal is (inl broken) = absurd (false≢true broken)
 token_refused half script stage false (Some s) refusal is (inr at) =
     let same : s ≡ at.0 = cc at.1 in
     let phase : s.phase ≡ phase_at stage = ap (λ (t : Seat). t.phase) same ∙ at.2 in
@@ -192,15 +142,11 @@ want_good half script Beginning refusal may = absurd (false≢true may)
 want_good half script (Acting i) refusal may = by (slice_get script i) refl refusal may
   where
     by : (o : Option Action) → slice_get script i ≡ o → (r : Refusal) → may_refuse (call_of o) r ≡ true → IsGood half script r o
-    by (Some (actions.Op op)) at NoMemory may = tt
-    by (Some (actions.Op op)) at StampsUsedUp may = tt
     by (Some (actions.Op op)) at StaleWord may = any_at is_op script i (actions.Op op) at refl
-    by (Some actions.Save) at NoMemory may = tt
-    by (Some (actions.Back n)) at NoMemory may = tt
-    by (Some (actions.Help key)) at NoMemory may = tt
-    by (Some (actions.Help key)) at StampsUsedUp may = tt
-    by None at r may = absurd (false≢true may)
-    by (Some action) at r may = absurd (false≢true may)
+    by (Some actions.Abort) at r may = absurd (false≢true may)
+    by (Some action) at NoMemory may = tt
+    by (Some action) at StampsUsedUp may = tt
+    by o at r may = absurd (false≢true may)
 want_good half script (Leaving why) refusal may = absurd (false≢true may)
 
 -- A token that lets a call pass is not broken.
@@ -220,50 +166,35 @@ module _ {S : Type 0} (half : Bool) (script : List Action) (tries again : ℕ) (
   failed_stands OutOfStep free fell = out_stands half script tries again l.broken l.seen stage fell.broken
   failed_stands refusal free none =
       let before = sound_in k.limits.half k.broken k.seen call (phase_at stage) free at in
-      leaves half script tries again l.broken l.seen refusal stage (inr (subst (λ es. HasPhase (phase_at stage) (seat_after es)) (sym none.seen) before)) (want_good half script stage refusal none.may)
-
-  same_stands : (p : Progress) → l ≡ k → Stands half script k.broken k.seen p → Stands half script l.broken l.seen p
-  same_stands p same stands = subst (λ (t : Token S). Stands half script t.broken t.seen p) (sym same) stands
+      leaves half script tries again l.broken l.seen refusal stage (inr (rw none.seen before))
+      (want_good half script stage refusal none.may)
 
   token_stands : (refusal : Refusal) → refused_token k.limits.half k.broken (seat_after k.seen) call ≡ Some refusal → Stands half script k.broken k.seen (refused_at script again stage refusal)
-  token_stands refusal is = elim (token_refused half script stage k.broken (seat_after k.seen) refusal (ap (λ (b : Bool). refused_token b k.broken (seat_after k.seen) call) (sym halves) ∙ is) at) [
-    | inl out ↦ subst (λ (r : Refusal). Stands half script k.broken k.seen (refused_at script again stage r)) (sym out.0) (out_stands half script tries again k.broken k.seen stage out.1)
+  token_stands refusal is = elim (token_refused half script stage k.broken (seat_after k.seen) refusal (rw halves at is) at) [
+    | inl out ↦ rw out.0 (out_stands half script tries again k.broken k.seen stage out.1)
     | inr good ↦ refused_stands half script tries again k.broken k.seen refusal stage good.0 at good.1
   ]
 
-  none_stands : (refusal : Refusal) → ends.Refused refusal ≡ ends.Refused NoMemory → may_refuse call NoMemory ≡ true → Stands half script k.broken k.seen (refused_at script again stage refusal)
-  none_stands refusal is want =
-      let same : refusal ≡ NoMemory = cc is in
-      subst (λ (r : Refusal). Stands half script k.broken k.seen (refused_at script again stage r)) (sym same) (leaves half script tries again k.broken k.seen NoMemory stage at (want_good half script stage NoMemory want))
-
-  stands_at : (outcome : End) → HasEnded k call outcome l → Stands half script l.broken l.seen (progress_at script tries again stage outcome)
-  stands_at (ends.Answered a) (inl ended) = done_stands half script tries again l.broken l.seen stage k.number a ended.1.added ended.1.made (landed_by ended.0 (ends.Answered a) refl ended.1) may
-  stands_at (ends.Answered a) (inr none) = absurd (cc none.0)
-  stands_at ends.Helped (inl ended) = helped_stands half script tries again l.broken l.seen stage k.number ended.1.added ended.1.made (landed_by ended.0 ends.Helped refl ended.1)
-  stands_at ends.Helped (inr none) = absurd (cc none.0)
-  stands_at (ends.Busy x) (inl ended) = busy_stands half script tries again l.broken l.seen (busy_phase half script tries again l.broken l.seen call k.number x ended.1.added (phase_at stage) ended.1.made (landed_by ended.0 (ends.Busy x) refl ended.1))
-  stands_at (ends.Busy x) (inr none) = absurd (cc none.0)
+  -- The caller's phase after a call of a script's attempt.
+  pub stands_at : (outcome : End) → HasEnded k call outcome l
+      → Stands half script l.broken l.seen (progress_at script tries again stage outcome)
+  stands_at (ends.Answered a) (inl ended) =
+      done_stands half script tries again l.broken l.seen stage (landed_by ended.0 (ends.Answered a) refl ended.1) may
+  stands_at ends.Helped (inl ended) =
+      done_stands half script tries again l.broken l.seen stage (landed_by ended.0 ends.Helped refl ended.1) may
+  stands_at (ends.Busy x) (inl ended) = busy_stands half script tries again l.broken l.seen (landed_by ended.0 (ends.Busy x) refl ended.1)
   stands_at (ends.Refused refusal) (inl ended) = elim ended.1 [
-    | inl token ↦ same_stands (refused_at script again stage refusal) token.1 (token_stands refusal token.0)
+    | inl token ↦ rw token.1 (token_stands refusal token.0)
     | inr later ↦ failed_stands refusal later.0 later.1
   ]
-  stands_at (ends.Refused refusal) (inr none) = same_stands (refused_at script again stage refusal) none.2 (none_stands refusal none.0 none.1)
+  stands_at (ends.Refused refusal) (inr none) =
+      let same : refusal ≡ NoMemory = cc none.0 in
+      rw (none.2, same) (leaves half script tries again k.broken k.seen NoMemory stage at (want_good half script stage NoMemory none.1))
+  stands_at outcome (inr none) = absurd (cc none.0)
 
--- The caller's phase after a call of a script's attempt.
-pub call_stands : {S : Type 0} (half : Bool) (script : List Action) (tries : ℕ) (attempt : Attempt) (k l : Token S) (asked : Call) (outcome : End) (p : Progress) → k.limits.half ≡ half → asked ≡ call_at script attempt.stage → p ≡ progress_of script tries attempt outcome
-    → HasEnded k asked outcome l → (l.broken ≡ false → is_some (seat_after l.seen) ≡ true) → IsIn (phase_at attempt.stage) k.broken k.seen × MayLeave half script attempt.stage → Stands half script l.broken l.seen p
-call_stands half script tries attempt k l asked outcome p halves asked_is p_is ended rows at =
-    subst (Stands half script l.broken l.seen) (sym p_is) (stands_at half script tries attempt.again attempt.stage k l halves rows at.0 at.1 outcome (subst (λ (x : Call). HasEnded k x outcome l) asked_is ended))
-
-pub first_stands : (half : Bool) (script : List Action) (broken : Bool) (seen : List Entry) (attempt : Attempt) → attempt ≡ first_attempt → IsIn Closed broken seen → IsIn (phase_at attempt.stage) broken seen × MayLeave half script attempt.stage
-first_stands half script broken seen attempt is at = subst (λ (a : Attempt). IsIn (phase_at a.stage) broken seen × MayLeave half script a.stage) (sym is) (at, tt)
-
-over_may : (half : Bool) (script : List Action) (finish : Finish) (outcome : End) (heard : Heard) → MayBeOver half script finish → MayCome half script (outcome_by finish outcome heard)
+pub over_may : (half : Bool) (script : List Action) (finish : Finish) (outcome : End) (heard : Heard) → MayBeOver half script finish
+    → MayCome half script (outcome_by finish outcome heard)
 over_may half script finishes.Committed (ends.Answered (answers.Committed place)) heard may = tt
-over_may half script finishes.Committed outcome heard may = tt
 over_may half script finishes.Aborted outcome heard may = may
-over_may half script finishes.Busy outcome heard may = tt
 over_may half script (finishes.Refused refusal) outcome heard may = may
-
-pub told_may : (half : Bool) (script : List Action) (finish : Finish) (outcome : End) (heard : Heard) (told : Outcome) → told ≡ outcome_by finish outcome heard → MayBeOver half script finish → MayCome half script told
-told_may half script finish outcome heard told is may = subst (MayCome half script) (sym is) (over_may half script finish outcome heard may)
+over_may half script finish outcome heard may = tt

@@ -1,18 +1,12 @@
 -- Elements of lists by their positions, and lists whose elements all have a property.
-use Rattle.std.proofs.Common.{◌≡◌, ℕ, ◌⊎◌, zero, suc, List, [], ◌∷◌, ◌++◌, length, map, set, Some, refl, sym, ap, subst, ◌∙◌, inl, inr}
-use Rattle.std.specs.Prelude.{slice_get, All}
-use Rattle.std.specs.Option.{option_map}
-use Rattle.std.proofs.lemmas.Option.{slice_get_within, slice_get-map, get_or_from_slice_get}
-use Rattle.script_worker.proofs.Every.{get_empty}
+use Rattle.std.proofs.Common.{◌≡◌, ℕ, ◌⊎◌, zero, suc, List, [], ◌∷◌, ◌++◌, length, map, set, Some, refl, ap, subst, ◌∙◌, inl, inr, slice_get, All, option_map}
+use Rattle.thread_runs.proofs.Vocabulary.{slice_get_within, slice_get-map, get_or_from_slice_get, get_empty}
 use Rattle.thread_runs.specs.Each.{Each}
-
-pub each_none : {X : Type 0} (P : ℕ → X → Type 0) → Each P []
-each_none P i x is = absurd (cc (get_empty i, is))
 
 -- An element of a list with one more is one of the list, or the last.
 pub get_push : {X : Type 0} (xs : List X) (y : X) (i : ℕ) (x : X) → slice_get (xs ++ y ∷ []) i ≡ Some x → (slice_get xs i ≡ Some x) ⊎ ((i ≡ length xs) × (y ≡ x))
 get_push [] y zero x is = inr (refl, cc is)
-get_push [] y (suc i) x is = absurd (cc (get_empty i, is))
+get_push [] y (suc i) x is = absurd (cc is)
 get_push (z ∷ xs) y zero x is = inl is
 get_push (z ∷ xs) y (suc i) x is = elim (get_push xs y i x is) [
   | inl here ↦ inl here
@@ -22,7 +16,7 @@ get_push (z ∷ xs) y (suc i) x is = elim (get_push xs y i x is) [
 pub each_push : {X : Type 0} (P : ℕ → X → Type 0) (xs : List X) (y : X) → Each P xs → P (length xs) y → Each P (xs ++ y ∷ [])
 each_push {X} P xs y each here i x is = elim (get_push xs y i x is) [
   | inl before ↦ each i x before
-  | inr last ↦ subst (λ (n : ℕ). P n x) (sym last.0) (subst (P (length xs)) last.1 here)
+  | inr last ↦ rw (last.0, ← last.1) here
 ]
 
 -- An element of a mapped list is that of an element.
@@ -47,9 +41,6 @@ get_set_same (y ∷ xs) zero a x is = refl
 get_set_same (y ∷ xs) (suc i) a x is = get_set_same xs i a x is
 
 pub get_set_other : {X : Type 0} (xs : List X) (i j : ℕ) (a : X) → (i ≡ j → ⊥) → slice_get (set xs i a) j ≡ slice_get xs j
-get_set_other [] zero j a apart = refl
-get_set_other [] (suc i) j a apart = refl
 get_set_other (y ∷ xs) zero zero a apart = absurd (apart refl)
-get_set_other (y ∷ xs) zero (suc j) a apart = refl
-get_set_other (y ∷ xs) (suc i) zero a apart = refl
 get_set_other (y ∷ xs) (suc i) (suc j) a apart = get_set_other xs i j a (λ same. apart (ap (λ (n : ℕ). suc n) same))
+get_set_other xs i j a apart = refl

@@ -1,43 +1,25 @@
 -- The reports of all workers of a run, and their rows of outcomes, each with its last one first.
-use Rattle.std.proofs.Common.{◌≡◌, ℕ, ◌+◌, ◌*◌, ◌/◌, ◌%◌, ◌<◌, Bool, List, get_or, length, map, reverse, Some, sym, ap, subst, ◌∙◌, inl, inr, arith}
-use Rattle.std.specs.Prelude.{slice_get, All}
-use Rattle.std.specs.List.{range_with_len}
+use Rattle.std.proofs.Common.{◌≡◌, ℕ, ◌+◌, ◌*◌, ◌/◌, ◌%◌, ◌<◌, Bool, List, get_or, length, map, reverse, Some, sym, ap, ◌∙◌, arith, slice_get, All, mod-lt}
+use Rattle.thread_runs.proofs.Vocabulary.{range_with_len, get_or-map, length-map, length-reverse, reverse-reverse, Action, Entry, own, IsShaped, Sizes, Outcome, every, AreAllTrue, every-map, get-every, number_at, get_within, true_plays}
 use Rattle.std.proofs.lemmas.List.FromFn.{length-map-range_with_len, get_or-map-range_with_len}
-use Rattle.std.proofs.Math.Nat.{mod-lt}
-use Rattle.std.proofs.lemmas.List.{get_or-map, length-map, length-reverse, reverse-reverse}
-use Rattle.std.proofs.lemmas.Option.{slice_get_cases}
-use Rattle.atomic_table.specs.Seated.{TableId}
 use Rattle.txn_words.specs.declared.holder.Holder.TheVariants.{Begun}
-use Rattle.txn_words.specs.declared.action.Action.{Action}
-use Rattle.txn_words.specs.declared.entry.Entry.{Entry}
 use Rattle.txn_words.specs.Kinds.{caller_of}
 use Rattle.txn_trace.specs.Legal.{IsLegal}
 use Rattle.txn_trace.specs.Replies.{RepliesHold}
-use Rattle.txn_words.specs.Shape.{own, IsShaped}
-use Rattle.txn_words.specs.Sizes.{Sizes}
 use Rattle.locked_map.specs.Closes.{IsOwn}
-use Rattle.core_tokens.specs.Tokens.{Ticket, new_ticket}
 use Rattle.thread_runs.specs.declared.outcome.Outcome as codes
 use Rattle.thread_runs.specs.declared.worker.WorkerReport.{WorkerReport}
-use Rattle.script_worker.specs.Accounts.{Outcome, every, AreAllTrue}
 use Rattle.thread_runs.specs.Each.{Each}
 use Rattle.thread_runs.specs.Possible.{MayCome}
-use Rattle.thread_runs.specs.Runs.{AreToldIn, MayAllCome, HasReported, HasRunScripts, told_of}
-use Rattle.script_worker.proofs.Every.{every-map, get-every, number_at}
+use Rattle.thread_runs.specs.Runs.{AreToldIn, HasReported, HasRunScripts, told_of}
 use Rattle.thread_runs.proofs.Lists.{all_at, get_map, map_get}
-use Rattle.script_worker.proofs.Accounts.{true_plays}
 use Rattle.thread_runs.proofs.Working.{all_true, told_within}
-
--- A report of a pass that has this number and these limits.
-pub reported_at : {L : Type 0} (limits : Sizes) (words : TableId) (workers tries : ℕ) (scripts : List (List Action)) (c : ℕ) (pass : Ticket) (report : WorkerReport L) → pass ≡ new_ticket limits words c → HasReported pass.limits.half workers tries scripts pass.number report
-    → HasReported limits.half workers tries scripts c report
-reported_at limits words workers tries scripts c pass report is = subst (λ (t : Ticket). HasReported t.limits.half workers tries scripts t.number report) is
 
 -- Reports of a work that has these numbers and scripts.
 pub reported_as : {L : Type 0} (half : Bool) (workers workers' tries tries' : ℕ) (scripts scripts' : List (List Action)) (reports : List (WorkerReport L)) → workers' ≡ workers → tries' ≡ tries → scripts' ≡ scripts
     → Each (HasReported half workers' tries' scripts') reports → Each (HasReported half workers tries scripts) reports
 reported_as half workers workers' tries tries' scripts scripts' reports same again all each =
-    subst (λ (n : ℕ). Each (HasReported half n tries scripts) reports) same (subst (λ (n : ℕ). Each (HasReported half workers' n scripts) reports) again (subst (λ ss. Each (HasReported half workers' tries' ss) reports) all each))
+    rw (same, again, all) at each
 
 module _ {L W : Type 0} (items : W → List codes.Outcome) (half : Bool) (workers tries : ℕ) (scripts : List (List Action)) (reports : List (WorkerReport L)) (rows : List W) (as_many : length reports ≡ workers)
     (each : Each (HasReported half workers tries scripts) reports) (rows_are : map items rows ≡ map (λ r. reverse r.outcomes.items) reports) where
@@ -52,10 +34,7 @@ module _ {L W : Type 0} (items : W → List codes.Outcome) (half : Bool) (worker
       ap length (sym row_is) ∙ length-reverse r.outcomes.items ∙ sym (length-map r.outcomes.items told_of) ∙ ran.all ∙ ap (λ (n : ℕ). length (every n c scripts)) (sym as_many_rows)
 
   report_at : (c : ℕ) → c < workers → (r : WorkerReport L) × (slice_get reports c ≡ Some r)
-  report_at c below = elim ((slice_get_cases reports c).1) [
-    | inl is ↦ (is.0, is.2)
-    | inr over ↦ let past = over.0 in absurd (omega (arith, as_many))
-  ]
+  report_at c below = get_within reports c (omega (arith, as_many))
 
   module _ (outcomes : List codes.Outcome) (order : Each (λ c row. every (length rows) c outcomes ≡ reverse (items row)) rows) where
     -- The outcomes of a worker, out of all, are those that it has reported.
@@ -74,8 +53,7 @@ module _ {L W : Type 0} (items : W → List codes.Outcome) (half : Bool) (worker
             let (r, at) = report_at c below in
             let report = each c r at in
             let mine : own c h ≡ r.caller.seen = ap (λ (n : ℕ). own n h) (sym report.number_is) ∙ owns c r at in
-            subst (λ es. AreToldIn c tries (every workers c scripts) (every workers c (map told_of outcomes)) es) (sym mine)
-            (subst (λ os. AreToldIn c tries (every workers c scripts) os r.caller.seen) (sym (own_outcomes c r at)) report.ran.told)
+            rw (mine, own_outcomes c r at) report.ran.told
 
     -- Each outcome is one that its script allows.
     pub reports_may : 0 < workers → (i : ℕ) (script : List Action) (outcome : Outcome) → slice_get scripts i ≡ Some script → slice_get (map told_of outcomes) i ≡ Some outcome → MayCome half script outcome
@@ -87,7 +65,7 @@ module _ {L W : Type 0} (items : W → List codes.Outcome) (half : Bool) (worker
         told_within (λ told. MayCome half told.script told.outcome) (every workers c scripts) (every workers c (map told_of outcomes)) k script outcome
         (get-every workers some scripts c k ∙ ap (slice_get scripts) (sym at) ∙ is)
         (get-every workers some (map told_of outcomes) c k ∙ ap (slice_get (map told_of outcomes)) (sym at) ∙ js)
-        (subst (MayAllCome half (every workers c scripts)) (sym (own_outcomes c r here)) (each c r here).ran.may)
+        (rw (own_outcomes c r here) (each c r here).ran.may)
 
 -- The result of a run, from its reports, the callers and rows that these are divided into, and the
 -- history of the map.
@@ -97,11 +75,11 @@ pub run_true : {L W : Type 0} (items : W → List codes.Outcome) (limits sizes :
     → HasRunScripts limits workers tries scripts (map told_of outcomes) trace
 run_true items limits sizes workers tries scripts reports callers rows outcomes trace h some as_many each callers_are rows_are one_each order same is all_workers legal below own =
     let trues : AreAllTrue workers tries scripts (map told_of outcomes) trace =
-    subst (AreAllTrue workers tries scripts (map told_of outcomes)) (sym same)
-    (reports_true items limits.half workers tries scripts reports rows as_many each rows_are outcomes order h legal.shape legal.replies (λ c r at. all_at (λ k. IsOwn h k) (λ q. q.caller) reports callers callers_are own c r at)) in
+    rw same (reports_true items limits.half workers tries scripts reports rows as_many each rows_are outcomes order h legal.shape
+    legal.replies (λ c r at. all_at (λ k. IsOwn h k) (λ q. q.caller) reports callers callers_are own c r at)) in
     record {
-      legal = subst (IsLegal Begun limits.stripes) (sym same) (subst (λ (z : Sizes). IsLegal Begun z.stripes h) is legal);
-      callers = subst (All (λ e. caller_of e < workers)) (sym same) (subst (λ (n : ℕ). All (λ e. caller_of e < n) h) (ap (λ (z : Sizes). z.callers) is ∙ sym all_workers) below);
+      legal = rw (same, ← is) legal;
+      callers = rw (same, all_workers, ← is) below;
       one_each = length-map outcomes told_of ∙ one_each;
       true_of = trues;
       plays = λ c low. true_plays workers c low scripts trace tries (every workers c (map told_of outcomes)) (trues c low);

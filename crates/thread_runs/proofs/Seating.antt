@@ -1,21 +1,13 @@
 -- The phase of a caller's seat after each call of a script, and the refusals with which the call
 -- may end.
-use Rattle.std.proofs.Common.{◌≡◌, ℕ, ◌+◌, take, slice_index, ◌==◌, ◌&&◌, Bool, true, false, cond, List, [], ◌∷◌, ◌++◌, append_assoc, Option, Some, None, is_some, refl, sym, ap, subst, ◌∙◌}
-use Rattle.std.specs.Option.{option_and_then}
-use Rattle.std.proofs.lemmas.Bool.{false≢true}
-use Rattle.std.proofs.lemmas.List.{append-nil}
+use Rattle.std.proofs.Common.{◌≡◌, ℕ, ◌+◌, take, slice_index, ◌==◌, ◌&&◌, Bool, true, false, cond, List, [], ◌∷◌, ◌++◌, append_assoc, Option, Some, None, is_some, refl, sym, ap, ◌∙◌, option_and_then, append-nil}
+use Rattle.thread_runs.proofs.Vocabulary.{false≢true, Entry, Closed, Opened, Waiting, LeavingTo, LeavingToEnd, Seat, row, seat_after, closed_seat, Call, End, undone_by, IsUndone, IsMade}
 use Rattle.txn_words.specs.declared.answer.Answer.TheVariants as answers
-use Rattle.txn_words.specs.declared.entry.Entry.{Entry}
 use Rattle.txn_words.specs.declared.entry.Entry.TheVariants.{Began, Asked, Did, Saved, Leave, Returned, Committed, Busy, Aborted}
 use Rattle.txn_words.specs.declared.seat.Phase.{Phase}
-use Rattle.txn_words.specs.declared.seat.Phase.TheVariants.{Closed, Opened, Waiting, LeavingTo, LeavingToEnd}
-use Rattle.txn_words.specs.Shape.{Seat, row, seat_after, closed_seat}
 use Rattle.txn_trace.proofs.Pushes.{seat_after-push}
-use Rattle.txn_drive.specs.declared.call.Call.{Call}
 use Rattle.txn_drive.specs.declared.call.Call.TheVariants as calls
-use Rattle.txn_drive.specs.declared.«end».End.{End}
 use Rattle.txn_drive.specs.declared.«end».End.TheVariants as ends
-use Rattle.txn_drive.specs.Made.{undone_by, IsUndone, IsMade}
 use Rattle.thread_runs.specs.Runs.{HasPhase}
 
 -- The phase after an entry that ends a call's work.
@@ -43,29 +35,18 @@ landed e (Some s) w h = at e s.phase refl w h
   where
     at : (f : Entry) (q : Phase) → s.phase ≡ q → ends_work f ≡ true → is_some (row s q f) ≡ true → HasPhase (lands f) (row s q f)
     at (Began x t) Closed is w h = (record closed_seat { phase = Opened }, refl, refl)
-    at (Began x t) q is w h = absurd (false≢true h)
     at (Did x r) (Waiting op) is w h = (_, refl, refl)
-    at (Did x r) q is w h = absurd (false≢true h)
     at (Saved x) Opened is w h = (_, refl, is)
-    at (Saved x) q is w h = absurd (false≢true h)
     at (Returned x m) (LeavingTo n) is w h = if_some ((n == m) && (slice_index s.kept n == s.standing)) (record s { phase = Opened; kept = take (n + 1) s.kept }) Opened refl h
-    at (Returned x m) q is w h = absurd (false≢true h)
     at (Committed x p) Opened is w h = (closed_seat, refl, refl)
-    at (Committed x p) q is w h = absurd (false≢true h)
     at (Aborted x) LeavingToEnd is w h = if_some (s.standing == 0) closed_seat Closed refl h
-    at (Aborted x) q is w h = absurd (false≢true h)
-    at f q is w h = absurd (false≢true w)
-
-last_landed : (seen : List Entry) (e : Entry) → ends_work e ≡ true → is_some (seat_after (seen ++ e ∷ [])) ≡ true → HasPhase (lands e) (seat_after (seen ++ e ∷ []))
-last_landed seen e w some =
-    let pushed = seat_after-push seen e in
-    subst (HasPhase (lands e)) (sym pushed) (landed e (seat_after seen) w (sym (ap is_some pushed) ∙ some))
+    at f q is w h = absurd (cc)
 
 -- The last of the added entries is one that ends a call's work.
 added_landed : (seen seen' front : List Entry) (e : Entry) → ends_work e ≡ true → seen' ≡ seen ++ (front ++ e ∷ []) → is_some (seat_after seen') ≡ true → HasPhase (lands e) (seat_after seen')
 added_landed seen seen' front e w is some =
-    let at : seen' ≡ (seen ++ front) ++ e ∷ [] = is ∙ sym (append_assoc seen front (e ∷ [])) in
-    subst (λ es. HasPhase (lands e) (seat_after es)) (sym at) (last_landed (seen ++ front) e w (sym (ap (λ es. is_some (seat_after es)) at) ∙ some))
+    let pushed = ap seat_after (is ∙ sym (append_assoc seen front (e ∷ []))) ∙ seat_after-push (seen ++ front) e in
+    rw pushed (landed e (seat_after (seen ++ front)) w (sym (ap is_some pushed) ∙ some))
 
 undone_landed : (c : ℕ) (opening e : Entry) (seen seen' added : List Entry) → ends_work e ≡ true → seen' ≡ seen ++ added → IsUndone c opening added e → is_some (seat_after seen') ≡ true → HasPhase (lands e) (seat_after seen')
 undone_landed c opening e seen seen' added w is made some =
@@ -75,13 +56,17 @@ abbrev pub is_refusal : End → Bool
 is_refusal (ends.Refused refusal) = true
 is_refusal outcome = false
 
--- The phase after a call that was made, or that found a stripe held.
+-- The phase after a call that did what it was asked to do, and after one that may have found a
+-- stripe held.
+abbrev pub phase_after : Phase → Call → Phase
+phase_after phase calls.Commit = Closed
+phase_after phase calls.Abort = Closed
+phase_after phase (calls.Help key) = phase
+phase_after phase call = Opened
+
 abbrev pub phase_by : Phase → Call → End → Phase
-phase_by phase (calls.Op op) (ends.Busy x) = Closed
-phase_by phase calls.Commit outcome = Closed
-phase_by phase calls.Abort outcome = Closed
-phase_by phase (calls.Help key) outcome = phase
-phase_by phase call outcome = Opened
+phase_by phase call (ends.Busy x) = Closed
+phase_by phase call outcome = phase_after phase call
 
 pub made_landed : (c : ℕ) (phase : Phase) (call : Call) (outcome : End) (seen seen' added : List Entry) → is_refusal outcome ≡ false → HasPhase phase (seat_after seen) → seen' ≡ seen ++ added → IsMade c call outcome added → is_some (seat_after seen') ≡ true
     → HasPhase (phase_by phase call outcome) (seat_after seen')
@@ -93,7 +78,6 @@ made_landed c phase (calls.Back n) (ends.Answered (answers.Returned m)) seen see
 made_landed c phase calls.Commit (ends.Answered (answers.Committed p)) seen seen' added plain before is made some = added_landed seen seen' [] (Committed c p) refl (is ∙ ap (λ es. seen ++ es) made) some
 made_landed c phase calls.Abort (ends.Answered answers.Aborted) seen seen' added plain before is made some = undone_landed c (Leave c None) (Aborted c) seen seen' added refl is made some
 made_landed c phase (calls.Help key) ends.Helped seen seen' added plain before is made some =
-    let same : seen' ≡ seen = is ∙ ap (λ es. seen ++ es) made ∙ append-nil seen in
-    subst (λ es. HasPhase phase (seat_after es)) (sym same) before
+    rw (is, made, append-nil) before
 made_landed c phase call (ends.Refused refusal) seen seen' added plain before is made some = absurd (false≢true (sym plain))
 made_landed c phase call outcome seen seen' added plain before is made some = absurd made

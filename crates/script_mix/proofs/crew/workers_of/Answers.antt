@@ -1,7 +1,5 @@
-use Rattle.std.proofs.Common.{◌≡◌, ◌+◌, ◌<◌, List, [], ◌∷◌, ◌++◌, length, length-append, get_or, sym, ap, subst, ◌∙◌, arith}
-use Prim.Native.Nat.{suc}
+use Rattle.std.proofs.Common.{◌≡◌, ◌+◌, [], ◌∷◌, ◌++◌, length, length-append, sym, ap, ◌∙◌, arith, suc}
 use Rattle.script_worker.specs.declared.worker.Worker.{Worker}
-use Rattle.script_mix.specs.Crews.{IsMember}
 use Rattle.script_mix.specs.Turns.{first_crew}
 use Rattle.script_mix.proofs.Turns.{crew_more}
 use Rattle.script_mix.proofs.crew.workers_of.Goals as goal
@@ -14,12 +12,11 @@ loop-number-preserved c =
     record {
       size = ap length items ∙ length-append c.loop-number.workers.items (c.new.result ∷ []) ∙ ap (λ n. n + 1) before.size;
       first = items ∙ (λ i. before.first i ++ c.new.ensures.worker i ∷ []) ∙ ap (first_crew c.args.scripts.now c.args.limits) next;
-      each = λ tries w other less.
-          subst (λ (ws : List Worker). IsMember c.args.scripts.now tries c.args.limits.callers [] w (get_or ws w other)) (sym items)
+      each = λ tries w other less. rw items
           (crew_more c.args.scripts.now tries c.args.limits.callers c.loop-number.workers.items c.new.result (record {
             number = ap (λ (x : Worker). x.number) c.new.ensures.worker ∙ sym before.size;
             workers = ap (λ (x : Worker). x.limits.callers) c.new.ensures.worker;
             keeps = c.new.ensures.keeps tries;
             ready = c.new.ensures.ready;
-          }) (before.each tries) w other (subst (λ (ws : List Worker). w < length ws) items less));
+          }) (before.each tries) w other (rw items at less));
     }

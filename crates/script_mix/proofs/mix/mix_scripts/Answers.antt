@@ -1,55 +1,60 @@
-use Rattle.std.proofs.Common.{◌≡◌, ◌∙◌, ◌<◌, inl, inr, List, [], ◌∷◌, length, refl, sym, ap, subst, arith}
+use Rattle.std.proofs.Common.{◌≡◌, ◌∙◌, inl, inr, List, [], ◌∷◌, length, refl, sym, ap, subst, arith}
 use Rattle.rand_pcg.specs.Pcg.{pcg32}
-use Rattle.txn_trace.specs.Legal.{IsLegal}
-use Rattle.boost_core.specs.Machine.{State, holder_by, start}
+use Rattle.boost_core.specs.Machine.{State, start}
 use Rattle.script_worker.specs.declared.worker.Worker.{Worker}
-use Rattle.script_mix.specs.Crews.{IsMixed}
-use Rattle.script_mix.specs.Turns.{live, live_from}
+use Rattle.script_mix.specs.Crews.{IsCrew}
+use Rattle.script_mix.specs.Turns.{first_crew, live, live_from, IsAtPlace}
 use Rattle.script_mix.proofs.Turns.{crew_goes, crew_plays, crew_told, member_keeps}
 use Rattle.script_mix.proofs.Lives.{all_done, drawn, drawn_at, drawn_lives, kept, length-live, removed}
-use Rattle.script_mix.proofs.Mixings.{begins, crew_begins, crew_first, goes_of_work, turn_of_work}
 use Rattle.script_mix.proofs.mix.mix_scripts.Goals as goal
-use Rattle.script_mix.proofs.mix.mix_scripts.Goals.{then-not-lives, else-not-lives, else-loop-turn-test, then-loop-turn-test+in_default-draw_place}
+use Rattle.script_mix.proofs.mix.mix_scripts.Goals.{After-index_mut, then-not-lives, else-not-lives, else-loop-turn-test, then-loop-turn-test+in_default-draw_place}
 
 pub loop-turn-init : goal.loop-turn-init
 loop-turn-init c =
     let core_is : c.in-Ok.core ≡ start c.args.work.now.sizes = c.in-Ok.ensures ∙ ap start c.limits-limits.ensures in
+    let crew = rw (c.scripts.ensures, c.limits-limits.ensures) at (c.in_ok-workers.ensures.crew c.args.work.now.tries) in
+    let first = c.in_ok-workers.ensures.first
+    ∙ (λ i. first_crew (c.scripts.ensures i) (c.limits-limits.ensures i) (c.limits-limits.ensures i).callers) in
     record {
       limits = ap (λ (s : State). s.limits) core_is;
-      crew = crew_begins c.scripts.result.now c.args.work.now.scripts c.args.work.now.tries c.limits-limits.result c.args.work.now.sizes c.in-Ok.core.history c.in_ok-workers.workers.items c.scripts.ensures c.limits-limits.ensures (sym (ap (λ (s : State). s.history) core_is)) (c.in_ok-workers.ensures.crew c.args.work.now.tries);
+      crew = subst (λ (s : State). IsCrew c.args.work.now.scripts c.args.work.now.tries c.args.work.now.sizes.callers s.history
+          c.in_ok-workers.workers.items) (sym core_is) crew;
       live = c.in_ok-live.ensures ∙ ap (λ (ws : List Worker). live_from 0 ws) c.deref.ensures.value;
-      turns = (
-        [],
-        refl,
-        begins c.args.work.now c.args.seed c.in-Ok.core c.in_ok-workers.workers.items c.seed_from_u64-generator.result core_is
-            (crew_first c.scripts.result.now c.args.work.now.scripts c.limits-limits.result c.args.work.now.sizes c.in_ok-workers.workers.items c.scripts.ensures c.limits-limits.ensures c.in_ok-workers.ensures.first)
-            c.seed_from_u64-generator.ensures,
-      );
+      turns = ([], refl, λ i. record { core = core_is i; crew = first i; generator = c.seed_from_u64-generator.ensures i });
     }
 
 pub index_mut-requires : goal.index_mut-requires
 index_mut-requires c =
-    let found = drawn c.loop-turn.workers.items c.loop-turn.live.items c.in-Some.place c.index-number.result.now c.loop-turn.invariant.live (subst (λ ns. c.in-Some.place < length ns) c.deref-in-loop-turn.ensures.value c.in-Some.ensures.below) c.index-number.ensures in
+    let found = drawn c.loop-turn.workers.items c.loop-turn.live.items c.in-Some.place c.index-number.result.now c.loop-turn.invariant.live
+    (rw c.deref-in-loop-turn.ensures.value at c.in-Some.ensures.below) c.index-number.ensures in
     let within = found.within in
     let len = c.loop-turn.workers.ok.0 in
     omega (arith, within, len)
 
+-- The number that the list of live workers has at the place that was drawn.
+found_at : (c : After-index_mut) → IsAtPlace c.loop-turn.workers.items c.in-Some.place c.index-number.result.now
+found_at c =
+    drawn c.loop-turn.workers.items c.loop-turn.live.items c.in-Some.place c.index-number.result.now c.loop-turn.invariant.live
+    (rw c.deref-in-loop-turn.ensures.value at c.in-Some.ensures.below) c.index-number.ensures
+
 pub take_turn-lives-requires-clause-live : goal.take_turn-lives-requires-clause-live
 take_turn-lives-requires-clause-live c =
     drawn_lives c.loop-turn.workers.items c.in-Some.place c.index-number.result.now c.index_mut.result.now c.index_mut.ensures.value
-    (drawn c.loop-turn.workers.items c.loop-turn.live.items c.in-Some.place c.index-number.result.now c.loop-turn.invariant.live (subst (λ ns. c.in-Some.place < length ns) c.deref-in-loop-turn.ensures.value c.in-Some.ensures.below) c.index-number.ensures)
+    (found_at (goal.at.take_turn-lives-requires-clause-live c).After-index_mut)
 
 pub take_turn-lives-requires-clause-keeps : goal.take_turn-lives-requires-clause-keeps
 take_turn-lives-requires-clause-keeps c =
-    let found = drawn c.loop-turn.workers.items c.loop-turn.live.items c.in-Some.place c.index-number.result.now c.loop-turn.invariant.live (subst (λ ns. c.in-Some.place < length ns) c.deref-in-loop-turn.ensures.value c.in-Some.ensures.below) c.index-number.ensures in
-    member_keeps c.scripts-in-loop-turn.result.now c.args.work.now.scripts c.tries.result c.args.work.now.tries c.args.work.now.sizes.callers c.index-number.result.now c.loop-turn.core.history c.loop-turn.workers.items c.index_mut.result.now c.scripts-in-loop-turn.ensures c.tries.ensures found.within c.index_mut.ensures.value
-    c.loop-turn.invariant.crew
+    let found = found_at (goal.at.take_turn-lives-requires-clause-keeps c).After-index_mut in
+    rw (c.scripts-in-loop-turn.ensures, c.tries.ensures)
+    (member_keeps c.args.work.now.scripts c.args.work.now.tries c.args.work.now.sizes.callers c.index-number.result.now
+    c.loop-turn.core.history c.loop-turn.workers.items c.index_mut.result.now found.within c.index_mut.ensures.value
+    c.loop-turn.invariant.crew)
 
 pub loop-turn-preserved : goal.loop-turn-preserved
 loop-turn-preserved c =
-    let found = drawn c.loop-turn.workers.items c.loop-turn.live.items c.in-Some.place c.index-number.result.now c.loop-turn.invariant.live (subst (λ ns. c.in-Some.place < length ns) c.deref-in-loop-turn.ensures.value c.in-Some.ensures.below) c.index-number.ensures in
+    let found = found_at (goal.at.loop-turn-preserved c).After-index_mut in
     let turn = c.take_turn-lives.ensures in
-    let goes = goes_of_work c.scripts-in-loop-turn.result.now c.args.work.now.scripts c.tries.result c.args.work.now.tries c.loop-turn.core c.take_turn-lives.new.core c.index_mut.result.now c.take_turn-lives.new.worker c.scripts-in-loop-turn.ensures c.tries.ensures turn.goes in
+    let goes = rw (c.scripts-in-loop-turn.ensures, c.tries.ensures) at turn.goes in
     let (numbers, count, turns) = c.loop-turn.invariant.turns in
     record {
       limits = goes.limits ∙ c.loop-turn.invariant.limits;
@@ -74,8 +79,7 @@ loop-turn-preserved c =
             before = c.index_mut.result.now;
             after = c.take_turn-lives.new.worker;
             worker = c.index_mut.ensures.value;
-            turn = turn_of_work c.scripts-in-loop-turn.result.now c.args.work.now.scripts c.tries.result c.args.work.now.tries c.loop-turn.core c.take_turn-lives.new.core c.index_mut.result.now c.take_turn-lives.new.worker
-                c.scripts-in-loop-turn.ensures c.tries.ensures turn.takes;
+            turn = rw (c.scripts-in-loop-turn.ensures, c.tries.ensures) at turn.takes;
             crew = refl;
           },
         ),
@@ -86,8 +90,8 @@ pub returns : goal.returns
 returns c =
     let (numbers, count, turns) = c.loop-turn.invariant.turns in
     let is : c.into_core-core.result ≡ c.loop-turn.core = c.into_core-core.ensures.value in
-    let legal = subst (λ (s : State). IsLegal (holder_by s.words) s.limits.stripes s.history) is c.trace-history.ensures.legal in
-    subst (IsMixed c.args.work.now c.args.seed) (sym is) (record {
+    let legal = rw is at c.trace-history.ensures.legal in
+    rw is (record {
       limits = c.loop-turn.invariant.limits;
       words = ap (λ (s : State). s.words) (sym is) ∙ c.into_core-core.ensures.ordinary;
       plays = crew_plays c.args.work.now.sizes c.args.work.now.scripts c.args.work.now.tries c.args.work.now.sizes.callers c.loop-turn.core.limits.stripes c.loop-turn.core.history c.loop-turn.workers.items legal c.loop-turn.invariant.crew;

@@ -1,14 +1,13 @@
 use Rattle.std.proofs.Common.{◌≡◌, rules, of_calls, refl}
 use Rattle.boost_core.specs.Machine.{Move}
 use Rattle.script_worker.proofs.Taking.{next_maps, next_at}
-use Rattle.script_mix.proofs.Turns.{turn_goes, took}
+use Rattle.script_mix.proofs.Turns.{turn_goes}
 use Rattle.script_mix.proofs.turn.take_turn.Goals as goal
 
 pub returns-clause-takes : goal.returns-clause-takes
 returns-clause-takes c =
     let takes = next_maps Move _ (λ x f. f.0.ghost_name ≡ x.0.ghost_name) (λ f. f.0.now) c.args.scripts.now c.args.tries c.size-size.result _ c.args.worker.now _ _ _ refl c.take_turn-finish.ensures.takes (λ x s a y i taken. search (rules, of_calls)) in
-    let turn = took c.args.scripts.now c.args.tries c.size-size.result c.args.core.now _ c.args.worker.now _ _ c.size-size.ensures takes.0 in
-    (c.take_turn-finish.result, next_at _ _ _ _ _ _ _ _ _ _ _ _ turn refl (search (rules, takes)) refl)
+    (c.take_turn-finish.result, next_at _ _ _ _ _ _ _ _ _ _ _ _ (rw c.size-size.ensures at takes.0) refl (search (rules, takes)) refl)
 
 pub returns-clause-goes : goal.returns-clause-goes
 returns-clause-goes c =

@@ -1,6 +1,6 @@
 use Rattle.std.proofs.Common.{◌≡◌, Option, Some, sym, ap, ◌∙◌}
+use Rattle.script_worker.proofs.Vocabulary.{Drive}
 use Rattle.std.specs.Option.{option_or}
-use Rattle.txn_drive.specs.declared.drive.Drive.{Drive}
 use Rattle.script_worker.specs.declared.task.Task.{Task}
 use Rattle.script_worker.specs.Workers.{settled, finish_by, drive_told}
 use Rattle.script_worker.proofs.task.tell.Goals as goal

@@ -1,6 +1,6 @@
-use Rattle.std.proofs.Common.{◌≡◌, ℕ, ◌<◌, ◌+◌, length, refl, sym, ap, set, subst, ◌∙◌, arith}
-use Rattle.std.proofs.lemmas.List.{length_push}
-use Rattle.thread_runs.proofs.Ordering.{IsLeft, left_none, left_more, left_some, left_all, row_at}
+use Rattle.std.proofs.Common.{◌≡◌, ℕ, ◌+◌, length, refl, ap, ◌∙◌, arith}
+use Rattle.thread_runs.proofs.Vocabulary.{length_push}
+use Rattle.thread_runs.proofs.Ordering.{left_none, left_more, left_all, row_at}
 use Rattle.thread_runs.proofs.merging.in_order.Goals as goal
 
 pub loop-number-init : goal.loop-number-init
@@ -10,12 +10,10 @@ pub unreachable-requires : goal.unreachable-requires
 unreachable-requires c =
     let inv = c.loop-number.invariant in
     let row = c.index_mut.result.now in
-    let here = row_at (λ r. r.items) c.args.rows.items c.loop-number.left.items c.loop-number.outcomes.items c.loop-number.number c.len-workers.result _ row refl c.requires.some (c.len-workers.ensures ∙ c.args.rows.ok.0) inv.0 inv.1 c.index_mut.ensures.value in
-    let fewer = subst (λ (n : ℕ). n < length c.args.scripts.now) (sym inv.0) c.loop-number-test.true in
-    let some = left_some (λ r. r.items) (length c.args.rows.items) c.args.rows.items c.loop-number.left.items c.loop-number.outcomes.items c.args.scripts.now _ row c.requires.some refl here.0 fewer c.requires.rows here.1 inv.1 in
-    let none = c.in_default.ensures.cases.0 in
-    let whole = row.ok.0 in
-    omega (arith, some, none, whole)
+    let here = row_at (λ r. r.items) c.args.rows.items c.loop-number.left.items c.loop-number.outcomes.items c.args.scripts.now
+    c.loop-number.number c.len-workers.result _ row refl c.requires.some (c.len-workers.ensures ∙ c.args.rows.ok.0) inv.0
+    c.loop-number-test.true c.requires.rows inv.1 c.index_mut.ensures.value in
+    omega (arith, here.2, c.in_default.ensures.cases.0, row.ok.0)
 
 pub loop-number-preserved : goal.loop-number-preserved
 loop-number-preserved c =
@@ -24,10 +22,13 @@ loop-number-preserved c =
     let left = c.loop-number.left.items in
     let out = c.loop-number.outcomes.items in
     let items = c.in_ok-push.ensures.items in
-    let here = row_at (λ r. r.items) c.args.rows.items left out c.loop-number.number c.len-workers.result _ row refl c.requires.some (c.len-workers.ensures ∙ c.args.rows.ok.0) inv.0 inv.1 c.index_mut.ensures.value in (
+    let here = row_at (λ r. r.items) c.args.rows.items left out c.args.scripts.now c.loop-number.number c.len-workers.result _ row refl
+    c.requires.some (c.len-workers.ensures ∙ c.args.rows.ok.0) inv.0 c.loop-number-test.true c.requires.rows inv.1
+    c.index_mut.ensures.value in (
       ap length items ∙ length_push out c.in-Some.outcome ∙ ap (λ (n : ℕ). n + 1) inv.0,
-      subst (IsLeft (λ r. r.items) (length c.args.rows.items) c.args.rows.items (set left _ c.pop.new.self)) (sym items)
-          (left_more (λ r. r.items) (length c.args.rows.items) c.args.rows.items left out _ row c.pop.new.self c.in-Some.outcome c.requires.some refl here.0 here.1 c.in-Some.ensures.items inv.1),
+      rw items
+          (left_more (λ r. r.items) (length c.args.rows.items) c.args.rows.items left out _ row c.pop.new.self c.in-Some.outcome
+          c.requires.some refl here.0 here.1 c.in-Some.ensures.items inv.1),
     )
 
 pub returns-clause-order : goal.returns-clause-order

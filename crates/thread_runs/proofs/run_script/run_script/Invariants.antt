@@ -1,4 +1,4 @@
-use Rattle.core_tokens.specs.Tokens.{IsSameCaller}
+use Rattle.thread_runs.proofs.Vocabulary.{IsSameCaller}
 use Rattle.thread_runs.specs.Runs.{heard_of}
 use Rattle.thread_runs.proofs.Growing.{IsBefore}
 use Rattle.thread_runs.proofs.run_script.run_script.Given as goal

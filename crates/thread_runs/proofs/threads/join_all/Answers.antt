@@ -1,13 +1,11 @@
-use Rattle.std.proofs.Common.{ℕ, ◌∙◌, ◌+◌, length, sym, ap, subst}
+use Rattle.std.proofs.Common.{ℕ, ◌∙◌, ◌+◌, length, sym, ap}
+use Rattle.thread_runs.proofs.Vocabulary.{length-map, length_push, new_ticket}
 use Rattle.std.proofs.lemmas.Iterator.Adapters.{YieldsList-from_vec}
 use Rattle.std.proofs.lemmas.Iterator.Consumers.{YieldsList-end, YieldsList-turn}
-use Rattle.std.proofs.lemmas.List.{length-map, length_push}
 use Rattle.std.proofs.lemmas.List.FromFn.{length-map-range_with_len}
-use Rattle.core_tokens.specs.Tokens.{new_ticket}
-use Rattle.thread_runs.specs.Each.{Each}
 use Rattle.thread_runs.specs.Runs.{HasReported}
 use Rattle.thread_runs.proofs.Lists.{each_push}
-use Rattle.thread_runs.proofs.Reports.{reported_at, shown_at}
+use Rattle.thread_runs.proofs.Reports.{shown_at}
 use Rattle.thread_runs.proofs.threads.join_all.Goals as goal
 
 pub loop-thread-preserved : goal.loop-thread-preserved
@@ -20,10 +18,10 @@ loop-thread-preserved g c =
     let items = c.in_ok-push.ensures.items in
     let turn = YieldsList-turn (YieldsList-from_vec {s = c.into_iter-thread-iterator.result} c.args.threads.items began.0 (began.1 ∙ c.args.threads.ok.0)) c.loop-thread.yielded c.loop-thread.thread-iterator c.loop-thread.yielded_by c.next.result c.next.new.self thread c.in-Some.is c.next.ensures.steps in
     let pass = shown_at (λ t. t.promise.pass.value) (new_ticket c.args.limits c.requires.words) c.args.limits.callers c.args.threads.items _ thread c.requires.are turn in
-    let here = reported_at c.args.limits c.requires.words g.T.Terms.workers g.T.Terms.tries g.T.Terms.scripts _ _ report pass c.in_ok-report.ensures in
+    let here = rw pass at c.in_ok-report.ensures in
     let P = HasReported c.args.limits.half g.T.Terms.workers g.T.Terms.tries g.T.Terms.scripts in (
       ap length items ∙ length_push reports report ∙ ap (λ (n : ℕ). n + 1) inv.0 ∙ sym (length_push c.loop-thread.yielded thread),
-      subst (λ rs. Each P rs) (sym items) (each_push P reports report inv.1 (subst (λ (n : ℕ). P n report) (sym inv.0) here)),
+      rw items (each_push P reports report inv.1 (rw inv.0 here)),
     )
 
 pub returns-clause-len : goal.returns-clause-len

@@ -1,9 +1,7 @@
-use Rattle.std.proofs.Common.{not, sym, subst}
-use Rattle.thread_runs.specs.Runs.{Grows}
 use Rattle.thread_runs.proofs.Growing.{grown_by}
 use Rattle.thread_runs.proofs.growth.Growth.grow.Goals as goal
 
 pub returns-clause-grown : goal.returns-clause-grown
 returns-clause-grown g c =
-    subst (λ b. Grows c.args.me.now c.args.end (not b) c.run-helped.new.me) (sym c.is_out.ensures)
+    rw c.is_out.ensures
     (grown_by _ c.args.me.now c.args.end c.in-Some.key c.run-helped.result c.run-helped.new.me c.in-Some.ensures c.run-helped.ensures)
