@@ -15,7 +15,7 @@ use Rattle.bank.specs.Transfers.{balance}
 use Rattle.bank.proofs.Sums.{transferred}
 use Rattle.accounts.specs.Transfers.{Makes, CannotMove, HasWritten, reading, writing}
 
--- A run goes on by entries.
+-- The run after these entries; None if it is not defined.
 abbrev going : Option Run → List Entry → Option Run
 going run es = fold (λ o e. option_and_then (λ r. act r e) o) run es
 
@@ -31,14 +31,14 @@ tested : (b : Bool) (run : Run) (es : List Entry) → IsSome (going (cond b (Som
 tested true run es some = (refl, refl)
 tested false run es some = absurd (nothing_goes es some)
 
--- An operation in a run that is defined had the reply of the last map.
+-- If the run after an operation is defined, the operation had the reply of the run's map before it.
 replied : (run : Run) (c : ℕ) (op : Op) (reply : Option ℕ) (es : List Entry) → IsSome (going (Some run) (Asked c op ∷ Did c reply ∷ es))
     → (reply ≡ reply_of run.last op) × (going (Some run) (Asked c op ∷ Did c reply ∷ es) ≡ going (Some (did run op)) es)
 replied run c op reply es some =
     let (is, goes) = tested (option_eq nat_eq reply (reply_of run.last op)) (did run op) es some in
     (same_option reply (reply_of run.last op) is, goes)
 
--- Both reads were of the map, and leave it unchanged.
+-- Both reads had the replies of the map, and leave the map unchanged.
 read : (m : Map) (c txn from to : ℕ) (had has : Option ℕ) (es : List Entry) → IsSome (alone m (Began c txn ∷ reading c from to had has ++ es))
     → (had ≡ get m from) × (has ≡ get m to) × (alone m (Began c txn ∷ reading c from to had has ++ es) ≡ going (Some (start m)) es)
 read m c txn from to had has es some =

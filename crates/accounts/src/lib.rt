@@ -12,9 +12,9 @@ ghost use Rattle.accounts.specs.Transfers.{GivesUp, HasTransferred, HasWorked};
 
 use striped_map::{Caller, Stop, Transaction};
 
-/// Moves a sum from one account to another, in a separate transaction, and answers whether it did:
-/// not if the first has too little, or the second would have 2^64 or more. An account without a key
-/// has 0.
+/// Moves a sum from one account to another, in a separate transaction, and answers whether it did.
+/// It does not if the first account has too little, or if the second would have 2^64 or more. An
+/// account without a key has 0.
 ///
 /// If a stripe is busy it gives way and begins again, at most `tries` times more.
 ///

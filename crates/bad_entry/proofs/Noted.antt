@@ -44,7 +44,7 @@ txn-other : (before : ℕ → Option ℕ) (e : Entry) (c : ℕ) → c ≢ caller
 txn-other before (Began d t) c other = rw (ne_eqb d c (λ is. other (sym is))) refl
 txn-other before _ c other = refl
 
--- One more entry, which updates its caller's desk.
+-- The desks after one more entry, which updates its caller's desk.
 pub noted-push : (h : List Entry) (e : Entry) (old new : Desks) (before after : Desk) → HaveNoted h old → IsAt h (caller_of e) before
     → ((log : Log) → log.pending ≡ before.waiting → (log_step log e).pending ≡ after.waiting)
     → ((txns : ℕ → Option ℕ) → txns (caller_of e) ≡ before.txn → txn_after txns e (caller_of e) ≡ after.txn)

@@ -10,8 +10,8 @@ use Rattle.serial_check.specs.Commits.{IsTorn, RunsSomewhere}
 use Rattle.serial_check.specs.Serializable.{txn_in}
 use Rattle.bad_entry.specs.Places.{last_of}
 
--- The index and the caller of a commit that changes a key: the key has `before` before it and
--- `after` after it, and they differ.
+-- The index and the caller of an entry, if it is a commit that changes the value of a key from
+-- `before` to `after`.
 abbrev pub settled : ℕ → Entry → Option ℕ → Option ℕ → Option (ℕ × ℕ)
 settled i (Committed c p) before after =
     if option_eq nat_eq before after then None else Some (i, c)
@@ -30,8 +30,8 @@ IsTornIn h c = (t : ℕ) → txn_in h c ≡ Some t → is_open t h ≡ true → 
 abbrev pub IsWholeIn : List Entry → ℕ → Type 0
 IsWholeIn h c = (t : ℕ) → txn_in h c ≡ Some t → is_open t h ≡ true → RunsSomewhere h t
 
--- The replies of the caller's transaction contradict one another from this entry on to the end, and
--- did not before it; or they do not at the end.
+-- Some i: the replies of the caller's transaction contradict one another from entry i on to the
+-- end, and did not before entry i. None: they do not contradict one another at the end.
 abbrev pub IsTornSince : List Entry → ℕ → Option ℕ → Type 0
 IsTornSince h c None = IsWholeIn h c
 IsTornSince h c (Some i) =

@@ -25,7 +25,8 @@ abbrev pub asked_in : Option ℕ → Option ℕ → ℕ → ℕ → ℕ → Entr
 asked_in txn wanted stripes s i e =
     if asks_in stripes s e && option_eq nat_eq txn wanted then Some i else None
 
--- The first entry by which a transaction asked for a key of the stripe: since then it holds it.
+-- The first entry by which a transaction asked for a key of the stripe: the transaction holds the
+-- stripe since then.
 abbrev pub held_since : Option ℕ → ℕ → ℕ → List Entry → Option ℕ
 held_since txn stripes s h =
     first_of (λ g e. asked_in (txn_in g (caller_of e)) txn stripes s (length g) e) h

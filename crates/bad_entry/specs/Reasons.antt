@@ -21,8 +21,8 @@ use Rattle.bad_entry.specs.Commits.{IsTornSince, last_commit}
 use Rattle.bad_entry.specs.Desks.{txn_in, waiting_in}
 use Rattle.bad_entry.specs.Holding.{IsHeld}
 
--- The caller waits for this operation, this reply is due to it by the map now, and this is the last
--- change of its key; or it waits for none.
+-- The caller waits for `op`, `due` is the reply to `op` by the map now, and `last` is the last
+-- change of its key. Or the caller waits for no operation, and the reason is `Nothing`.
 abbrev pub IsReplyReason : List Entry → ℕ → Reason → Type 0
 IsReplyReason h c (reasons.Reply op due last) =
     (waiting_in h c ≡ Some op) × (due ≡ reply_of (now h) op) × IsLast (key_of op) h last
@@ -52,9 +52,9 @@ IsReasonByLocks rules.Locks stripes h (entries.Busy c op x) reason =
 IsReasonByLocks rules.Locks stripes h e reason = Unit {0}
 IsReasonByLocks rules.Shape stripes h e reason = IsShapeReason h (caller_of e) reason
 
--- The open transaction of the caller read a value that is not committed, and `commit` is the last
--- commit that changed the key. Or the transaction's replies fit the committed map, or no map at
--- all, and `since` is as `IsTornSince` says.
+-- Misread: the caller's open transaction read a value that the committed map does not have, and
+-- `commit` is the last commit that changed the key. Torn: the transaction has the replies of
+-- running alone on the committed map, or on no map at all, and `since` is as `IsTornSince` says.
 abbrev pub IsCommitReason : List Entry → ℕ → Reason → Type 0
 IsCommitReason h c (reasons.Misread key read due commit) =
     ((t : ℕ) → txn_in h c ≡ Some t → is_open t h ≡ true

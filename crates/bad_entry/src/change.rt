@@ -91,7 +91,8 @@ fn is_change(waiting: Option<Op>, reply: Reply) -> bool
     }
 }
 
-/// The fate that an entry gives a change of this caller, above which `above` newer ones stand.
+/// The fate that an entry gives a change of this caller, if it gives one. `above` is the number of
+/// the caller's newer changes that stand.
 fn decided(caller: u64, above: u64, entry: Entry) -> Option<Fate>
     ensures { result ≡ decided caller above entry }
 {

@@ -108,7 +108,8 @@ pub fn last_commit(
 }
 
 /// The index of the first reply of a caller's open transaction that contradicts those before it:
-/// since that entry no map gives the transaction all of its replies. None if some map does.
+/// since that entry no map gives the transaction all of its replies. Answers `None` if some map
+/// gives it all of them.
 ///
 /// # Errors
 ///
@@ -137,16 +138,16 @@ pub fn torn_since(
     Ok(since)
 }
 
-/// The index of the entry since which replies contradict one another, after the entry at `index`;
-/// None if they do not then. `is_torn` says whether they do.
+/// Updates `since`, the index of the entry since which replies contradict one another, by the entry
+/// at `index`. After this entry they contradict one another if `is_torn`; if not, answers `None`.
 fn since_after(is_torn: bool, index: u64, since: Option<u64>) -> Option<u64>
     ensures { result ≡ (if is_torn then option_or since (Some index) else None) }
 {
     if is_torn { since.or(Some(index)) } else { None }
 }
 
-/// The index and the caller of an entry, if it is a commit that changes the value of a key. The
-/// value is `before` before it and `after` after it.
+/// The index and the caller of an entry, if it is a commit that changes the value of a key from
+/// `before` to `after`.
 fn settled(index: u64, entry: Entry, before: Reply, after: Reply) -> Option<(u64, u64)>
     ensures { result ≡ settled index entry before after }
 {

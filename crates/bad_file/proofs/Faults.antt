@@ -1,4 +1,4 @@
--- The first element at fault: what is still expected says which elements some entry begins with.
+-- The first element at fault: the elements that are still expected decide which element may follow.
 use Rattle.std.proofs.Common.{◌≡◌, ℕ, ◌+◌, ◌<◌, ◌≤◌, List, [], ◌∷◌, ◌++◌, length, take, drop, get_or, Bool, true, false, ◌&&◌, Option, Some, None, if◌then◌else◌, refl, ap, sym, subst, ◌∙◌, arith, append_assoc}
 use Rattle.std.specs.Prelude.{IsSome, codes, is_some, option_and_then, reverse, slice_get}
 use Rattle.std.proofs.lemmas.List.{drop_all, drop_more, reverse-append, take-append-drop, take_all, take_more}
@@ -13,14 +13,15 @@ use Rattle.bad_file.proofs.Reading.{accepts, is_entry}
 
 -- ---- what is still expected
 
--- The elements still expected after elements that are each as expected.
+-- The elements that are still expected after these; None if one of these is not as expected.
 unfoldable pub rest_of : Bool → Bool → List Data → List Expected → Option (List Expected)
 rest_of is_old ranged [] es = Some es
 rest_of is_old ranged (d ∷ ds) [] = None
 rest_of is_old ranged (d ∷ ds) (e ∷ es) =
     if is_of ranged e d then rest_of is_old ranged ds (after is_old e d ++ es) else None
 
--- Elements that follow others are tested against what is still expected.
+-- Whether elements are exactly what is still expected after earlier ones; false if one of the
+-- earlier elements is not as expected.
 abbrev left_accepts : Bool → Bool → List Data → Option (List Expected) → Bool
 left_accepts o r q None = false
 left_accepts o r q (Some left) = accepts o r q left
@@ -46,7 +47,7 @@ rest-append o r [] q es = refl
 rest-append o r (d ∷ p) q [] = refl
 rest-append o r (d ∷ p) q (e ∷ es) = stopped (is_of r e d) _ (rest_of o r q) _ (rest-append o r p q (after o e d ++ es))
 
--- ---- elements that are what is expected
+-- ---- for each expectation, elements that meet it
 
 abbrev witness : Expected → List Data
 witness expected.Object = object no_members ∷ []
@@ -113,7 +114,7 @@ may_go_on : (o r : Bool) (left : List Expected) (d : Data) → is_met r (next_of
 may_go_on o r [] d is = ([], is)
 may_go_on o r (e ∷ es) d is = (completion (after o e d ++ es), both (is_of r e d) _ is (completed o r (after o e d ++ es)))
 
--- The elements still expected after the elements before an index.
+-- `left` are the elements that are still expected after the first i elements.
 module _ (o r : Bool) (ds : List Data) (i : ℕ) (left : List Expected) (rest : rest_of o r (take i ds) (expected.EntryName ∷ []) ≡ Some left) where
   goes_on : (q : List Data) → is_some (entry_in o r (take i ds ++ q)) ≡ accepts o r q left
   goes_on q = is_entry o r (take i ds ++ q) ∙ accepts-append o r (take i ds) q (expected.EntryName ∷ []) ∙ ap (left_accepts o r q) rest

@@ -1,4 +1,4 @@
--- The entries of a file, all of them or up to the first that is none.
+-- The entries of a file: all of its elements, or those before the first element that is no entry.
 use Rattle.std.proofs.Common.{◌≡◌, ℕ, zero, suc, ◌+◌, ◌<◌, List, [], ◌∷◌, length, Bool, true, false, not, ◌&&◌, ◌||◌, Option, Some, None, if◌then◌else◌, refl, ap, sym, ◌∙◌, arith}
 use Rattle.std.specs.Prelude.{IsSome, Result, Ok, Err, is_some, option_and_then, slice_get}
 use Rattle.std.specs.List.{list_all}
@@ -15,7 +15,7 @@ use Rattle.txn_files.specs.Entries.{entry_of, is_old_entry}
 use Rattle.txn_files.specs.HistoryFile.{is_in_range}
 use Rattle.bad_file.specs.Flaws.{AreEntries, IsEntry, entry_in}
 
--- The entry that a value is.
+-- The entry that a value is, if it is one.
 abbrev pub piece_in : Bool → Bool → Data → Option Entry
 piece_in o r d = option_and_then (entry_in o r) (elements_of d)
 
@@ -23,7 +23,7 @@ there : {A : Type 0} (x : Option A) → IsSome x → (a : A) × (x ≡ Some a)
 there None is = absurd (cc is)
 there (Some a) is = (a, refl)
 
--- ---- what version 1 reads
+-- ---- the entries that version 1 reads, and those that later versions read
 
 old_read : (b : Bool) (e : Entry) → (if b then Some e else None) ≡ (if b && true then Some e else None)
 old_read true e = refl
@@ -43,7 +43,7 @@ old_pieces part k ds = (λ i. pieces_from (λ xs. old_reads (entry_of xs) i) par
 pub new_pieces : (part : Part) (k : ℕ) (ds : List Data) → pieces_from entry_of part k ds ≡ pieces_from (entry_in false false) part k ds
 new_pieces part k ds = (λ i. pieces_from (λ xs. new_reads (entry_of xs) i) part k ds)
 
--- ---- up to the first that is none
+-- ---- the first element that is no entry
 
 abbrev fault_at : Part → ℕ → Result (List Entry) FileFault
 fault_at part n = Err (Piece part n)
@@ -66,7 +66,7 @@ first_bad o part k (suc i) (d ∷ ds) e at bad before =
     ∙ ap (λ r. r >>= λ others. Ok (first.0 ∷ others)) later
     ∙ ap (fault_at part) index
 
--- All are entries.
+-- All elements are entries, and are read as `pieces`.
 pub record Pieced (o : Bool) (part : Part) (k : ℕ) (ds : List Data) : Type 0 where
   pub pieces : List Entry
   pub read : pieces_from (entry_in o false) part k ds ≡ Ok pieces

@@ -26,7 +26,7 @@ accepts o r [] (e ∷ es) = false
 accepts o r (d ∷ ds) [] = false
 accepts o r (d ∷ ds) (e ∷ es) = is_of r e d && accepts o r ds (after o e d ++ es)
 
--- A test of what was read and of the elements after it.
+-- A test of the value that was read and of the elements after it; false if no value was read.
 abbrev then_test : {A : Type 0} → Option (A × List Data) → (A → List Data → Bool) → Bool
 then_test None f = false
 then_test (Some p) f = f p.0 p.1
@@ -45,7 +45,7 @@ over : {A : Type 0} (x : Option A) (ds : List Data) (f : List Data → Bool) →
 over None ds f = refl
 over (Some a) ds f = refl
 
--- Whether a caller is in range, if ranges count.
+-- Whether a caller is in range; true if ranges do not count.
 abbrev ok : Bool → ℕ → Bool
 ok r c = not r || nat_le c max_caller
 
@@ -90,11 +90,12 @@ never : {A : Type 0} (x : Option (A × List Data)) → then_test x (λ a rest. f
 never None = refl
 never (Some p) = refl
 
--- Whether an operation is kept, by the version.
+-- Whether the version has the operation, and the elements after it are what is expected.
 abbrev kept_op : Bool → Bool → List Expected → Op → List Data → Bool
 kept_op o r es op rest = (not o || is_old_op op) && accepts o r rest es
 
--- The elements after a "put_if" of a key.
+-- `put_if_at` reads exactly the elements that are expected after the key of a "put_if"; version 1
+-- has no "put_if".
 put_if_next : (o r : Bool) (es : List Expected) (k : ℕ) (ds : List Data) → (not o && accepts o r ds (NumberOrNull ∷ Number ∷ es)) ≡ then_test (put_if_at k ds) (kept_op o r es)
 unfolding put_if_at
 put_if_next true r es k ds =
@@ -107,7 +108,8 @@ put_if_next false r es k ds =
     ∙ sym (bind (optional_at ds) (λ e. number_at e.1 >>= λ v. Some (PutIf k e.0 v.0, v.1)) (kept_op false r es)
     ∙ (λ i. then_test (optional_at ds) (λ e rest. bind (number_at rest) (λ v. Some (PutIf k e v.0, v.1)) (kept_op false r es) i)))
 
--- The operation by which word it is, and what is expected after that word.
+-- The operation on the key k, with the elements after it; and the elements that are expected after
+-- the operation's word. The first true flag tells the word: "put", "take", "get" or "put_if".
 abbrev op_by : Bool → Bool → Bool → Bool → ℕ → List Data → Option (Op × List Data)
 op_by b1 b2 b3 b4 k ds =
     if b1 then (number_at ds >>= λ v. Some (Put k v.0, v.1))
@@ -124,7 +126,7 @@ after_op_by b1 b2 b3 b4 =
     else if b4 then Number ∷ NumberOrNull ∷ Number ∷ []
     else []
 
--- A "put", a "take" or a "get", whichever version it is.
+-- The words "put", "take" and "get", which every version has.
 module _ (o r : Bool) (es : List Expected) (ds : List Data) (same : (op : Op) → is_old_op op ≡ true → (not o || is_old_op op) ≡ true) where
   put_words : (b2 b3 b4 : Bool) → accepts o r ds (Number ∷ Number ∷ es) ≡ then_test (number_at ds >>= λ k. op_by true b2 b3 b4 k.0 k.1) (kept_op o r es)
   put_words b2 b3 b4 =
@@ -171,7 +173,7 @@ old_words r es ds false false false true =
     ∙ never (number_at ds))
 old_words r es ds false false false false = no_word true r es ds
 
--- The word and what follows.
+-- The operation that is read from a word and the elements after it.
 abbrev read_op : Option (List ℕ × List Data) → Option (Op × List Data)
 read_op x = x >>= λ name. (number_at name.1 >>= λ k. op_by (bytes_eq name.0 (codes "put")) (bytes_eq name.0 (codes "take")) (bytes_eq name.0 (codes "get")) (bytes_eq name.0 (codes "put_if")) k.0 k.1)
 
@@ -196,7 +198,7 @@ op_first false r es (d ∷ ds) = new_op r es ds (as_str d)
 
 -- ---- an entry
 
--- Whether an entry is one, by the version and the ranges.
+-- Whether there is an entry, the version has it and, if ranges count, its callers are in range.
 abbrev pub kept : Bool → Bool → Option Entry → Bool
 kept o r None = false
 kept o r (Some e) = (not o || is_old_entry e) && (not r || is_in_range e)
@@ -205,7 +207,7 @@ keeps : (o b : Bool) → ((not o || true) && b) ≡ b
 keeps true b = refl
 keeps false b = refl
 
--- The last element, and nothing after it.
+-- The last element of an entry: the entry counts only if no element follows, as b says.
 last : {A : Type 0} (o r : Bool) (c : ℕ) (a : A) (f : A → Entry) → kept o r (Some (f a)) ≡ ok r c → (b : Bool)
     → (ok r c && b) ≡ kept o r ((if b then Some a else None) >>= λ x. Some (f x))
 last o r c a f is true = both_true (ok r c) ∙ sym is
@@ -286,7 +288,7 @@ busy_last : (o r : Bool) (c : ℕ) (ds : List Data) → (ok r c && accepts o r d
 unfolding busy_of
 busy_last o r c ds = ap (λ b. ok r c && b) (op_first o r (Caller ∷ []) ds) ∙ busy_with o r c (op_at ds)
 
--- A caller, and what follows.
+-- The elements of an entry after its word: a caller, and the others.
 through : (o r : Bool) (f : ℕ → List Data → Option Entry) (x : Option (ℕ × List Data)) → then_test x (λ c rest. kept o r (f c rest)) ≡ kept o r (x >>= λ c. f c.0 c.1)
 through o r f None = refl
 through o r f (Some p) = refl
@@ -296,7 +298,8 @@ caller_case : (o r : Bool) (es : List Expected) (f : ℕ → List Data → Optio
     → accepts o r ds (Caller ∷ es) ≡ kept o r (number_at ds >>= λ c. f c.0 c.1)
 caller_case o r es f each ds = caller_first o r es ds ∙ (λ i. then_test (number_at ds) (λ c rest. each c rest i)) ∙ through o r f (number_at ds)
 
--- The entry by which word it is, and what is expected after that word.
+-- The entry of the caller c; and the elements that are expected after the entry's word. The first
+-- true flag tells the word, in the order of `entry_word`.
 abbrev entry_by : (b1 b2 b3 b4 b5 b6 b7 b8 b9 b10 : Bool) → ℕ → List Data → Option Entry
 entry_by b1 b2 b3 b4 b5 b6 b7 b8 b9 b10 c ds =
     if b1 then (op_of ds >>= λ op. Some (Asked c op))

@@ -1,4 +1,4 @@
--- A file as a whole: its members, its entries, and what they are refused for.
+-- A file as a whole: its members, its entries, and the faults for which it is refused.
 use Rattle.std.proofs.Common.{◌≡◌, ℕ, ◌+◌, List, [], ◌∷◌, length, Bool, true, false, ◌==◌, ◌&&◌, Option, Some, None, if◌then◌else◌, refl, ap, sym, subst, ◌∙◌, arith}
 use Rattle.std.specs.Prelude.{MatchOption, Result, Ok, Err, codes, is_ok, is_some, nat_le, option_and_then, slice_get}
 use Rattle.std.specs.List.{list_all}
@@ -159,7 +159,8 @@ array_is x ds is = ap (or_fault faults.Member) is
 abbrev read_of : Bool → List Data → Result (List TheEntry) FileFault
 read_of o ds = pieces_from (entry_in o false) parts.Entry 0 ds
 
--- The version, the numbers and the entries, if the version is read and there are not too many.
+-- The version, the numbers and the entries, if the version and the number of entries are in range,
+-- as `taken` says.
 abbrev numbered : ℕ → ℕ → List TheEntry → Bool → Result (ℕ × List ℕ × List TheEntry) FileFault
 numbered v s ps taken = if taken then Ok (v, s ∷ [], ps) else Err faults.Limit
 
@@ -248,8 +249,8 @@ entry_wrong d shape i flaw is =
 
 -- ---- ranges
 
--- A file whose entries are all there, by three tests: of the version and how many there are, of the
--- stripes, and of the callers.
+-- A file all of whose entries were read, by the results of three tests: b for the version and the
+-- number of entries, c for the number of stripes, e for the callers.
 abbrev by_tests : ℕ → ℕ → List TheEntry → (b c e : Bool) → Result (ℕ × List TheEntry × ℕ) FileFault
 by_tests v s ps b c e = if b then (if c && e then Ok (s, ps, v) else Err faults.Limit) else Err faults.Limit
 
@@ -353,7 +354,7 @@ shaped d ds none are =
     let s = shape_of d none in
     record { version_no = s.version_no; stripes_no = s.stripes_no; entries = ds; version_is = s.version_is; stripes_is = s.stripes_is; entries_are = are }
 
--- The finding in the entries.
+-- The search through the entries has found this flaw, or none if all are entries.
 abbrev pub IsFound : Bool → Bool → Data → List Data → Option Flaw → Type 0
 IsFound o r d ds found = MatchOption found (AreEntries o r ds) (λ flaw. (i : ℕ) × IsFlawAt o r d i flaw)
 

@@ -34,11 +34,11 @@ entry_in is_old ranged ds =
 abbrev pub Begins : Bool → Bool → List Data → Type 0
 Begins is_old ranged ds = (more : List Data) × IsSome (entry_in is_old ranged (ds ++ more))
 
--- The element of this index is the first at fault in elements that are no entry, and `wanted` is
--- what is allowed there. Some entry begins with the elements before it. Some entry begins with
--- these and a further element exactly if the further element is as wanted. The element of this
--- index is not as wanted. If None is wanted, no element is allowed there. If an element is missing,
--- the index is the number of elements.
+-- The elements are no entry, the element at index i is the first at fault, and `wanted` is what is
+-- allowed there. The elements before index i begin some entry. Followed by one more element, they
+-- begin some entry exactly if that element is as wanted. The element at index i is not as wanted.
+-- If None is wanted, no element is allowed there. If an element is missing, i is the number of
+-- elements.
 pub record IsFault (is_old ranged : Bool) (ds : List Data) (i : ℕ) (wanted : Option Expected)
     : Type 0 where
   pub refused : entry_in is_old ranged ds ≡ None
@@ -81,7 +81,8 @@ IsEntry is_old ranged d = IsSome (option_and_then (entry_in is_old ranged) (elem
 abbrev pub AreEntries : Bool → Bool → List Data → Type 0
 AreEntries is_old ranged ds = All (IsEntry is_old ranged) ds
 
--- The flaw of an entry of a file: it is no array, or this is its first element at fault.
+-- The flaw of the entry at index i of a file: the entry is no array, or the flaw is at its first
+-- element at fault.
 abbrev pub IsFlawOfEntry : Bool → Bool → Data → ℕ → Option (List Data) → Flaw → Type 0
 IsFlawOfEntry is_old ranged d i None flaw = flaw ≡ wrong d (Entry i) (Some expected.Entry)
 IsFlawOfEntry is_old ranged d i (Some ds) flaw =
@@ -109,7 +110,7 @@ IsFlawOf d faults.Limit flaw = IsOutOfRange d flaw
 IsFlawOf d faults.NotJson flaw = ⊥
 IsFlawOf d faults.NoMemory flaw = ⊥
 
--- The history file that a value is, or its first fault.
+-- The contents of the history file that has this JSON value, or the file's first fault.
 abbrev pub history_in : Data → Result (ℕ × List TheEntry × ℕ) FileFault
 history_in d = contents_of history_file d >>= λ file. entries_from file.0 file.1 file.2
 
@@ -118,8 +119,8 @@ abbrev pub TellsOf : Data → Option Flaw → Type 0
 TellsOf d None = IsOk (history_in d)
 TellsOf d (Some flaw) = (fault : FileFault) × (history_in d ≡ Err fault) × IsFlawOf d fault flaw
 
--- The flaw of bytes that are refused with this fault: they are no JSON, they are too many, or the
--- value that they are has this flaw.
+-- The flaw of bytes that are refused with this fault: the bytes are no JSON, they are too many, or
+-- their JSON value has this flaw.
 abbrev pub IsFlaw : FileFault → Result Data FileFault → Flaw → Type 0
 IsFlaw fault (Ok d) flaw = IsFlawOf d fault flaw
 IsFlaw fault (Err faults.NotJson) flaw =

@@ -40,8 +40,8 @@ abbrev pub after_word : (List ℕ → List Expected) → Option (List ℕ) → L
 after_word follows None = []
 after_word follows (Some word) = follows word
 
--- The elements that are expected after this element, by its word; none if it is no word of an entry
--- or an operation.
+-- The elements that are expected after this element, as its word says. There are none if this
+-- element is no word of an entry or an operation.
 abbrev pub after : Bool → Expected → Data → List Expected
 after is_old EntryName d = after_word (after_entry_name is_old) (as_str d)
 after is_old OpName d = after_word after_op_name (as_str d)

@@ -13,13 +13,13 @@ use Rattle.bad_file.specs.declared.expected.Expected.TheVariants as expected
 use Rattle.bad_file.specs.declared.found.Found.{Found}
 use Rattle.bad_file.specs.declared.found.Found.TheVariants as found
 
--- A number as it is found.
+-- The finding for a number.
 abbrev pub number_found : Num → Found
 number_found (unsigned n) = found.Number n
 number_found (negative z) = found.OtherNumber
 number_found (float x) = found.OtherNumber
 
--- A value as it is found.
+-- The finding for a value.
 abbrev pub kind_of : Data → Found
 kind_of null = found.Null
 kind_of (boolean b) = found.Bool
@@ -54,21 +54,21 @@ abbrev pub is_named : (List ℕ → Bool) → Option (List ℕ) → Bool
 is_named test None = false
 is_named test (Some word) = test word
 
--- Whether there is a number, and if its range is asked for, it is in this range.
+-- Whether there is a number. If its range is asked for, it must also be in this range.
 abbrev pub in_range : Bool → ℕ → ℕ → Option ℕ → Bool
 in_range ranged least most None = false
 in_range ranged least most (Some n) = not ranged || (nat_le least n && nat_le n most)
 
--- Whether a value is a whole number, and if its range is asked for, in this range.
+-- Whether a value is a whole number. If its range is asked for, it must also be in this range.
 abbrev pub is_number : Bool → ℕ → ℕ → Data → Bool
 is_number ranged least most d = in_range ranged least most (number_of d)
 
--- Whether there are elements, and if their number is asked for, no more than this.
+-- Whether there are elements. If their number is asked for, they must also be no more than `most`.
 abbrev pub are_few : Bool → ℕ → Option (List Data) → Bool
 are_few ranged most None = false
 are_few ranged most (Some ds) = not ranged || nat_le (length ds) most
 
--- Whether a value is an array, and if its length is asked for, no longer than this.
+-- Whether a value is an array. If its length is asked for, it must also be no longer than `most`.
 abbrev pub is_array : Bool → ℕ → Data → Bool
 is_array ranged most d = are_few ranged most (elements_of d)
 
@@ -86,7 +86,7 @@ is_of ranged expected.Caller d = is_number ranged 0 max_caller d
 is_of ranged expected.Number d = is_some (number_of d)
 is_of ranged expected.NumberOrNull d = is_some (optional d)
 
--- Whether a value is as expected; None expects no value.
+-- Whether the value at a place is as expected. If None is expected, there must be no value.
 abbrev pub is_met : Bool → Option Expected → Option Data → Bool
 is_met ranged None None = true
 is_met ranged None (Some d) = false

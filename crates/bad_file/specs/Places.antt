@@ -6,7 +6,7 @@ use Rattle.piece_files.specs.Elements.{elements_of}
 use Rattle.bad_file.specs.declared.place.Place.{Place}
 use Rattle.bad_file.specs.declared.place.Place.TheVariants.{File, Version, Stripes, Entries, Entry, Element}
 
--- The element of this index, of an array.
+-- The element of an array at this index.
 abbrev pub element_at : ℕ → Data → Option Data
 element_at i d = option_and_then (λ ds. slice_get ds i) (elements_of d)
 

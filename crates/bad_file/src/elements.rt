@@ -61,8 +61,8 @@ fn push_after_op_name(stack: &mut Vec<Expected>, word: &str) -> Result<(), Alloc
     }
 }
 
-/// Pushes the elements that are expected after this element, by its word; none if it is no word of
-/// an entry or an operation.
+/// Pushes the elements that are expected after this element, as its word says. Pushes none if this
+/// element is no word of an entry or an operation.
 fn push_after(
     stack: &mut Vec<Expected>,
     is_old: bool,
@@ -82,9 +82,9 @@ fn push_after(
     }
 }
 
-/// The index of the first element at fault in elements that are no entry, and what is expected
-/// there; none if they are an entry. Version 1 lacks some entries; the range of callers counts only
-/// if it is asked for.
+/// The first fault in elements that are no entry: the index of the element at fault, and the value
+/// that is expected there (`None` if no value is allowed). Answers `None` if the elements are an
+/// entry. Version 1 lacks some entries. The range of callers counts only if it is asked for.
 ///
 /// # Errors
 ///

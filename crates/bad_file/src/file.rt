@@ -1,6 +1,6 @@
 //! The search through a whole history file for its first flaw. Only this module knows the order in
-//! which `txn_files` counts faults: all shapes before any range, so it goes through the entries at
-//! most twice. The JSON value of the file is in memory as a whole.
+//! which `txn_files` looks for faults: it tests all shapes before any range. So the search goes
+//! through the entries at most twice. The JSON value of the file is in memory as a whole.
 ghost use Rattle.std.specs.Prelude.{◌≡◌, ℕ, map, option_map, slice_get, IfOk, IfSome, IsNone, MatchOption, Some};
 ghost use Rattle.serde_json.specs.Data.{Data};
 ghost use Rattle.serde_json.specs.View.{view};
@@ -94,7 +94,7 @@ fn value_at(values: &[Value], index: usize) -> Option<&Value>
     }
 }
 
-/// The flaw of the entry of an index, if it has one.
+/// The flaw of the entry at an index, if the entry has one.
 ///
 /// # Errors
 ///
@@ -187,10 +187,13 @@ fn flaw_in_value(alloc: Global, file: &Value) -> Result<Option<Flaw>, AllocError
 
 /// The flaw of a history file, if `read_history` of `txn_files` refuses it.
 ///
-/// The flaw is the cause of the refusal, and the first of its kind: a file that is too long, no
-/// JSON or no object; a member that is missing or of the wrong kind; the first entry with a wrong
-/// shape if it is no array, else its first element at fault; a member that is out of range; the
-/// first caller that is out of range.
+/// The flaw is the cause of the refusal. It is the first one that is found in this order:
+///
+/// - The file is too long, no JSON or no object.
+/// - A member is missing or of the wrong kind.
+/// - An entry has a wrong shape: it is no array, or else an element of it is at fault.
+/// - A member is out of range.
+/// - A caller is out of range.
 ///
 /// # Errors
 ///

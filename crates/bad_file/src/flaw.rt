@@ -28,7 +28,7 @@ pub enum Flaw {
         place: Place,
         /// The finding there.
         found: Found,
-        /// The value that is expected there; None if none is allowed.
+        /// The value that is expected there; `None` if no value is allowed.
         expected: Option<Expected>,
     },
 }

@@ -27,7 +27,7 @@ pub(crate) fn elements_in(value: &Value) -> Option<&[Value]>
     }
 }
 
-/// Whether a value is a whole number, and if its range is asked for, in this range.
+/// Whether a value is a whole number. If its range is asked for, it must also be in this range.
 fn is_number(ranged: bool, least: u64, most: u64, value: &Value) -> bool
     ensures { result ≡ is_number ranged least most (view value.now) }
 {
@@ -70,7 +70,7 @@ fn is_op_name(word: &str) -> bool
     matches!(word, "put" | "take" | "get" | "put_if")
 }
 
-/// Whether a value is an array, and if its length is asked for, no longer than this.
+/// Whether a value is an array. If its length is asked for, it must also be no longer than `most`.
 fn is_array(ranged: bool, most: usize, value: &Value) -> bool
     ensures { result ≡ is_array ranged most (view value.now) }
 {

@@ -23,8 +23,8 @@ pub record IsTransfer (from to sum : ℕ) (old new : Map) : Type 0 where
   pub to_more : balance new to ≡ balance old to + sum
   pub others : (k : ℕ) → k ≢ from → k ≢ to → get new k ≡ get old k
 
--- A step of a caller was answered with a stop. Before it, no other caller had done anything since
--- `old`, and nothing was committed.
+-- A step of a caller was answered with a stop. Between `old` and this step, no other caller did
+-- anything and nothing was committed.
 pub record WasStopped (c : ℕ) (stop : Stop) (old : State) : Type 0 where
   pub before : State
   pub beside : IsBeside c old before

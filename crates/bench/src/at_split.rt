@@ -20,7 +20,7 @@ fn is_start(list: &NodeList, from: NodeRef, at: SortKey) -> bool
     }
 }
 
-/// The regular node of the sort key sought, if it is at the cursor.
+/// The node at the cursor, if it has the sort key that was sought and is regular.
 fn regular_there(list: &NodeList, cursor: &Cursor) -> Option<NodeRef>
     requires { IsPlaced list.now cursor.now }
     ensures { IfSome result (IsRegularAt list.now.nodes) }
@@ -33,8 +33,8 @@ fn regular_there(list: &NodeList, cursor: &Cursor) -> Option<NodeRef>
     None
 }
 
-/// Links a new node, sought from a dummy. `None` if its sort key is there, or if no dummy before it
-/// is at `from`.
+/// Links a new node, at a position that is sought from the dummy `from`. Answers `None` if a node
+/// with the sort key is linked, or if `from` is no linked dummy before the sort key.
 pub(crate) fn put(
     list: &mut NodeList,
     from: NodeRef,

@@ -10,13 +10,17 @@
 //! on standard output.
 //!
 //! The first argument is `nodes`, `maps`, `core`, `shared`, `words` or `striped`, for only that
-//! part, or `all`, which is the default. The second is the number of keys, for `core` and `shared`
-//! the number of puts, and for `words` the number of takes of each thread; without it there are
-//! few. The third is, for `core`, a step file, whose steps the core takes in place of puts on few
-//! keys; for `shared`, a script file, whose scripts are run in place of puts on few keys; and for
-//! `words` the number of threads, up to 64, or two without it; with `all`, these are the third, the
-//! fourth and the fifth. `striped` is followed by the numbers of threads, keys, transactions of
-//! each thread and stripes, or by the first few of these.
+//! part, or `all`, which is the default. For all parts but `striped`, the second argument is the
+//! number of keys (`nodes` and `maps`), of puts (`core` and `shared`) or of takes of each thread
+//! (`words`); without it, 10,000. Three parts have a third argument:
+//!
+//! - `core`: a step file, whose steps the core takes in place of puts on few keys.
+//! - `shared`: a script file, whose scripts are run in place of puts on few keys.
+//! - `words`: the number of threads, up to 64; without it, two.
+//!
+//! With `all`, these three are the third, the fourth and the fifth argument. `striped` is followed
+//! by the numbers of threads, keys, transactions of each thread and stripes, or by the first few of
+//! these.
 #![tactic(auto)]
 
 mod any_map;

@@ -1,8 +1,8 @@
 //! Times transactions on a striped map, with a caller for each thread.
 //!
 //! A transaction is four operations, drawn by a linear congruence: half puts, a quarter takes, a
-//! quarter gets. Every tenth transaction of a thread aborts. A transaction that meets a stripe that
-//! another holds is tried again.
+//! quarter gets. Every tenth transaction of a thread aborts. A transaction is tried again if
+//! another caller holds a stripe that it needs.
 use anyhow::{Result, anyhow, ensure};
 use std::alloc::{AllocError, Global};
 use std::sync::Wait;
@@ -31,7 +31,7 @@ impl Dice {
         (self.state >> 33).checked_rem(sides).unwrap_or(0)
     }
 
-    /// An operation on one of this number of keys.
+    /// An operation on a key below `keys`.
     fn op(&mut self, keys: u64) -> Op {
         let key = self.roll(keys);
         match self.roll(4) {
@@ -81,7 +81,7 @@ fn transact(caller: &mut Caller, ops: &[Op; 4], aborts: bool) -> std::result::Re
 }
 
 impl Worker {
-    /// Does a transaction, again if a stripe was busy.
+    /// Does a transaction, and tries it again as long as a stripe is busy.
     fn run_one(&mut self, ops: &[Op; 4], aborts: bool) {
         for _ in 0..u64::MAX {
             match transact(&mut self.caller, ops, aborts) {
@@ -154,7 +154,8 @@ fn run_all<R: Threads + Wait + Sync>(rt: &R, workers: &mut [Worker], keys: u64, 
     });
 }
 
-/// The numbers of busy stripes and of commits of all workers, and the sum of their answers.
+/// For all workers together: how often a stripe was busy, the number of commits, and the sum of the
+/// answers.
 fn sums_of(workers: &[Worker]) -> Result<(u64, u64, u64)> {
     let (mut busy, mut commits, mut sum) = (0u64, 0u64, 0u64);
     for worker in workers {
@@ -166,7 +167,8 @@ fn sums_of(workers: &[Worker]) -> Result<(u64, u64, u64)> {
     Ok((busy, commits, sum))
 }
 
-/// Runs all workers, and answers the nanoseconds that this took, by the clock and of the processor.
+/// Runs all workers. Answers two times in nanoseconds: the time by the clock, and the time of the
+/// processor.
 fn run_timed<R: Threads + Wait + Sync + Clock + CpuClock>(
     rt: &R,
     workers: &mut [Worker],
@@ -181,7 +183,7 @@ fn run_timed<R: Threads + Wait + Sync + Clock + CpuClock>(
     Ok((nanos, spent.as_nanos().wrapping_sub(used.as_nanos())))
 }
 
-/// Writes the line of these workers.
+/// Fills the map, times these workers, and writes the line of figures.
 fn time_workers<R: Threads + Wait + Sync + Clock + CpuClock + Eprint>(
     rt: &R,
     workers: &mut [Worker],

@@ -34,8 +34,8 @@ struct Taker {
 }
 
 impl Taker {
-    /// Takes this number of stripes and gives each back, each `step` after the last, and counts
-    /// those that were free.
+    /// Takes a stripe and gives it back, `takes` times, and counts the stripes that were free. Each
+    /// stripe is `step` after the one before.
     fn run(&mut self, takes: u64, step: u64) -> std::result::Result<(), AllocError> {
         let mut stripe = self.first % STRIPES;
         for _ in 0..takes {
@@ -49,7 +49,7 @@ impl Taker {
     }
 }
 
-/// Makes a taker for each seat, the last one first.
+/// Makes a taker for each seat, beginning with the last seat.
 fn seat_all(
     alloc: Global,
     words: &Arc<KeyWords, Global>,
@@ -119,7 +119,7 @@ fn granted_to(takers: &[Taker]) -> u64 {
     granted
 }
 
-/// Writes the line of these takers.
+/// Times these takers, and writes the line of figures.
 fn time_takers<R: Threads + Wait + Sync + Clock + Eprint>(
     rt: &R,
     takers: &mut [Taker],

@@ -12,8 +12,8 @@ Enters s [] s' = s' ≡ s
 Enters s (e ∷ []) s' = row s.seat s.seat.phase e ≡ Some s'.seat
 Enters s (e ∷ f ∷ es) s' = ⊥
 
--- An entry may follow and is small, there is room for it, and the number of entries owed after it
--- fits.
+-- An entry may follow and is small. The history has room for it, and so does the seat if the entry
+-- is a savepoint's. The numbers of standing changes and of entries owed are below 2^63.
 pub record CanEnter (s : RoomySeat) (len cap owed : ℕ) (e : Entry) : Type 0 where
   pub next : Seat
   pub row_is : row s.seat s.seat.phase e ≡ Some next
@@ -25,7 +25,8 @@ pub record CanEnter (s : RoomySeat) (len cap owed : ℕ) (e : Entry) : Type 0 wh
   pub owed_fits : owed < 2 ^ 63
   pub fits : owed - owed_in s.seat.standing s.seat.phase + owed_in next.standing next.phase < 2 ^ 63
 
--- An entry may be added, or there is none to add; the number of entries owed fits.
+-- The entry, if there is one, may be added. If there is none, the entries that this caller owes are
+-- at most the entries owed by all.
 abbrev pub CanAdd : RoomySeat → ℕ → ℕ → ℕ → Option Entry → Type 0
 CanAdd s len cap owed None = owed_in s.seat.standing s.seat.phase ≤ owed
 CanAdd s len cap owed (Some e) = CanEnter s len cap owed e

@@ -43,7 +43,7 @@ may_be_stale state owner = elim (owner_changes state owner) [
       && not (noted == state.changes && nat_lt noted (2 ^ 64 - 1))
 ]
 
--- The reply to the operation that waits is that of a map.
+-- The reply is the one that the waiting operation has on this map.
 abbrev pub IsReply : Phase → Map → Option ℕ → Type 0
 IsReply (Waiting op) m reply = reply ≡ reply_of m op
 IsReply phase m reply = ⊥
@@ -57,7 +57,7 @@ abbrev pub is_at_end : Phase → Bool
 is_at_end LeavingToEnd = true
 is_at_end phase = false
 
--- The answer to the step that ends the undoing of a phase.
+-- The answer to the step that ends the undoing, for a caller in this phase.
 abbrev pub end_of : Phase → Answer
 end_of (LeavingTo n) = answers.Returned n
 end_of phase = answers.Aborted

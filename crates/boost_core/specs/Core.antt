@@ -54,7 +54,7 @@ world_of limits history counts table sessions locks placed words = record {
 abbrev pub session_changes : Session → Option ℕ
 session_changes s = option_map cursor_changes s.cursor
 
--- A linked node, and all of them.
+-- A linked node of the table, and all its linked nodes, as the machine's state has them.
 abbrev pub node_at : NodeAt → Node
 node_at n = record { at = n.at; marked = n.marked }
 

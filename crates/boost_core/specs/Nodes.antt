@@ -78,8 +78,8 @@ abbrev pub is_unmarked : Node → Bool
 is_unmarked n = not n.marked
 
 -- A seek from the dummy of a bucket: it passes the nodes up to the first unmarked one that is not
--- before the position sought. The marked ones that it passes are unlinked, and nothing else
--- changes. The change number grows by one for each, up to 2^64 - 1.
+-- before the position sought. The marked nodes that it passes are unlinked, and no other node
+-- changes. The change number grows by one for each unlinked node, up to 2^64 - 1.
 pub record SeeksFrom (old new : State) (bucket : ℕ) (at : SortKey) : Type 0 where
   pub front : List Node
   pub start : Node
@@ -118,16 +118,16 @@ pub record SeeksKey (old new : State) (key : ℕ) : Type 0 where
   pub nearest : IsNearest old.stored (key % old.size) bucket
   pub seeks : SeeksFrom old new bucket (regular_at key)
 
--- The effect of changing a key's value from the first to the second: a node is linked, or the key's
--- node is marked, or a value is written there, or, from none to none, nothing is done; and no other
--- node is touched.
+-- The effect of changing a key's value, if it has one, from the first to the second. From none to a
+-- value, a node is linked. From a value to none, the key's node is marked. From a value to a value,
+-- the value is written there. From none to none, nothing is done. No other node is touched.
 abbrev pub Changes : State → State → ℕ → Option ℕ → Option ℕ → Type 0
 Changes old new key None None = Keeps old new
 Changes old new key None (Some value) = Links old new (regular_at key)
 Changes old new key (Some was) None = Marks old new (regular_at key)
 Changes old new key (Some was) (Some value) = Writes old new
 
--- A put that is made, or not.
+-- The effect of a put if the Boolean is true. If it is false, nothing changes.
 abbrev pub PutsIf : State → State → ℕ → ℕ → Option ℕ → Bool → Type 0
 PutsIf old new key value before true = Changes old new key before (Some value)
 PutsIf old new key value before false = Keeps old new
@@ -164,7 +164,7 @@ Touches old (InitLink h) answers.Linked new =
     Links old new (dummy_at (bucket_at (help_in old.helpers h)))
 Touches old step answer new = Keeps old new
 
--- The last stamp after a step and its answer: each node that is taken has one.
+-- The last stamp after a step and its answer. It rises by one if the step takes a node.
 abbrev pub stamp_after : ℕ → Step → Answer → ℕ
 stamp_after stamp (Ask c op) answers.Asked = if takes_node op then stamp + 1 else stamp
 stamp_after stamp (Ask c op) (answers.Busy holder) = if takes_node op then stamp + 1 else stamp
@@ -183,14 +183,14 @@ StartsAt [] (Some at) = ⊥
 StartsAt (n ∷ rest) None = ⊥
 StartsAt (n ∷ rest) (Some at) = n ≡ plain_node at
 
--- The two nodes are neighbours, unmarked.
+-- The two nodes of a gap are neighbours, and both are unmarked.
 pub record AreNeighbours (nodes : List Node) (gap : Gap) : Type 0 where
   pub front : List Node
   pub back : List Node
   pub nodes_are : nodes ≡ front ++ plain_node gap.before ∷ back
   pub next : StartsAt back gap.behind
 
--- The position of this sort key is between the two.
+-- The position of this sort key is between the two nodes of the gap.
 pub record IsBetween (gap : Gap) (at : SortKey) : Type 0 where
   pub before : IsBefore gap.before at
   pub behind : (next : SortKey) → gap.behind ≡ Some next → IsNotBefore next at
@@ -222,14 +222,14 @@ Fits old (InitLink h) (answers.Refused NoMemory) new = HasFit old (Helper h)
 Fits old (InitLink h) (answers.Refused StampsUsedUp) new = HasFit old (Helper h)
 Fits old step answer new = Unit {0}
 
--- The owner whose cursor a step and its answer may move: its caller or helper, unless it is
--- refused.
+-- The owner whose cursor a step and its answer may move: the step's caller or helper, or none if
+-- the step is refused.
 abbrev pub mover_of : Step → Answer → Option Owner
 mover_of step (answers.Refused refusal) = None
 mover_of step answer = owner_of step
 
--- The cursor of each other caller and helper still fits, if its two nodes are still neighbours:
--- changes elsewhere do not affect it.
+-- The cursor of an owner other than the mover still fits, if it fitted and its two nodes are still
+-- unmarked neighbours: changes elsewhere do not affect it.
 abbrev pub KeepsGaps : State → Step → Answer → State → Type 0
 KeepsGaps old step answer new = (owner : Owner) (gap : Gap) → mover_of step answer ≢ Some owner
     → gap_for old owner ≡ Some gap → AreNeighbours new.nodes gap → gap_for new owner ≡ Some gap

@@ -24,12 +24,13 @@ Operates old c op (answers.Done reply) new =
     (answers.Asked ∷ answers.Placed ∷ answers.Done reply ∷ []) new
 Operates old c op answer new = Event old (Ask c op) answer new
 
--- This number of changes is sought and taken back, and then these steps are taken.
+-- The steps that seek this number of changes and take them back, and then these steps.
 abbrev pub undoing : ℕ → ℕ → List Step → List Step
 undoing zero c steps = steps
 undoing (suc changes) c steps = undoing changes c (Seek c ∷ Act c ∷ steps)
 
--- The answers to the steps that seek this number of changes and take them back, and then these.
+-- The answers to the steps that seek this number of changes and take them back, and then these
+-- answers.
 abbrev pub undone : ℕ → List Answer → List Answer
 undone zero others = others
 undone (suc changes) others = undone changes (answers.Placed ∷ answers.Undone ∷ others)
@@ -48,7 +49,8 @@ Returns old c n (answers.Returned m) new =
     × Ends left c (answers.Returned m) new
 Returns old c n answer new = Event old (Back c n) answer new
 
--- The step by which a caller leaves to the end; none if it does so already.
+-- The step by which a caller leaves to the end. No step is taken if the caller leaves already, as
+-- the Boolean says.
 abbrev pub Leaves : Bool → State → ℕ → State → Type 0
 Leaves true old c left = left ≡ old
 Leaves false old c left = Event old (Abort c) answers.Leaving left

@@ -29,7 +29,7 @@ is_served (InitStore h) = true
 is_served (Double seen) = true
 is_served step = false
 
--- The answers, from those of the table.
+-- The answer to each of these steps, from the outcome of the table's call.
 abbrev pub swept : SweepOutcome → Answer
 swept outcomes.Swept = answers.Swept
 swept outcomes.Clean = answers.Clean

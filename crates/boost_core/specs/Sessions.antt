@@ -57,7 +57,7 @@ level_of phase = 0
 abbrev pub owed_of : Session → ℕ
 owed_of s = owed_in s.seat.seat.standing s.seat.seat.phase
 
--- No transaction, no waiting operation, no cursor, and an empty log with room for eight jobs.
+-- No transaction, no waiting operation, no cursor, and an empty log.
 abbrev pub IsIdle : Session → Type 0
 IsIdle s =
     side_of s ≡ record { seat = closed_seat; pending = None; cursor = None; jobs = []; kept = [] }
@@ -71,8 +71,9 @@ Waits (Waiting op) None room = ⊥
 Waits phase (Some pending) room = ⊥
 Waits phase None room = Unit {0}
 
--- The seat, the waiting operation and the log with this room agree: as many changes as jobs, the
--- same levels, and the same operation.
+-- The seat, the waiting operation and the log with this room agree. The seat has as many changes as
+-- the log has jobs, both have the same levels, the operation is that of the phase, and the level to
+-- which the phase takes changes back exists.
 pub record Agrees (side : Side) (room : ℕ) : Type 0 where
   pub standing : side.seat.standing ≡ length side.jobs
   pub kept : side.seat.kept ≡ 0 ∷ side.kept
@@ -93,7 +94,7 @@ target_in phase log = None
 abbrev pub target_of : Session → Option ℕ
 target_of s = target_in s.seat.seat.phase s.log
 
--- The spare of the operation that waits, if there is one and it has one.
+-- The spare of the operation that waits, or none if no operation waits or it has no spare.
 abbrev pub spare_if : Option PendingAt → Option SpareAt
 spare_if None = None
 spare_if (Some pending) = pending.spare
@@ -128,7 +129,7 @@ IsSoughtAt t (Some cursor) target = IsPlacedFor t cursor target
 abbrev pub IsSought : TableAt → Session → Type 0
 IsSought t s = IsSoughtAt t s.cursor (target_of s)
 
--- The spares of the log belong to the table, each once, beside those that others keep.
+-- Each spare of the log belongs to the table. Only one job keeps it, and nobody else does.
 abbrev pub CanSettle : Session → TableAt → Type 0
 CanSettle s t =
     (others : ℕ → ℕ → ℕ)
@@ -289,7 +290,7 @@ pub record WithdrawsIn (s : Session) (t : TableAt) (s' : Session) (t' : TableAt)
       → IsCovered (λ place stamp. others place stamp + times_kept (side_of s') place stamp) t'
   pub becomes : s' ≡ record s { pending = None; cursor = None }
 
--- All jobs are dropped with their spares, and all savepoints.
+-- All jobs, with their spares, and all savepoints are dropped.
 pub record SettlesIn (s : Session) (t : TableAt) (s' : Session) (t' : TableAt) : Type 0 where
   pub rests : Rests t t'
   pub spares : (others : ℕ → ℕ → ℕ)

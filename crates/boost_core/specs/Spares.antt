@@ -5,7 +5,7 @@ use Rattle.map_ops.specs.declared.job.MapJob.{MapJob}
 use Rattle.map_ops.specs.Jobs.{spare_of_job}
 use Rattle.map_ops.specs.TableAt.{TableAt, SpareAt, spare_out}
 
--- How often a spare, if there is one, is the one of this place and stamp.
+-- 1 if there is a spare and it has this place and stamp, else 0.
 abbrev pub times_of : Option SpareAt → ℕ → ℕ → ℕ
 times_of None place stamp = 0
 times_of (Some spare) place stamp = if spare.place == place && spare.stamp == stamp then 1 else 0

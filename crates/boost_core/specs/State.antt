@@ -32,7 +32,7 @@ pub record Gap : Type 0 where
 -- stored and whether its dummy is linked; the linked nodes in order; the list's change number; the
 -- last stamp given; for each caller the change number that its cursor noted and, if the cursor
 -- fits, the nodes between which it stands; the same nodes for each helper; each helper's state; and
--- the owner of the cursor that the last move placed, where a refusal does not count as a move.
+-- the owner of the cursor that the last move placed. A refusal does not count as a move.
 pub record State : Type 0 where
   pub limits : Sizes
   pub words : Bool
@@ -88,7 +88,7 @@ seat_in history c = unwrap_or (seat_after (own c history)) closed_seat
 abbrev pub caller_changes : List (Option ℕ) → ℕ → Option ℕ
 caller_changes cursors c = unwrap_or (slice_get cursors c) None
 
--- The gap of one of these cursors, if it is there and fits.
+-- The gap of the cursor of this number, if there is such a cursor and it fits.
 abbrev pub gap_in : List (Option Gap) → ℕ → Option Gap
 gap_in gaps n = unwrap_or (slice_get gaps n) None
 
@@ -101,11 +101,11 @@ gap_for state (Helper h) = gap_in state.helper_gaps h
 abbrev pub help_in : List Help → ℕ → Help
 help_in helpers h = unwrap_or (slice_get helpers h) Nothing
 
--- Whether a bucket is one of those that are set.
+-- Whether the flag of this bucket is set.
 abbrev pub is_set : List Bool → ℕ → Bool
 is_set buckets bucket = unwrap_or (slice_get buckets bucket) false
 
--- The buckets that are set, with this one.
+-- The flags of the buckets, with that of this bucket set.
 abbrev pub with_bucket : List Bool → ℕ → List Bool
 with_bucket buckets bucket = slice_set buckets bucket true
 

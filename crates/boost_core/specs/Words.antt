@@ -42,8 +42,8 @@ is_stale Right state (Ask c op) = has_stamp_for state op && is_taken state c op
 is_stale Stale state (Ask c op) = true
 is_stale claim state step = false
 
--- The room that a step reserves in the history by its claim: none with a word, since the entry that
--- it may add is owed already.
+-- The room that a step reserves in the history by its claim. With a word it reserves none: the
+-- entry that the step may add is owed already.
 abbrev pub reserved_by : Claim → Step → ℕ
 reserved_by Lock step = reserved step
 reserved_by Right step = reserved step
@@ -84,8 +84,8 @@ abbrev pub Asks : Claim → State → Step → Answer → State → Type 0
 Asks claim old step answer new =
     IsStale claim old step answer new ⊎ (IsTrue (may_come claim answer) × Move old step answer new)
 
--- The last stamp after such an ask: with a right an operation takes the spare that it needs, if it
--- needs one, and gives it back if the claim is stale; with a word none is taken.
+-- The last stamp after an ask by a claim. With a right, an operation that needs a spare takes one,
+-- and so uses up a stamp, even if the claim turns out to be stale. With a word no spare is taken.
 abbrev pub stamp_by : Claim → ℕ → Step → Answer → ℕ
 stamp_by Lock stamp step answer = stamp_after stamp step answer
 stamp_by Right stamp (Ask c op) (answers.Refused StaleWord) =
@@ -93,7 +93,7 @@ stamp_by Right stamp (Ask c op) (answers.Refused StaleWord) =
 stamp_by Right stamp step answer = stamp_after stamp step answer
 stamp_by claim stamp step answer = stamp
 
--- The effect of such an ask on the list: the nodes and the change number are unchanged.
+-- The effect of an ask by a claim on the list: the nodes and the change number are unchanged.
 pub record ListsAsk (claim : Claim) (old : State) (step : Step) (answer : Answer)
     (new : State) : Type 0 where
   pub nodes : Touches old step answer new

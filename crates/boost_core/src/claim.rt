@@ -1,6 +1,7 @@
 //! The claims of an operation to its stripe: the core's lock, a right in hand, or a word that names
 //! a holder. One enum has all kinds, so that an ask is one step whoever keeps the stripes. A claim
-//! is never stored; one by a word takes no spare and no room, since its Busy is owed already.
+//! is never stored. A claim by a word takes no spare and reserves no room: the room for its Busy
+//! entry was reserved when the transaction began.
 ghost use Rattle.std.specs.Prelude.{◌≡◌};
 
 use txn_trace::Step;
@@ -8,12 +9,12 @@ use txn_trace::Step;
 /// The claim of an operation to the stripe of its key.
 #[derive(Clone, Copy, Debug, PartialEq, Eq)]
 pub enum Claim {
-    /// It locks the stripe, and is busy if another caller holds it.
+    /// The operation locks the stripe, or is busy if another caller holds it.
     Lock,
-    /// Its caller has the stripe's right: it locks the stripe. If another caller holds the stripe,
-    /// the word that gave the right was stale.
+    /// The caller has the stripe's right, so the operation locks the stripe. If another caller
+    /// holds the stripe, the word that gave the right was stale.
     Right,
-    /// The stripe's word names this holder: it is busy.
+    /// The stripe's word names this holder, so the operation is busy.
     Held(u64),
     /// The stripe's word names no caller that may hold it: the word is stale.
     Stale,
@@ -22,8 +23,8 @@ pub enum Claim {
 impl Claim {
     ghost use Rattle.boost_core.specs.Words.{reserved_by};
 
-    /// The number of entries for which the history makes room before a step is taken by this claim:
-    /// none for a word, whose Busy is owed already.
+    /// The number of entries for which the history makes room before a step is taken by this claim.
+    /// A claim by a word needs none, since there is room for its Busy entry already.
     #[inline(always)]
     pub(crate) fn entry_room(self, step: Step) -> u64
         ensures { result ≡ reserved_by self step }

@@ -15,7 +15,7 @@ pub struct Counts {
 impl Counts {
     ghost use Rattle.boost_core.specs.Counts.{counts_after};
 
-    /// The counts after an answer, which has the new number.
+    /// The counts after an answer: `Began` and `Committed` have the new number.
     #[inline(always)]
     pub(crate) fn after(self, answer: Answer) -> Counts
         ensures { result ≡ counts_after self answer }

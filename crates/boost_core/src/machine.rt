@@ -137,14 +137,14 @@ impl Core {
     /// are allowed and the state after each, and `specs/Nodes.antt` the effect on the linked nodes
     /// and on the cursors of callers and helpers.
     ///
-    /// If a test refuses the step, the first that does is the answer, and the state is unchanged.
+    /// If tests refuse the step, the first refusal is the answer, and the state is unchanged.
     /// Only `Begin`, `Ask`, `Save`, `Back`, `InitLink` and `InitStore` may be refused with
     /// `NoMemory`, after all tests; so no caller needs memory to seek, to act, to commit or to
     /// abort. `InitStore` is refused memory only if no bucket of its segment of 64 is stored.
     ///
-    /// `Again` means that the cursor of the caller or helper no longer fits; it is dropped. That is
-    /// never the answer as long as the cursor's two nodes stay neighbours and unmarked, whatever
-    /// happens elsewhere in the list.
+    /// `Again` means that the cursor of the caller or helper no longer fits, and was dropped. As
+    /// long as the cursor's two nodes stay neighbours and unmarked, the answer is never `Again`,
+    /// whatever happens elsewhere in the list.
     ///
     /// If stripes are words, no step may be an `Ask`: use `ask_with` and `ask_held`.
     ///
@@ -281,10 +281,10 @@ impl Core {
         &self.history
     }
 
-    /// Makes room in the history for this many more entries, besides those that callers owe now, so
-    /// that it need not grow before more than these are added or newly owed. If `is_written`, the
-    /// room is written, so that no later entry is the first to touch a page of it. The core is
-    /// unchanged.
+    /// Makes room in the history for this many more entries, besides those that callers owe now.
+    /// The history then need not grow until more than this many entries are added or newly owed.
+    /// If `is_written`, the room is written, so that no later entry is the first to touch a page of
+    /// it. The core is unchanged.
     ///
     /// # Errors
     ///
@@ -310,8 +310,8 @@ impl Core {
     ///
     /// # Cost
     ///
-    /// Time in proportion to the nodes, and to n log n for the map of n keys; memory for the pairs
-    /// twice while it runs.
+    /// Time in proportion to the nodes, and to n log n for the map of n keys; while it runs, memory
+    /// for two copies of the pairs.
     pub fn map(&self, alloc: Global) -> Result<BTreeMap<u64, u64>, AllocError>
         ensures { IfOk result (IsContent self.now) }
     {
@@ -334,7 +334,7 @@ impl Core {
         self.table.regular_list(alloc)
     }
 
-    /// The limits with which it was made: no step changes them.
+    /// The limits with which the core was made. No step changes them.
     pub fn limits(&self) -> Limits
         ensures { result ≡ self.now.limits }
     {

@@ -18,7 +18,7 @@ impl Session {
     ghost use Rattle.boost_core.specs.Sessions.{AsksBy, GoesWith, IsAsked, StaysIn, SeeksIn, ActsIn, Replies, Undoes, Arrives, CanAct, CanUndo, CanArrive};
     ghost use Rattle.map_ops.specs.Changes.{Prepares, IsRefused};
 
-    /// Asks for an operation by a claim. With a word it reserves and locks nothing.
+    /// Asks for an operation by a claim. A claim by a word reserves and locks nothing.
     #[inline(always)]
     pub(crate) fn ask_by(
         &mut self,
@@ -93,7 +93,7 @@ impl Session {
         Answer::Asked
     }
 
-    /// Seeks the position of the key that it acts on next.
+    /// Seeks the position of the key that the caller acts on next.
     pub(crate) fn seek(&mut self, table: &mut Table) -> Answer
         requires goes { GoesWith self.old table.old }
         requires target { has_target self.old.seat.seat ≡ true }
@@ -195,7 +195,8 @@ impl Session {
     }
 }
 
-/// With the stripe's right no operation is busy: the right is stale instead.
+/// The answer to an ask with the stripe's right, from that of `ask`. It is never `Busy`: if another
+/// caller holds the stripe, the right is stale.
 fn unless_busy(answer: Answer) -> Answer
     ensures { result ≡ unless_busy answer }
 {

@@ -1,6 +1,7 @@
-//! The owner of the cursor that was placed last. No code reads it: contracts name the cursor by it,
-//! and a ghost field cannot hold a value. Each step that is not refused sets it, to none if it
-//! places no cursor; by the core's invariant the owner's cursor fits.
+//! The owner of the cursor that was placed last. Contracts name the cursor by it, and no code reads
+//! it. It is an ordinary field, since a ghost field has no value for the model's view to read. Each
+//! step that is not refused sets the owner, to none if the step places no cursor. By the core's
+//! invariant the owner's cursor fits.
 ghost use Rattle.std.specs.Prelude.{◌≡◌};
 ghost use Rattle.boost_core.specs.Answers.{placed_by};
 ghost use Rattle.boost_core.specs.Placed.{placed_then};

@@ -21,11 +21,12 @@ impl Core {
     /// table doubles by itself: without `help` or `Double` it is one long list, through which each
     /// seek walks.
     ///
-    /// The answer is `Done` with the reply, or that of the ask if it is not `Asked`: `Busy` if
-    /// another caller holds the key's stripe, and this one now leaves to the end; or a refusal,
-    /// which leaves the state unchanged, in this order `NoSuchCaller`, `NotOpen`, `Leaving`,
-    /// `OperationUnfinished`, `BadKey` if the limits have half keys and the key is 2^63 or more,
-    /// `NoMemory` for the history and the log, `StampsUsedUp`, `NoMemory` for the node.
+    /// The answer is `Done` with the reply. If another caller holds the key's stripe, the answer is
+    /// `Busy` instead, and this caller now leaves to the end. If the ask is refused, the answer is
+    /// the refusal, and the state is unchanged. The refusals are tested in this order:
+    /// `NoSuchCaller`, `NotOpen`, `Leaving`, `OperationUnfinished`, `BadKey` if the limits have
+    /// half keys and the key is 2^63 or more, `NoMemory` for the history and the log,
+    /// `StampsUsedUp`, `NoMemory` for the node.
     ///
     /// # Cost
     ///
@@ -40,9 +41,9 @@ impl Core {
         self.operate(caller, Op::Put(key, value))
     }
 
-    /// Puts a value at a key exactly if the key has what is expected, a value or none, by the same
-    /// steps as `put` and with the same refusals. The reply is the value that the key had, so the
-    /// value was put exactly if the reply is what was expected.
+    /// Puts a value at a key exactly if the key has the expected value, or has no value if none is
+    /// expected. It takes the same steps as `put`, with the same refusals. The reply is the value
+    /// that the key had, so the value was put exactly if the reply equals `expected`.
     ///
     /// # Cost
     ///
@@ -143,8 +144,8 @@ impl Core {
     /// # Cost
     ///
     /// A step to double; then for each bucket on the way, at most 16, one step if it is
-    /// initialised, and else three, with time in proportion to the nodes that are passed to its
-    /// position; may take memory for each bucket's dummy and segment.
+    /// initialised, and else three, with time in proportion to the nodes that the seek for the
+    /// bucket passes; may take memory for each bucket's dummy and segment.
     pub fn help(&mut self, caller: u64, key: u64) -> Result<(), Refusal>
         ensures helps { Helps self.old caller key result self.new }
         ensures words { self.new.words ≡ self.old.words }

@@ -1,9 +1,9 @@
-//! Room that a core is made with, stated by those who know what is to come: a core that grows while
-//! its lock is held keeps the other callers waiting, since each growth copies what is there. It is
-//! no limit: with more entries, nodes or changes than that, the core grows as it is used.
+//! The room with which a core is made, for users who know how much is to come. A core that grows
+//! while its lock is held keeps the other callers waiting, since each growth copies what is there.
+//! The room is no limit: once more entries, nodes or changes are needed, the core grows.
 
-/// For how much a core takes memory when it is made, so that it need not grow under the lock. The
-/// default is no room.
+/// The numbers of entries, nodes and changes for which a core takes memory when it is made, so that
+/// it need not grow under the lock. The default is no room.
 #[derive(Clone, Copy, Debug, Default)]
 pub struct Room<'a> {
     /// The entries of the history.
@@ -11,10 +11,11 @@ pub struct Room<'a> {
     /// The nodes of the table: one for each key, for each key that is taken and not yet swept, for
     /// each stored bucket, and for each spare that is out.
     pub nodes: usize,
-    /// For each caller, the most changes of one of its transactions; none for the callers after the
-    /// last of the slice.
+    /// For each caller, the largest number of changes that one of its transactions makes. Callers
+    /// beyond the end of the slice get no room.
     pub changes: &'a [usize],
-    /// Whether all of it is written once, so that under the lock no page of it is touched for the
-    /// first time. With one caller nobody waits for the lock, and writing it only costs time.
+    /// Whether the whole room is written once, so that none of its pages is touched for the first
+    /// time under the lock. With one caller nobody waits for the lock, and writing the room only
+    /// costs time.
     pub is_written: bool,
 }

@@ -12,8 +12,8 @@ use std::alloc::{AllocError, Global};
 use txn_trace::{Answer, Phase, Seat, Step};
 use undo_log::UndoLog;
 
-/// A caller: its seat, its waiting operation, the cursor of that or of its newest change, and its
-/// log.
+/// A caller: its seat, its waiting operation, the cursor for this operation or for its newest
+/// change, and its log.
 #[derive(Drop)]
 pub struct Session {
     pub(crate) seat: Seat,
@@ -28,7 +28,7 @@ impl Session {
     ghost use Rattle.boost_core.specs.Refusals.{lacks_in};
     ghost use Rattle.map_ops.specs.TableAt.{table_changes};
 
-    /// The caller with this number, without a transaction, and with its room in its log.
+    /// The caller of this number, without a transaction. Its log has the caller's part of the room.
     pub(crate) fn new(alloc: Global, caller: usize, room: Room<'_>) -> Result<Session, AllocError>
         ensures { IfOk result IsIdle }
     {
@@ -52,14 +52,14 @@ impl Session {
         }
     }
 
-    /// Whether it takes all changes back.
+    /// Whether the caller takes all its changes back.
     pub(crate) fn leaves_to_end(&self) -> bool
         ensures { result ≡ is_at_end self.now.seat.seat.phase }
     {
         matches!(self.seat.phase(), Phase::LeavingToEnd)
     }
 
-    /// The level to which it takes changes back, or 0.
+    /// The level to which the caller takes its changes back, or 0.
     pub(crate) fn level(&self) -> usize
         ensures { result ≡ level_of self.now.seat.seat.phase }
     {
@@ -69,8 +69,8 @@ impl Session {
         }
     }
 
-    /// Takes a step of this caller that no test refuses. The seat is unchanged except for room: it
-    /// enters the entry afterwards.
+    /// Takes a step of this caller that no test refuses. The seat is unchanged except for room: the
+    /// step's entry is added to it afterwards.
     #[inline(always)]
     pub(crate) fn answer(
         &mut self,

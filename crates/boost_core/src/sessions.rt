@@ -1,6 +1,6 @@
-//! The sides of all callers, idle. A core makes them at once, so no step makes one later. They are
-//! in one vector, in the order of the callers' numbers; a `Session` itself knows no other. The
-//! vector takes one allocation, and an idle side takes more memory only for the room in its log.
+//! The sides of all callers, idle. They are made with the core, so no step makes a side later. They
+//! are in one vector, in the order of the callers' numbers; a `Session` does not know the others.
+//! The vector takes one allocation. An idle side takes more memory only for the room in its log.
 ghost use Rattle.std.specs.Prelude.{◌≡◌, IfOk, length};
 ghost use Rattle.std.specs.List.{All};
 ghost use Rattle.boost_core.specs.Sessions.{IsIdle};

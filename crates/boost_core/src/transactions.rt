@@ -23,7 +23,7 @@ impl Session {
         }
     }
 
-    /// Leaves to a level: a cursor that it has is of no more use.
+    /// Leaves to a level: the caller's cursor, if it has one, is dropped.
     pub(crate) fn drop_cursor(&mut self) -> Answer
         ensures answer { result ≡ Answer.Leaving }
         ensures becomes { self.new ≡ record self.old { cursor = None } }
@@ -45,7 +45,7 @@ impl Session {
         Answer::Leaving
     }
 
-    /// Drops all its jobs and savepoints.
+    /// Drops all jobs and savepoints of the caller.
     pub(crate) fn settle(&mut self, table: &mut Table)
         requires { CanSettle self.old table.old }
         ensures { SettlesIn self.old table.old self.new table.new }

@@ -37,8 +37,8 @@ impl Core {
     }
 
     /// A new core like that of `with_words`, with this room: history, list and logs need not grow
-    /// before there is more than the room is for. Spares count as nodes. A room that is written
-    /// also has memory for as many buckets as nodes, or for all if these are fewer.
+    /// as long as their entries, nodes and changes fit in it. Spares count as nodes. A room that is
+    /// written also has memory for as many buckets as nodes, or for all buckets if these are fewer.
     ///
     /// # Errors
     ///
@@ -47,8 +47,8 @@ impl Core {
     /// # Cost
     ///
     /// That of `with_words`, and the memory for the room: 32 bytes for an entry of the history, 40
-    /// for a node, 48 for a change of a caller with more than eight, and 4 for a bucket. If the
-    /// room is written, time in proportion to it.
+    /// for a node, 4 for a bucket, and 48 for each change of a caller that has room for more than
+    /// eight changes. If the room is written, time in proportion to it.
     pub fn with_room(alloc: Global, limits: Limits, room: Room<'_>) -> Result<Core, Refusal>
         ensures ok { IfOk result (λ core. core ≡ start_with_words limits) }
         ensures err { IfErr result (λ refusal. refusal ≡ Refusal.NoMemory) }

@@ -1,6 +1,6 @@
-//! The program `boostmap`. `boostmap_program::run` decides what it does with its words, its file
-//! and its outputs, and its exit status; nothing is decided here. It is a crate apart from
-//! `boostmap_program`, since it needs a process: its runtime, its memory, its outputs.
+//! The program `boostmap`. `boostmap_program::run` decides what the program does with its words,
+//! its file and its outputs, and with which status it exits. Nothing is decided here. This is a
+//! crate apart from `boostmap_program`, since it needs a process: its runtime, memory and outputs.
 #![tactic(auto)]
 
 use boostmap_program::run;

@@ -11,7 +11,7 @@ use Rattle.boostmap_c.specs.declared.c_entry.CEntry.{CEntry}
 abbrev pub optional : ℕ → ℕ → Option ℕ
 optional flag number = if nat_eq flag 0 then None else Some number
 
--- The operation, if there is one of its number.
+-- The operation that the number `operation` stands for, if it stands for one.
 abbrev pub op_of : CEntry → Option Op
 op_of e =
     if nat_eq e.operation 1 then Some (Put e.key e.value)
@@ -19,7 +19,7 @@ op_of e =
     else (if nat_eq e.operation 3 then Some (Take e.key)
     else (if nat_eq e.operation 4 then Some (Get e.key) else None)))
 
--- The Asked for an operation, or the Busy on it.
+-- The Asked entry and the Busy entry of an operation; none if there is no operation.
 abbrev pub asked_of : CEntry → Option Op → Option Entry
 asked_of e None = None
 asked_of e (Some op) = Some (Asked e.caller op)
@@ -28,7 +28,8 @@ abbrev pub busy_of : CEntry → Option Op → Option Entry
 busy_of e None = None
 busy_of e (Some op) = Some (Busy e.caller op e.number)
 
--- The entry, if there is a kind of its number and, for Asked and Busy, an operation.
+-- The entry that the numbers stand for; none if no kind of entry has the number `kind`, or if an
+-- Asked or a Busy has no operation.
 abbrev pub entry_of : CEntry → Option Entry
 entry_of e =
     if nat_eq e.kind 1 then Some (Began e.caller e.number)

@@ -15,7 +15,8 @@ use Rattle.boostmap_c.specs.declared.judge.CVerdict.{CVerdict}
 use Rattle.boostmap_c.specs.Entries.{judged_entry}
 use Rattle.boostmap_c.specs.Replies.{done, empty, full, no_entry, refused}
 
--- The rule of a number, for a map with this number of stripes: by locks there must be at least one.
+-- The rule that a number stands for, if it stands for one. A rule by locks needs at least one
+-- stripe.
 abbrev pub way_for : ℕ → ℕ → Option Way
 way_for stripes number =
     if nat_eq number 2 then Some ByCommits
@@ -66,7 +67,8 @@ FedAll [] old new = new ≡ old
 FedAll (e ∷ entries) old new =
     (between : Referee) × FeedsEntry (judged_entry e) old done between × FedAll entries between new
 
--- All entries are fed, or those before the first that is not.
+-- At status 0 all entries are fed, and `count` is their number. Otherwise only the entries before
+-- place `count` are fed, and the status says why the entry at that place is not fed.
 abbrev pub FedFront : List CEntry → Referee → ℕ → ℕ → Referee → Type 0
 FedFront entries old zero count new = (count ≡ length entries) × FedAll entries old new
 FedFront entries old (suc status) count new =

@@ -10,7 +10,7 @@ use Rattle.boostmap_c.specs.contracts.member_pointer.MemberPointer.{the_row}
 abbrev pub with_member : MemberPointer → Member → MemberPointer
 with_member pointer member = record { at = pointer.at; member = Some member }
 
--- When the reference ends, the member at the pointer is the one that the reference has last. The
+-- When the reference ends, the member at the pointer is the one that the reference then has. The
 -- address is unchanged.
 abbrev pub LendsMember : MutBor MemberPointer → MutBor Member → Fml
 LendsMember pointer reference =

@@ -45,8 +45,8 @@ abbrev pub are_limits : ℕ → ℕ → Bool
 are_limits callers stripes =
     (nat_le 1 callers && nat_le callers 4096) && (nat_le 1 stripes && nat_le stripes 4096)
 
--- The first member of a map: its callers have made no calls, the member's has the last number, and
--- the others wait, by their numbers from 1.
+-- The first member of a map. No caller of the map has made a call. The member's own caller has the
+-- last number; the other callers wait in the member, in the order of their numbers from 1.
 pub record IsFirst (callers stripes : ℕ) (m : Member) : Type 0 where
   pub map : StripedMap
   pub caller : IsNew map stripes callers m.caller
@@ -54,7 +54,7 @@ pub record IsFirst (callers stripes : ℕ) (m : Member) : Type 0 where
   pub waiting : (place : ℕ) → place + 1 < callers
       → HoldsAt (IsNew map stripes (place + 1)) m.waiting.items place
 
--- A map, as its first member; or none, if its limits or memory are refused.
+-- The first member of a new map; or none, if the map's limits or memory are refused.
 abbrev pub OpensAt : ℕ → ℕ → ℕ → ℕ → ℕ → Option Member → Type 0
 OpensAt callers stripes status before after (Some new) =
     (are_limits callers stripes ≡ true) × (status ≡ done) × (after ≡ callers)

@@ -50,7 +50,7 @@ status_of (Busy holder) = busy
 status_of (Refused refusal) = refused refusal
 status_of other = 63
 
--- The word after an answer, which stays `before` if the answer has none to tell.
+-- The word after an answer: still `before` if the answer has no word.
 abbrev pub word_after : ℕ → Answer → ℕ
 word_after before (Done (Some value)) = value
 word_after before (Began transaction) = transaction

@@ -1,6 +1,6 @@
--- The effect of each call of a caller of a striped map, by its answer, in the words of the map's
--- contracts: the history that the caller has seen continues with entries of others, and then with
--- exactly these.
+-- The effect of each call of a striped map's caller, by the answer, in the words of the map's
+-- contracts: the history that the caller has seen continues with entries of other callers, and then
+-- with exactly the entries that are listed here.
 use Rattle.std.specs.Prelude.{◌≡◌, ℕ, ◌<◌, ◌≤◌, ◌%◌, ◌^◌, [], ◌∷◌, true, false, Option, Some, None, Result, Ok, Err, if◌then◌else◌}
 use Rattle.txn_words.specs.declared.entry.Entry.TheVariants.{Began, Asked, Did, Saved, Leave, Returned, Committed, Aborted}
 use Rattle.txn_words.specs.declared.op.Op.{Op}
@@ -40,14 +40,14 @@ Returns level a (Err stop) b = (stop ≡ Refused (if a.is_open then NoSuchLevel 
     × (a.is_open ≡ true → levels a < level) × (b ≡ a)
 
 -- The transaction is committed with a number, which is told modulo 2^64, and has the replies of
--- running alone after the commits before it; or there is none.
+-- running alone after the commits before it; or there is no transaction.
 abbrev pub Commits : Caller → Result ℕ Stop → Caller → Type 0
 Commits a (Ok found) b = (a.is_open ≡ true) × (b.is_open ≡ false)
     × (place : ℕ) × (found ≡ place % 2 ^ 64) × IsStep a (Committed (number a) place ∷ []) b
     × RunsAlone (number a) place (seen b)
 Commits a (Err stop) b = (stop ≡ Refused NotOpen) × (a.is_open ≡ false) × (b ≡ a)
 
--- All changes are taken back, and the transaction is over; or there is none.
+-- All changes are taken back, and the transaction is over; or there is no transaction.
 abbrev pub Aborts : Caller → Result Unit Stop → Caller → Type 0
 Aborts a (Ok nothing) b = (a.is_open ≡ true) × (b.is_open ≡ false)
     × IsStep a (Leave (number a) None ∷ undoing (number a) (changes a) (Aborted (number a))) b

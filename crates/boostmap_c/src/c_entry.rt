@@ -107,7 +107,7 @@ impl CEntry {
         None
     }
 
-    /// The Asked for its operation, if that exists.
+    /// The Asked entry of its operation, if that operation exists.
     fn asked(&self) -> Option<Entry>
         ensures { result ≡ asked_of self.now (op_of self.now) }
     {
@@ -117,7 +117,7 @@ impl CEntry {
         }
     }
 
-    /// The Busy on its operation, if that exists.
+    /// The Busy entry of its operation, if that operation exists.
     fn busy(&self) -> Option<Entry>
         ensures { result ≡ busy_of self.now (op_of self.now) }
     {
@@ -127,7 +127,7 @@ impl CEntry {
         }
     }
 
-    /// Its operation, if that exists.
+    /// Its operation, if `operation` names one.
     fn op(&self) -> Option<Op>
         ensures { result ≡ op_of self.now }
     {
@@ -146,7 +146,7 @@ impl CEntry {
         None
     }
 
-    /// A number that is there or not, by `has`.
+    /// This number if `has` is not 0, else none.
     fn optional(&self, number: u64) -> Option<u64>
         ensures { result ≡ optional self.now.has number }
     {

@@ -62,7 +62,7 @@ pub(crate) fn close(handle: &mut Handle, core: Box<Core, Global>)
     };
 }
 
-/// A value that may go to another thread.
+/// Answers this value, of a type that may go to another thread.
 pub(crate) fn sends<T: Send>(value: T) -> T
     ensures { result ≡ value }
 {

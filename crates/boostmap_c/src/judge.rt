@@ -82,7 +82,7 @@ fn close(handle: &mut Judge, referee: Box<Referee, Global>)
     };
 }
 
-/// The rule of a number, for a map with this number of stripes, if there is one.
+/// The rule that this number names, if there is such a rule for a map with this many stripes.
 fn way_for(stripes: u64, number: u32) -> Option<Way>
     ensures value { result ≡ way_for stripes number }
     ensures stripes { IfSome result (λ way. has_stripes way stripes) }

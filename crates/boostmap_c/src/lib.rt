@@ -36,8 +36,8 @@
 //! The word of a call that is done is a value; a transaction, level, commit or caller number; or a
 //! number of keys, pairs or entries. Some calls have none.
 //!
-//! On a striped map the transaction may hold more stripes than before after a refusal with
-//! `NoMemory`, and holds every stripe after a 7. A `boostmap_help` that is refused may have doubled
+//! On a striped map a refusal with `NoMemory` may leave the transaction with more stripes than
+//! before, and a 7 leaves it with every stripe. A `boostmap_help` that is refused may have doubled
 //! the table and initialised buckets.
 //!
 //! No export has a `requires`: a caller's number, a level or a limit that is out of range, a call

@@ -99,8 +99,8 @@ pub extern "C" fn boostmap_count(alloc: Global, map: &mut Handle, word: &mut u64
 ///
 /// # Cost
 ///
-/// At most 16 buckets, each with time in proportion to the nodes that are passed to its position;
-/// may take memory for each bucket's dummy and segment.
+/// At most 16 buckets, each with time in proportion to the nodes that the seek for it passes; may
+/// take memory for each bucket's dummy and segment.
 #[unsafe(no_mangle)]
 pub extern "C" fn boostmap_help(alloc: Global, map: &mut Handle, caller: u64, key: u64) -> u32
     ensures { HelpsWith map.old.held.core caller key result map.new.held.core }

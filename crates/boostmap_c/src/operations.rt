@@ -42,8 +42,8 @@ pub extern "C" fn boostmap_put(
     tell(answer, word)
 }
 
-/// Puts a value at a key that has none. The word is the value that the key has: if one is written,
-/// nothing was put.
+/// Puts a value at a key that has none. If the key has a value, nothing is put, and the word is
+/// that value.
 ///
 /// # Errors
 ///
@@ -75,8 +75,8 @@ pub extern "C" fn boostmap_put_if_absent(
     tell(answer, word)
 }
 
-/// Puts a value at a key that has the expected one. The word is the value before: if it is another
-/// value, or none is written, nothing was put.
+/// Puts a value at a key that has the expected value. The word is the value that the key had; if
+/// the key had another value or none, nothing is put.
 ///
 /// # Errors
 ///

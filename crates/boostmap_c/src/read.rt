@@ -49,8 +49,8 @@ pub extern "C" fn boostmap_read(
     lay_all(&listed, pairs, word)
 }
 
-/// Writes pairs to the front of an array, if it has room for them, and their number, and answers
-/// the status.
+/// Writes the number of these pairs, and, if the array has room for them, the pairs to its front.
+/// Answers the status.
 pub(crate) fn lay_all(listed: &[(u64, u64)], pairs: &mut [CPair], word: &mut u64) -> u32
     ensures { LaysOf listed.now result pairs.old pairs.new word.new }
 {

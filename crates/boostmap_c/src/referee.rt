@@ -1,6 +1,7 @@
-//! A checker of either rule, as the handle of a judge owns it. It is one type, since the pointer of
-//! a handle names one. It takes entries and not C's numbers, so its contracts speak only of
-//! checkers. The rule is chosen when it is made, and stays. A call costs what the checker's costs.
+//! The checker that a judge's handle owns: by locks, or by the order of commits. Both are one type,
+//! since the pointer of a handle names one type. A referee takes entries and not C's numbers, so
+//! its contracts speak only of checkers. Its rule is chosen when the referee is made, and never
+//! changes. A call costs as much as the same call of the checker.
 ghost use Rattle.std.specs.Prelude.{◌≡◌, ◌<◌, [], IfOk, OnOk, OnErr};
 ghost use Rattle.txn_words.specs.Kinds.{caller_of};
 ghost use Rattle.boostmap_c.specs.Referees.{IsFedBy, IsVerdictOf, Stays, TakesIn, has_stripes};

@@ -12,8 +12,8 @@ pub(crate) const DONE: u32 = 0;
 /// Done, at a key without a value.
 pub(crate) const ABSENT: u32 = 1;
 
-/// Another caller holds the key's stripe, or one of those that the call takes; the word is its
-/// number.
+/// Another caller holds the key's stripe, or one of the stripes that the call takes; the word is
+/// the number of that caller.
 pub(crate) const BUSY: u32 = 2;
 
 /// The handle owns nothing.
@@ -28,7 +28,7 @@ pub(crate) const SHORT: u32 = 7;
 /// The numbers stand for no entry of a caller below 64.
 pub(crate) const NO_ENTRY: u32 = 8;
 
-/// Every refusal's status is this and the refusal's number.
+/// The status of a refusal is this number plus the refusal's number.
 const REFUSED: u32 = 16;
 
 /// No call that C can make has this status.

@@ -108,8 +108,8 @@ pub extern "C" fn boostmap_striped_take(caller: &mut CallerHandle, key: u64, wor
     tell_reply(answer, word)
 }
 
-/// Puts a value at a key that has none. The word is the value that the key has: if one is written,
-/// nothing was put.
+/// Puts a value at a key that has none. If the key has a value, nothing is put, and the word is
+/// that value.
 ///
 /// # Errors
 ///
@@ -139,8 +139,8 @@ pub extern "C" fn boostmap_striped_put_if_absent(
     tell_reply(answer, word)
 }
 
-/// Puts a value at a key that has the expected one. The word is the value before: if it is another
-/// value, or none is written, nothing was put.
+/// Puts a value at a key that has the expected value. The word is the value that the key had; if
+/// the key had another value or none, nothing is put.
 ///
 /// # Errors
 ///

@@ -1,7 +1,7 @@
 //! The content of a striped map, in a transaction that takes every stripe. These are the only calls
 //! that look at the whole map. Each takes time in proportion to the stripes; the read also walks
-//! over each stripe's hash map, and sorts the pairs. After one that is done, and after a 7, no
-//! operation of another caller is done until the transaction ends.
+//! over each stripe's hash map, and sorts the pairs. After a call that answers 0 or 7, the
+//! transaction holds every stripe: until it ends, no operation of another caller is done.
 ghost use Rattle.boostmap_c.specs.Members.{Numbers};
 ghost use Rattle.boostmap_c.specs.StripedContents.{Counts, ReadsMap};
 

@@ -46,7 +46,7 @@ Consumes-then (Some us) None c xs ys p q = absurd p
 Consumes-then (Some us) (Some vs) None xs ys p q = absurd q
 Consumes-then (Some us) (Some vs) (Some ws) xs ys p q = p ∙ ap (λ (s : List ℕ). xs ++ s) q ∙ sym (append_assoc xs ys ws)
 
--- The input was read to its end, which came no later than the limit on what is read.
+-- The input was read to its end, and at most `m` bytes were read.
 pub read_to_end : (a b c : Option (List ℕ)) (xs : List ℕ) (m : ℕ) → Consumes a b xs → Consumes b c [] → IsAtEnd c → length xs ≤ m → IfSome a (λ all. xs ≡ take m all)
 read_to_end None b c xs m p q end le = tt
 read_to_end (Some us) None c xs m p q end le = absurd p

@@ -30,7 +30,7 @@ part_written a b c whole done left piece rest is is_left before part =
       rw begins (Appends-then a b c done (take part.0 piece) before part.2),
     )
 
--- An empty piece is the end.
+-- If the next piece is empty, nothing is left to write.
 pub nothing_left : (found : Bool) (left piece rest : List ℕ) (n : ℕ) → found ≡ false → IsTrue found ↔ (0 < length piece) → (rest ≡ []) ⊎ (n < length piece) → left ≡ piece ++ rest → left ≡ []
 nothing_left found left [] rest n is some (inl none) whole = whole ∙ none
 nothing_left found left [] rest n is some (inr full) whole = absurd (omega (arith, full))
@@ -48,7 +48,7 @@ pub if_err : {A E : Type 0} (r : Result A E) (P Q : E → Type 0) → ((e : E) �
 if_err (Ok x) P Q f h = tt
 if_err (Err e) P Q f h = f e h
 
--- The output after writing a text of the bytes that were read.
+-- The output after a fault in writing a text of the bytes that were read.
 pub leaves_of : (IsTextOf : List ℕ → List ℕ → Type 0) (IsRefused : List ℕ → FileFault → Type 0) (remaining old new : Option (List ℕ)) (bytes text : List ℕ) → IsRead remaining bytes → IsTextOf bytes text → (fault : Fault) → LeavesText old new text fault → Leaves IsTextOf IsRefused remaining old new fault
 leaves_of IsTextOf IsRefused remaining old new bytes text read is faults.Write h = (bytes, text, read, is, h)
 leaves_of IsTextOf IsRefused remaining old new bytes text read is faults.NoMemory h = h

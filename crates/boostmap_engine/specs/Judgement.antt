@@ -19,7 +19,7 @@ abbrev pub says_legal : Verdict → Bool
 says_legal (Legal commits running) = true
 says_legal (Illegal entry rule) = false
 
--- The verdict on the history that the bytes are, which is legal exactly if the history is.
+-- The verdict on the history that the bytes are. The verdict is legal exactly if the history is.
 pub record IsJudged (bytes : List ℕ) (outcome : Verdict) : Type 0 where
   pub stripes : ℕ
   pub history : List Entry

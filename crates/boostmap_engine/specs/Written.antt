@@ -6,7 +6,8 @@ use Rattle.txn_files.specs.Reading.{max_read}
 use Rattle.boostmap_engine.specs.declared.fault.Fault.{Fault}
 use Rattle.boostmap_engine.specs.declared.fault.Fault.TheVariants as faults
 
--- The bytes that a reader had left, but at most one more than a file may have.
+-- The bytes that a reader had left, but only the first `max_read` of them, which is one byte more
+-- than a file may have.
 abbrev pub IsRead : Option (List ℕ) → List ℕ → Type 0
 IsRead remaining bytes = IfSome remaining (λ all. bytes ≡ take max_read all)
 

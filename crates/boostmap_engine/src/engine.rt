@@ -30,9 +30,9 @@ use std::io::{Read, Write};
 ///
 /// - `Read` if a read fails.
 /// - `Input` if the file is refused.
-/// - `NoMemory` if memory is refused outside a step, but not if it is only for the room in the
-///   history that is made beforehand. A step that is refused memory is answered `refused 14` and
-///   changes nothing.
+/// - `NoMemory` if memory is refused outside a step. Room in the history is made before the first
+///   step; if only that room is refused, the run goes on. A step that is refused memory is
+///   answered `refused 14` and changes nothing.
 /// - `Write` if a write fails or takes nothing: a proper beginning of the report is written.
 ///
 /// # Cost
@@ -88,9 +88,9 @@ pub fn check<R: Read, W: Write>(alloc: Global, input: &mut R, output: &mut W) ->
 /// the seed says, and writes the history as one line of compact JSON, which ends with a line feed.
 ///
 /// Before each turn the generator `Pcg32` of this seed draws its next word, even if only one worker
-/// still has a step to take. The word modulo the number of such workers is the place, from 0 in
-/// rising order, of the one that takes its next turn. So, if no step is refused memory, the same
-/// file and seed give the same bytes.
+/// still has a step to take. The workers that still have a step to take get places from 0, in
+/// rising order; the turn goes to the worker whose place is the word modulo the number of these
+/// workers. So, if no step is refused memory, the same file and seed give the same bytes.
 ///
 /// At most 16,777,217 bytes are read. No call of the reader or the writer is repeated after it
 /// failed.

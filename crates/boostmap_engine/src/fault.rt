@@ -85,7 +85,7 @@ impl Fault {
         Message { fault: self }
     }
 
-    /// The exit status of the program: 2 for `Usage`, 3 for `Input`, 4 for every other.
+    /// The exit status of the program: 2 for `Usage`, 3 for `Input`, 4 for every other fault.
     ///
     /// # Cost
     ///

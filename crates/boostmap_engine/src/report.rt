@@ -16,11 +16,12 @@ use txn_trace::{Limits, PackedStep};
 /// The estimated length of an answer's line, in bytes, by which room for all lines is made at once.
 const ANSWER: usize = 8;
 
-/// When the number of steps left is a multiple of this, the memory of those taken is given back.
+/// When the number of steps left is a multiple of this number, the memory of the steps that were
+/// taken is given back.
 const BLOCK: usize = 16_384;
 
-/// Gives back the memory of the steps that were taken, if the number of those left is a multiple of
-/// a block.
+/// Gives back the memory of the steps that were taken, if the number of steps left is a multiple of
+/// `BLOCK`.
 fn give_back(steps: &mut Vec<PackedStep>)
     ensures { steps.new.items ≡ steps.old.items }
 {
@@ -93,13 +94,13 @@ fn text_of_run(alloc: Global, limits: Limits, steps: Vec<PackedStep>) -> Result<
     Ok(text)
 }
 
-/// The report of the steps that the bytes are, run on a new core, which takes only keys below 2^63
-/// if the file is of version 1. The bytes are dropped before the first step is taken.
+/// The report of the steps that the bytes are, run on a new core. If the file is of version 1, the
+/// core takes only keys below 2^63. The bytes are dropped before the first step is taken.
 ///
 /// # Errors
 ///
-/// `Input` if the bytes are no step file; `NoMemory` if memory is refused outside a step, but not
-/// if it is only for the room in the history that is made beforehand.
+/// `Input` if the bytes are no step file; `NoMemory` if memory is refused outside a step. Room in
+/// the history is made before the first step; if only that room is refused, the run goes on.
 ///
 /// # Cost
 ///

@@ -21,7 +21,8 @@ use Rattle.boostmap_engine.specs.declared.fault.Fault.TheVariants as faults
 use Rattle.boostmap_engine.specs.Written.{IsRead, LeavesText}
 use Rattle.boostmap_program.specs.Threaded.{IsThreadedOf, LeavesThreaded}
 
--- The result of a run on the parts of a file's work.
+-- If a run has the limits, workers, tries, stripes and scripts of a file's work, the line of its
+-- history is a text of the file (`IsThreadedOf`).
 pub threaded_is : (bytes : List ℕ) (work : Work) (limits : Sizes) (workers tries stripes : ℕ) (scripts : List (List Action)) (outcomes : List Outcome) (trace : List Entry) → scripts_of bytes ≡ Ok work
     → limits ≡ work.sizes → workers ≡ limits.callers → tries ≡ work.tries → stripes ≡ limits.stripes → scripts ≡ work.scripts
     → HasRunScripts limits workers tries scripts outcomes trace → IsThreadedOf bytes (line (text_of_history 3 stripes trace))
@@ -70,11 +71,11 @@ few_in : (file : Result (ℕ × List ℕ × List (List Action)) FileFault) (work
 few_in (Err fault) work is = absurd (cc is)
 few_in (Ok f) work is = few_from f.0 f.1 f.2 work is
 
--- A script file has at most the greatest number of tries.
+-- The tries that a script file asks for are at most 1,000.
 pub few_tries : (bytes : List ℕ) (work : Work) → scripts_of bytes ≡ Ok work → work.tries ≤ 1000
 few_tries bytes work is = few_in (contents script_file bytes) work is
 
--- The output after writing a history of the bytes that were read.
+-- The output after a fault in writing a history of the bytes that were read.
 pub leaves_threaded : (remaining old new : Option (List ℕ)) (bytes text : List ℕ) → IsRead remaining bytes → IsThreadedOf bytes text → (fault : Fault) → LeavesText old new text fault → LeavesThreaded remaining old new fault
 leaves_threaded remaining old new bytes text read is faults.Write h = (bytes, text, read, is, h)
 leaves_threaded remaining old new bytes text read is faults.NoMemory h = h

@@ -15,8 +15,8 @@ use std::sync::Wait;
 use std::thread::Threads;
 use unthreaded_program::{Ending, end, open};
 
-/// Runs the engine of a command on its open file. Answers whether all is well: it is unless a
-/// history is illegal.
+/// Runs the engine of a command on its open file. Answers whether all is well: `false` only if
+/// `check` finds its history illegal.
 fn run_command<T: Threads + Wait + Sync, R: Read, W: Write>(
     rt: &T,
     alloc: Global,

@@ -31,9 +31,9 @@ struct ThreadedHistory {
 ///
 /// # Errors
 ///
-/// `Input` if the bytes are no script file; `NoMemory` if memory is refused outside a call, but not
-/// if it is only for room that is made beforehand; `NoThread` if a thread could not be started;
-/// `OutOfStep` if the history is not what the workers saw.
+/// `Input` if the bytes are no script file; `NoMemory` if memory is refused outside a call;
+/// `NoThread` if a thread could not be started; `OutOfStep` if the history is not what the workers
+/// saw. If only room that is made beforehand is refused, the run goes on.
 ///
 /// # Cost
 ///
@@ -95,8 +95,8 @@ fn fault_of(refusal: Refusal) -> Fault
 ///
 /// - `Read` if a read fails.
 /// - `Input` if the file is refused.
-/// - `NoMemory` if memory is refused outside a call, but not if it is only for room that is made
-///   beforehand. A call that is refused memory ends its script as refused.
+/// - `NoMemory` if memory is refused outside a call. If only room that is made beforehand is
+///   refused, the run goes on. A call that is refused memory ends its script as refused.
 /// - `NoThread` if a thread could not be started; the workers that were started finish.
 /// - `OutOfStep` if the history is not what the workers saw.
 /// - `Write` if a write fails or takes nothing: a proper beginning of the line is written.

@@ -21,7 +21,7 @@ pub either : (b : Bool) → (b ≡ true) ⊎ (b ≡ false)
 either true = inl refl
 either false = inr refl
 
--- A statement about each node holds after a seek.
+-- A statement that holds of all nodes holds of all nodes that a seek leaves.
 each_cleaned : (P : NodeAt → Type 0) (at : SortKey) (nodes : List NodeAt) → AllByRecursion P nodes → AllByRecursion P (cleaned at nodes)
 unfolding cleaned
 each_cleaned P at [] each = tt
@@ -131,7 +131,7 @@ has_dummy-sought (n ∷ rest) from at bucket plain = elim (eqb_tells n.place fro
   | inr past ↦ rw past.0 (ap (λ b. is_dummy_of bucket n || b) (has_dummy-sought rest from at bucket plain.1))
 ]
 
--- A new dummy is that of its bucket, and of no other.
+-- A new dummy is the dummy of its bucket, and of no other bucket.
 pub is_dummy_of-dummy_node : (place bucket stamp other : ℕ) → bucket < 2 ^ 32 → other < 2 ^ 32 → is_dummy_of other (dummy_node place bucket stamp) ≡ (bucket == other)
 is_dummy_of-dummy_node place bucket stamp other fits other_fits = elim (eqb_tells bucket other) [
   | inl same ↦ rw same.0 (is_dummy_true other (dummy_node place bucket stamp) refl (ap dummy_at same.1))
@@ -152,7 +152,7 @@ dummy_there n bucket fits keyed same = go n.kind refl
         let parity : split n.at.key ≡ reversed bucket = ap (λ (at : SortKey). at.split) (sym own ∙ same) in
         absurd (omega (arith, odd, even, parity))
 
--- A dummy is no regular node.
+-- A dummy is no regular node, so `IsKeyedNode` holds of it.
 pub keyed_dummy : (n : NodeAt) → n.kind ≡ Dummy → IsKeyedNode n
 keyed_dummy n dummy regular = absurd (cc (sym dummy ∙ regular))
 

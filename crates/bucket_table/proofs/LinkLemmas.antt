@@ -58,7 +58,7 @@ module _ (before middle after : Listing) (pred bucket place stamp : ℕ) where
             ap (λ ns. has_dummy ns other) links.takes.nodes ∙ more ∙ ap (λ b. b || has_dummy middle.nodes other) own ∙ ap (λ ns. (bucket == other) || has_dummy ns other) given.nodes;
       }
 
--- If a cursor finds a node, it is the bucket's dummy.
+-- If the cursor of a bucket's dummy finds a node, the node is that dummy.
 pub there_dummy : (l : Listing) (cursor : Cursor) (bucket place : ℕ) → bucket < 2 ^ 32 → IsKeyed l.nodes → at_of cursor ≡ dummy_at bucket → IsThere l cursor place → IsDummyAt l.nodes place bucket
 there_dummy l cursor bucket place fits keyed sought there =
     let same = there.at ∙ sought in
@@ -72,7 +72,7 @@ there_dummy l cursor bucket place fits keyed sought there =
 pub there_had : (l : Listing) (bucket place : ℕ) → IsDummyAt l.nodes place bucket → has_dummy l.nodes bucket ≡ true
 there_had l bucket place dummy = dummy_had l.nodes place bucket dummy.node dummy.is dummy.kind dummy.at
 
--- If a cursor finds no node, the dummy is not linked.
+-- If the cursor of a bucket's dummy finds no node, that dummy is not linked.
 pub absent_not_had : (l : Listing) (cursor : Cursor) (bucket : ℕ) → at_of cursor ≡ dummy_at bucket → IsAbsent l cursor → has_dummy l.nodes bucket ≡ false
 absent_not_had l cursor bucket sought absent =
     let P : SortKey → Type 0 = λ s. AllByRecursion (λ n. n.at ≢ s) l.nodes in

@@ -21,7 +21,7 @@ entry_past limit row bucket beyond = get_or_past (entries_of limit row) bucket N
 pub within_limit : (limit : ℕ) (row : List (Option (List (Option ℕ)))) (bucket : ℕ) (entries : List (Option ℕ)) → entries_of limit row ≡ entries → bucket < length entries → bucket < limit
 within_limit limit row bucket entries is below = let same = ap length is in omega (arith, same, entries_length limit row, below)
 
--- The segment of a bucket is one of the row.
+-- The row has a place for the segment of each bucket below the limit.
 pub segment_within : (limit bucket long : ℕ) → bucket < limit → limit ≤ 64 * long → bucket / 64 < long
 segment_within limit bucket long within fits = omega (arith, within, fits)
 
@@ -72,7 +72,7 @@ module _ (limit : ℕ) (row : List (Option (List (Option ℕ)))) (bucket : ℕ) 
             | inr beyond ↦ absurd (omega (arith, inside, beyond))
           ]
 
-  -- The changed row is a row.
+  -- The changed row is still just long enough, and has no segment without a stored bucket.
   pub row_set : IsRow limit row → IsRow limit changed
   row_set is = record {
     long = let same = length-set row (bucket / 64) (Some segment) in omega (arith, same, long);
@@ -132,7 +132,7 @@ row_missing limit count long no_longer fits = record {
   used = λ segment there. absurd (let no : false ≡ true = sym (ap is_some (none_in count segment)) ∙ there in cc);
 }
 
--- The entries of such a row.
+-- All entries of a row of missing segments are `None`.
 pub entries_missing : (limit count : ℕ) → entries_of limit (replicate count None) ≡ replicate limit None
 entries_missing limit count = ext_get_or None _ _ (entries_length limit (replicate count None) ∙ sym (length-replicate limit None)) each
   where
@@ -141,7 +141,7 @@ entries_missing limit count = ext_get_or None _ _ (entries_length limit (replica
         entry_at limit (replicate count None) i (omega (arith, below, entries_length limit (replicate count None)))
         ∙ ap (λ (o : Option (List (Option ℕ))). slice_index_or (held_by o) (i % 64) None) (none_in count (i / 64)) ∙ sym (none_in limit i)
 
--- The segment of a row, from a read of it.
+-- The value read from the row for a bucket is the bucket's segment, or `None` if it is missing.
 pub segment_read : (row : List (Option (List (Option ℕ)))) (bucket : ℕ) (limit : ℕ) (old : Option (List (Option ℕ))) → bucket < limit → limit ≤ 64 * length row → old ≡ slice_index_or row (bucket / 64) old → old ≡ slice_index_or row (bucket / 64) None
 segment_read row bucket limit old within long is = get_or_read row (bucket / 64) old (segment_within limit bucket (length row) within long) is None
 

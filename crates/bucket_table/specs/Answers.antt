@@ -23,8 +23,8 @@ seek_answer size stored (Some help) bucket =
     else (if stored (parent_of bucket) then Ok Placed
     else Err ParentMissing))
 
--- The answer to a link if memory lasts, from whether the helper's cursor fits, which dummies are
--- linked, the last stamp and the helper's state.
+-- The answer to a link if memory lasts. It depends on whether the helper's cursor fits, on which
+-- dummies are linked, on the last stamp and on the helper's state.
 abbrev pub link_answer : Bool → (ℕ → Bool) → ℕ → Option Help → Result InitLink InitRefusal
 link_answer fitting linked last None = Err NoSuchHelper
 link_answer fitting linked last (Some Nothing) = Err HelperOutOfOrder

@@ -18,9 +18,9 @@ use Rattle.bucket_table.specs.Directory.{Directory, dummy_of, helper_of, with_he
 use Rattle.bucket_table.specs.Dummies.{IsDummyAt}
 use Rattle.bucket_table.specs.Links.{LinksAt}
 
--- The helper has a cursor for the bucket's dummy, sought from the dummy of the bucket's parent: the
--- marked nodes between there and the position are unlinked, and no others. The change number grows
--- by one for each, up to 2^64 - 1.
+-- The helper has a cursor for the bucket's dummy. The seek began at the dummy of the bucket's
+-- parent, and unlinked exactly the marked nodes between this dummy and the position found. The
+-- change number grows by one for each of these nodes, up to 2^64 - 1.
 pub record Seeks (old new : Directory) (before after : Listing) (helper bucket : ℕ) : Type 0 where
   pub cursor : Cursor
   pub now : new ≡ with_helper old helper (Seeking bucket cursor)
@@ -69,7 +69,8 @@ LinkChanges old new before after helper (Ok Present) = Holds old new after helpe
 LinkChanges old new before after helper (Ok Linked) = LinksDummy old new before after helper
 LinkChanges old new before after helper (Err refusal) = (new ≡ old) × (after ≡ before)
 
--- The dummy that the helper had is stored as its bucket's, and the helper is idle.
+-- The dummy that the helper had is stored as the dummy of the helper's bucket, and the helper is
+-- idle.
 pub record Stores (old new : Directory) (helper : ℕ) : Type 0 where
   pub bucket : ℕ
   pub place : ℕ

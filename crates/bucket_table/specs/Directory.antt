@@ -5,8 +5,8 @@ use Rattle.split_key.specs.Split.{parent_of, ancestor_of, IsPowerOfTwo}
 use Rattle.bucket_table.specs.declared.helper.Helper.{Helper}
 use Rattle.bucket_table.specs.declared.helper.Helper.TheVariants.{Idle, Seeking, Holding}
 
--- The size, the place of the dummy of each stored bucket, and each helper's state. There are as
--- many entries as the largest size.
+-- The size, the place of the dummy of each stored bucket, and each helper's state. The number of
+-- entries is the largest size.
 pub record Directory : Type 0 where
   pub size : ℕ
   pub entries : List (Option ℕ)
@@ -40,7 +40,7 @@ beginning limit helpers head = record {
 abbrev pub with_helper : Directory → ℕ → Helper → Directory
 with_helper d helper now = record d { helpers = slice_set d.helpers helper now }
 
--- The buckets with this one stored, its dummy at this place.
+-- The buckets, with this bucket stored and its dummy at this place.
 abbrev pub with_dummy : Directory → ℕ → ℕ → Directory
 with_dummy d bucket place = record d { entries = slice_set d.entries bucket (Some place) }
 
@@ -54,7 +54,7 @@ pub record IsReady (d : Directory) (bucket : ℕ) : Type 0 where
   pub above : 0 < bucket
   pub parent : is_stored d (parent_of bucket) ≡ true
 
--- The bucket that a helper is at may be stored.
+-- The bucket of a helper, if the helper has one, may be stored.
 abbrev pub IsInOrder : Directory → Helper → Type 0
 IsInOrder d Idle = Unit {0}
 IsInOrder d (Seeking bucket cursor) = IsReady d bucket
@@ -73,7 +73,7 @@ pub record IsSound (d : Directory) : Type 0 where
       → is_stored d (parent_of bucket) ≡ true
   pub helpers : All (IsInOrder d) d.helpers
 
--- The place is that of the dummy of the nearest stored bucket among this one, its parent, the
+-- The dummy at this place belongs to the nearest stored bucket among this bucket, its parent, the
 -- parent's parent and so on.
 pub record IsNearest (d : Directory) (bucket place : ℕ) : Type 0 where
   pub steps : ℕ

@@ -32,7 +32,7 @@ pub record IsDummyAt (nodes : List NodeAt) (place bucket : ℕ) : Type 0 where
   pub kind : node.kind ≡ Dummy
   pub at : node.at ≡ dummy_at bucket
 
--- A dummy that is not behind a bucket's is linked at this place.
+-- A dummy is linked at this place, and is not behind the position of the bucket's dummy.
 pub record IsBeforeBucket (nodes : List NodeAt) (place bucket : ℕ) : Type 0 where
   pub node : NodeAt
   pub is : node_of nodes place ≡ Some node

@@ -22,8 +22,8 @@ holding_of Idle = Err HelperOutOfOrder
 holding_of (Seeking bucket cursor) = Err HelperOutOfOrder
 holding_of (Holding bucket dummy) = Ok (bucket, dummy)
 
--- The state of a helper as answers see it: nothing, a cursor for the dummy of a bucket with the
--- change number when it was placed, or the dummy of a bucket.
+-- The state of a helper as answers see it: it has nothing; a cursor for the dummy of a bucket, with
+-- the change number at which the cursor was placed; or the dummy of a bucket.
 pub data Help : Type 0 where
   Nothing : Help
   Sought : ℕ → ℕ → Help

@@ -41,8 +41,8 @@ pub enum InitRefusal {
     NoSuchHelper,
     /// The helper has no cursor to link at, or no dummy to store.
     HelperOutOfOrder,
-    /// Memory was refused, for the list to grow by the dummy or for the bucket's segment; or the
-    /// list has no place left for the dummy.
+    /// Memory was refused for the dummy's node or for the bucket's segment, or the list has no
+    /// place left for the dummy.
     NoMemory,
     /// No stamp is left for the dummy: the list's last one is 2^64 - 2.
     StampsUsedUp,

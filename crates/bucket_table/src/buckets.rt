@@ -53,8 +53,8 @@ impl Buckets {
     ghost use Rattle.bucket_table.specs.Answers.{seek_answer, link_answer_at, store_answer, double_answer};
     ghost use Rattle.bucket_table.specs.Changes.{SeekChanges, LinkChanges, StoreChanges, after_double};
 
-    /// Two buckets, the first of them stored with the list's first node, and idle helpers. `max` is
-    /// the largest size, in buckets.
+    /// Two buckets and idle helpers. Only bucket 0 is stored; its dummy is the list's first node.
+    /// `max` is the largest size, in buckets.
     ///
     /// # Errors
     ///
@@ -176,8 +176,8 @@ impl Buckets {
     }
 
     /// Seeks the position of a bucket's dummy, from the dummy of its parent, and gives the helper a
-    /// cursor there, in place of whatever it had. A bucket that is stored is `Ready`, and leaves
-    /// the helper idle.
+    /// cursor there, in place of whatever it had. If the bucket is stored already, answers `Ready`,
+    /// and the helper is idle.
     ///
     /// The seek unlinks the marked nodes that it passes. The content of the list is unchanged.
     ///
@@ -227,7 +227,7 @@ impl Buckets {
         Ok(InitSeek::Placed)
     }
 
-    /// `init_link` at the bucket and the cursor of the helper.
+    /// Does `init_link` for a helper that has this bucket and this cursor.
     fn link_at(
         &mut self,
         list: &mut NodeList,
@@ -299,8 +299,8 @@ impl Buckets {
         self.link_at(list, helper, bucket, cursor)
     }
 
-    /// Stores a helper's dummy as that of its bucket, even if the bucket was stored meanwhile; the
-    /// helper is then idle.
+    /// Stores a helper's dummy as the dummy of the helper's bucket, even if the bucket was stored
+    /// meanwhile; the helper is then idle.
     ///
     /// # Errors
     ///
@@ -351,7 +351,7 @@ impl Buckets {
     }
 }
 
-/// Links the dummy of a bucket behind a node, at its position.
+/// Links the dummy of a bucket behind `pred`, the node before the dummy's position.
 fn link_dummy(list: &mut NodeList, pred: NodeRef, bucket: u32) -> Result<NodeRef, InitRefusal>
     requires { IsVacant list.old.nodes pred (dummy_at bucket) }
     ensures ok { IfOk result (λ place. LinksAt list.old list.new pred bucket place) }

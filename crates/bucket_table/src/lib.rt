@@ -10,11 +10,11 @@
 //! links the dummy there unless it is linked already, and stores it.
 //!
 //! Beside the list the buckets are a row of segments, each with the entries of 64 buckets. A
-//! segment is there exactly if one of its buckets is stored: the first from the beginning, and each
-//! other one from the first store of one of its buckets on. That store takes the memory for the
-//! segment, unless some is left that `Buckets::with_capacity` took before. A contract sees the row
-//! as the flat array of its entries. In this example the size is 4, the keys are 1 to 5, and all
-//! buckets but bucket 2 are stored. The list is in the order that `split_key` draws:
+//! segment is there exactly if one of its buckets is stored: the first segment from the beginning,
+//! and every other segment once any of its buckets is stored. The store that makes a segment takes
+//! the memory for it, unless memory is left that `Buckets::with_capacity` took before. A contract
+//! sees the row as the flat array of its entries. In this example the size is 4, the keys are 1 to
+//! 5, and all buckets but bucket 2 are stored. The list is in the order that `split_key` draws:
 //!
 //! ```text
 //!     buckets            list         bucket of the key
@@ -37,10 +37,11 @@
 //! helper's state. For every value of `Buckets` the size and the largest size are powers of two,
 //! and no bucket is stored before its parent (`IsSound`). Buckets are *at home* on their list
 //! (`IsHome`) if each stored bucket, and each helper that has a dummy, names the linked dummy of
-//! its bucket, and each helper's cursor was placed on the list for its bucket's dummy; each call
-//! keeps that, and so does any change of the list (`still_home`). Each answer but `NoMemory` is a
-//! function of the state before the call (`Answers`), a refused call changes nothing, and no call
-//! changes the content of the list. A doubling changes only the size: no node moves.
+//! its bucket, and each helper's cursor was placed on the list for its bucket's dummy. Each
+//! call keeps the buckets at home, and so does any change of the list (`still_home`). Each answer
+//! but `NoMemory` is a function of the state before the call (`Answers`), a refused call changes
+//! nothing, and no call changes the content of the list. A doubling changes only the size: no node
+//! moves.
 //!
 //! Calls take constant time and no memory unless they say otherwise. `Buckets::new` and
 //! `Buckets::with_capacity` take memory, and so may `Buckets::init_link`, for a new dummy, and

@@ -30,7 +30,7 @@ impl Model for Segment {
 }
 
 impl Segment {
-    /// A segment with this dummy at one place and no other, in this memory.
+    /// A segment in this memory, with this dummy at this place and no dummy at any other place.
     fn new(memory: Vec<PackedRef>, place: usize, dummy: NodeRef) -> Result<Self, AllocError>
         requires { place < 64 }
         ensures { IfOk result (λ segment. Puts None (Some segment) place dummy) }

@@ -34,7 +34,7 @@ impl fmt::Display for NoCall {
 
 impl Error for NoCall {}
 
-/// Memory that is refused is `NoMemory`, so that `?` converts it.
+/// Refused memory becomes `NoMemory`; `?` does this conversion.
 impl From<AllocError> for NoCall {
     ghost from_gives = { λ _ reason. reason ≡ NoMemory };
 

@@ -1,6 +1,6 @@
-//! The command line, by the rules of `clap`: the call that the words ask for, or that they ask for
-//! none. No file is opened here; a call borrows the name of its file from the words. Each command
-//! is made and added separately, which keeps the proof of `all_commands` cheap.
+//! Reads the command line by the rules of `clap`: finds the call that the words ask for, if they
+//! are a call. No file is opened here; a call borrows the name of its file from the words. Each
+//! command is made and added separately, which keeps the proof of `all_commands` cheap.
 ghost use Rattle.std.specs.Prelude.{◌≡◌, ◌⊎◌, Some, None, false, IfOk, IfErr, codes, map, option_map};
 ghost use Rattle.std.specs.String.{string_bytes};
 ghost use Rattle.clap.specs.Words.{found_of, rows_of, rule_of};
@@ -131,7 +131,8 @@ fn call_named<'a>(name: &str, found: &ArgMatches<'a>) -> Option<Call<'a>>
 /// # Errors
 ///
 /// - `NoMemory` if memory is refused.
-/// - Otherwise `Usage`, exactly if the words are no call of the program, also if they ask for help.
+/// - Otherwise `Usage`, exactly if the words are no call of the program. Words that ask for help
+///   are no call.
 ///
 /// # Cost
 ///

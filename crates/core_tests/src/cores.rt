@@ -150,7 +150,7 @@ const EACH_KIND: [(Call, Answer); 17] = [
 ];
 
 /// Plain aborts. They are refused if there is no transaction or no such caller, and on the way to a
-/// level. On the way to the end, after a busy operation or a step `abort`, they continue.
+/// level. After a busy operation or a step `abort`, on the way to the end, they finish the abort.
 const ABORTS: [(Call, Answer); 15] = [
     (Call::Abort(0), Answer::Refused(Refusal::NotOpen)),
     (Call::Abort(3), Answer::Refused(Refusal::NoSuchCaller)),
@@ -195,8 +195,8 @@ const SWEEPS_AND_CURSORS: [(Call, Answer); 20] = [
     (Call::Run(Step::InitLink(0)), Answer::Linked),
 ];
 
-/// The transaction of `examples/keys_of_64_bits.json`, by calls, and committed: a put that expects
-/// another value puts nothing.
+/// The transaction of `examples/keys_of_64_bits.json`, made by calls and committed. A `PutIf` that
+/// expects another value puts nothing.
 const WIDE_KEYS: [(Call, Answer); 9] = [
     (Call::Step(Step::Begin(0)), Answer::Began(1)),
     (
@@ -218,7 +218,7 @@ const WIDE_KEYS: [(Call, Answer); 9] = [
     (Call::Step(Step::Commit(0)), Answer::Committed(1)),
 ];
 
-/// The pairs that they leave: keys that share a split key are ordered by their numbers.
+/// The pairs that `WIDE_KEYS` leaves: keys that share a split key are in rising order.
 const WIDE_PAIRS: [(u64, u64); 4] = [
     (2, 20),
     (1, 12),
@@ -478,8 +478,8 @@ fn put_and_undo_nine(rt: &impl Abort, alloc: Global, core: &mut Core) -> Result<
     has_pairs(rt, alloc, core, &[])
 }
 
-/// Nine changes of one transaction, one more than the caller's log has places for in itself. Each
-/// step back takes the newest key out, and leaves those before it.
+/// Takes back nine changes of one transaction. The caller's log itself has places for eight. Each
+/// step back takes the newest key out, and leaves the earlier keys.
 #[test]
 fn nine_undone_newest_first(rt: HostRuntime) -> Result<(), Fail> {
     let alloc = rt.alloc();
@@ -521,8 +521,9 @@ fn owed_entries(rt: HostRuntime) -> Result<(), Fail> {
     owed_are(&rt, &mut core_of(&rt, rt.alloc(), 2), &OWED)
 }
 
-/// Rows of a key, the size after the call for help with it, and its bucket. The call doubles a
-/// table with more than two keys for each bucket, and initialises the bucket of its key.
+/// Each row has a key, the table's size after the call for help with the key, and the key's bucket.
+/// The call doubles a table with more than two keys for each bucket, and initialises the key's
+/// bucket.
 static HELPED: [(u64, u32, u64); 9] = [
     (0, 2, 0),
     (1, 2, 1),
@@ -568,8 +569,8 @@ fn put_helped(rt: &impl Abort, core: &mut Core, keys: u64) -> Result<(), Fail> {
     Ok(())
 }
 
-/// 30,000 keys with help before each put, each sought from its bucket: without help each seek would
-/// walk over all keys.
+/// Puts 30,000 keys, with help before each put, so that a seek begins at the bucket of its key.
+/// Without help each seek would walk over all keys.
 fn helped_table_stays_fast(rt: &impl Abort, core: &mut Core) -> Result<(), Fail> {
     begin(rt, core)?;
     put_helped(rt, core, 30_000)?;

@@ -1,6 +1,7 @@
 //! The calls of a core, each in a function without a contract, so that a test has only its own
-//! safety to prove. All modules that run a core share them, so each call is proved once. A call
-//! whose contract excludes stripes that are words checks this first: if they are, the test fails.
+//! safety to prove. All modules that run a core share them, so each call is proved once. If the
+//! contract of a call excludes stripes that are words, its function first checks that the stripes
+//! are not words, and the test fails if they are.
 use boost_core::Core;
 use std::alloc::{AllocError, Global};
 use std::process::Abort;

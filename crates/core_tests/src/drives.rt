@@ -32,11 +32,11 @@ enum Turns {
     One(Step, Answer),
     /// A turn of this step at a size of the table that is not 4.
     At(u32, Step, Answer),
-    /// This number of times, a turn of a seek that is placed, and one of a step that does not fit
-    /// there.
+    /// This number of times two turns: a turn of the first step, a seek that is placed, and a turn
+    /// of the second step, whose position no longer fits.
     Again(u32, Step, Step),
-    /// This number of times, at this size of the table, a turn of two steps, the first of which is
-    /// placed, and the second has this answer.
+    /// This number of times, at this size of the table, a turn of two steps: the answer to the
+    /// first step is `placed`, and the second step has this answer.
     Both(u32, u32, Step, Step, Answer),
 }
 
@@ -338,7 +338,7 @@ const LOST_HELP: &[Turns] = &[
     ),
 ];
 
-/// Helpers; with half keys the first key that is refused is 2^63, before any step.
+/// Helpers. With half keys, help with a key from 2^63 on is refused before any step.
 const HELPERS: [Row; 10] = [
     (5, Call::Help(3), false, OVER_ANCESTORS, End::Helped),
     (0, Call::Help(0xb01b), false, PAST_READY, End::Helped),

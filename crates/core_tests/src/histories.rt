@@ -55,7 +55,7 @@ fn plain_at(entries: &[Entry], place: usize, bad: Option<(usize, Rule)>) -> Verd
     }
 }
 
-/// Checks that this is the verdict on the first of these entries.
+/// Checks that the verdict on the first `count` of these entries is the wanted one.
 fn says(rt: &impl Abort, said: Verdict, wanted: Verdict, entries: &[Entry], count: usize) {
     assert_eq!(rt; said, wanted, "of the first {count} of {entries:?}");
 }
@@ -139,7 +139,7 @@ const REPLIES: [Entry; 14] = [
     Entry::Committed(0, 2),
 ];
 
-/// The reply to the reader if the change was not taken back.
+/// The reply that the reader of `REPLIES` would have if the change had not been taken back.
 const STALE_REPLY: Entry = Entry::Did(0, Some(99));
 
 /// An abort that leaves a change.
@@ -308,8 +308,8 @@ static BY_HOLDERS_OF_NOW: [Row; 19] = [
             rule: Rule::Locks,
         },
     ),
-    // `holder_has_begun` of `crates/txn_trace/proofs/HolderCases.antt`, if the holder must be one
-    // of now.
+    // `holder_has_begun` of `crates/txn_trace/proofs/HolderCases.antt`: its Busy names a caller
+    // that no longer holds the stripe.
     (
         &HOLDER_HAS_BEGUN,
         None,
@@ -522,7 +522,7 @@ fn judge_rows(
     Ok(())
 }
 
-/// The history with savepoints without its last entry, the return to the second.
+/// `WITH_SAVEPOINTS` without its last entry, which tries to go back to the second savepoint.
 fn back_at_1() -> &'static [Entry] {
     &WITH_SAVEPOINTS[..15]
 }
@@ -600,7 +600,7 @@ fn end_refused(rt: &impl Abort, alloc: Global, checker: &mut Checker, taken: usi
     assert_eq!(rt; verdict_so_far(checker), wanted);
 }
 
-/// The verdict after an entry, from rows that say from which entry on it holds.
+/// The verdict after an entry. Each row has a verdict, and the first entry after which it holds.
 fn verdict_at(rows: &[(usize, Verdict)], place: usize) -> Option<Verdict> {
     let mut found = None;
     for (first, verdict) in rows {
@@ -635,7 +635,8 @@ fn feed_all(rt: &impl Abort, alloc: Global, entries: &[Entry], rows: &[(usize, V
     }
 }
 
-/// The verdicts on the replies with a stale last one, from each of these entries on.
+/// The verdicts on `REPLIES` with a stale last reply, each with the first entry after which it
+/// holds.
 const OF_STALE_REPLIES: [(usize, Verdict); 6] = [
     (
         0,
@@ -689,7 +690,7 @@ fn fed_entry_by_entry(rt: HostRuntime) {
     feed_all(&rt, rt.alloc(), &stale, &OF_STALE_REPLIES);
 }
 
-/// The verdicts on the history with savepoints, from each of these entries on.
+/// The verdicts on `WITH_SAVEPOINTS`, each with the first entry after which it holds.
 const OF_SAVEPOINTS: [(usize, Verdict); 2] = [
     (
         0,

@@ -42,8 +42,8 @@ fn draw_is_the_next_word(rt: HostRuntime) -> Result<(), Fail> {
     Ok(())
 }
 
-/// The entries that a worker's turns add to the history, one after the other: an entry's name, or
-/// none.
+/// A worker's turns, one after the other: each has the name of the entry that the turn adds to the
+/// history, or `None` if it adds no entry.
 type Turns = &'static [Option<&'static str>];
 
 /// The turns of two empty scripts: begin, commit.
@@ -73,7 +73,8 @@ const BAD_HELPS: Turns = &[
     Some("aborted"),
 ];
 
-/// The turns of such a script, and of one that is a put: begin, ask, seek, act, commit.
+/// The turns of a script that begins with a help with a bad key, and then of a script that is one
+/// put: begin, ask, seek, act, commit.
 const BAD_HELP_AND_PUT: Turns = &[
     Some("began"),
     Some("leave"),
@@ -117,7 +118,7 @@ fn take_turn(
     Ok((worker, *name))
 }
 
-/// The history of scripts, from a file with this text, that are mixed by a seed.
+/// Reads scripts from a file with this text, mixes them by the seed, and answers the history.
 fn mixed_history(alloc: Global, seed: u64, scripts: &str) -> Result<Vec<Entry>, Fail> {
     let Ok(work) = read_scripts(alloc, scripts.as_bytes()) else {
         return Err("no scripts".into());
@@ -126,9 +127,9 @@ fn mixed_history(alloc: Global, seed: u64, scripts: &str) -> Result<Vec<Entry>, 
     Ok(Unpacked::new(trace.as_slice()).collect(alloc)?)
 }
 
-/// Draws a place in the list of workers that have a turn left, which are in rising order, and takes
-/// that worker's turn, until no worker has one left. Checks that the turns add exactly the entries
-/// of the history.
+/// As long as a worker has a turn left, draws a place in the list of these workers, which is in
+/// rising order, and takes the turn of the worker at that place. Checks that the turns add exactly
+/// the entries of the history.
 fn take_turns(
     rt: &impl Abort,
     history: &[Entry],

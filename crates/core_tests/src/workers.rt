@@ -8,7 +8,7 @@ use std::test::Fail;
 use txn_drive::Turn;
 use txn_words::{Action, Answer, Limits, Op, Refusal, Script, Step};
 
-/// Scripts of these actions, one each.
+/// One script for each of these lists of actions.
 fn scripts_of(alloc: Global, scripts: &[&[Action]]) -> Result<Vec<Script>, AllocError> {
     let mut all = Vec::new(alloc);
     for script in scripts {
@@ -17,7 +17,8 @@ fn scripts_of(alloc: Global, scripts: &[&[Action]]) -> Result<Vec<Script>, Alloc
     Ok(all)
 }
 
-/// A worker of this number of workers, with limits that take every key or only half keys.
+/// The worker with this number, if there are `workers` of them, with limits that take every key or
+/// only half keys.
 fn worker_of(
     number: usize,
     workers: u64,
@@ -83,12 +84,12 @@ fn take_turn(
     (taken, outcome)
 }
 
-/// A step that the worker takes, its answer, the outcome of a script that ends by it, and the
-/// script that the worker is at then.
+/// A step that the worker takes, its answer, the outcome of the script if the step ends it, and the
+/// script that the worker is at after the step.
 type Row = (Step, Answer, Option<Finish>, Option<usize>);
 
-/// A worker of a number of workers, whether the limits take only half keys, the actions of the
-/// scripts, the script that it is at first, and its steps.
+/// A worker's number, the number of workers, whether the limits take only half keys, the actions of
+/// each script, the script that the worker is at first, and the worker's steps.
 #[derive(Drop)]
 struct Case {
     number: usize,
@@ -117,7 +118,7 @@ fn takes(rt: &impl Abort, worker: &mut Worker, scripts: &[Script], row: &Row, by
     assert_eq!(rt; script_at(worker), script, "after {step:?}");
 }
 
-/// A worker takes the steps of a case, and has a turn left if it is at a script then.
+/// A worker takes the steps of a case. Then it has a turn exactly if it is still at a script.
 fn takes_all(
     rt: &impl Abort,
     worker: &mut Worker,
@@ -182,7 +183,7 @@ static CASES: [Case; 9] = [
         first: Some(0),
         rows: &[],
     },
-    // The second has none.
+    // The second of 2 workers has no script.
     Case {
         number: 1,
         workers: 2,
@@ -191,7 +192,7 @@ static CASES: [Case; 9] = [
         first: None,
         rows: &[],
     },
-    // Scripts that are done, except the second, which is refused its commit.
+    // The first script is done; the commit of the second is refused.
     Case {
         number: 0,
         workers: 1,
@@ -318,8 +319,8 @@ static CASES: [Case; 9] = [
             ),
         ],
     },
-    // The first help with a bad key is refused without a step, and its transaction given up:
-    // neither further ones nor a put follow.
+    // The first help with a bad key is refused without a step, and the transaction is given up:
+    // neither the other helps of its script nor the put follow.
     Case {
         number: 0,
         workers: 1,

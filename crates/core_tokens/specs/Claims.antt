@@ -25,8 +25,8 @@ use Rattle.boost_core.specs.declared.claim.Claim.{Claim}
 use Rattle.boost_core.specs.declared.claim.Claim.TheVariants.{Lock, Right}
 use Rattle.boost_core.specs.Words.{claim_of}
 
--- A trial: its stripe, and the word that was found, or 0 if the caller has the right. A caller that
--- had the right before has tried no word.
+-- A trial: its stripe, and the word that was found, or 0 if the caller has the right now. If the
+-- caller had the right before, no word was tried.
 pub record Trial : Type 0 where
   pub stripe : ℕ
   pub word : ℕ
@@ -34,8 +34,8 @@ pub record Trial : Type 0 where
 abbrev pub trial : ℕ → ℕ → Option Trial
 trial stripe word = Some (record { stripe = stripe; word = word })
 
--- The words, the number of stripes, the view of the caller's seat, the stripes whose rights are
--- held, the newest last, and the last trial.
+-- The claims of a caller: its map's words, the number of stripes, the view of the caller's seat,
+-- the stripes whose rights it holds (the newest last), and its last trial.
 pub record Claimed : Type 0 where
   pub words : TableId
   pub stripes : ℕ
@@ -49,7 +49,8 @@ trial_of stripe None = None
 trial_of stripe (Some (Mine place)) = trial stripe 0
 trial_of stripe (Some (Another word)) = trial stripe word
 
--- If a right was found it is at its position, and if another's word was found it is not 0.
+-- If the try found a right, this right is at the position that the try names. If it found another
+-- seat's word, the word is not 0.
 abbrev pub IsTrial : List ℕ → ℕ → Option Tried → Type 0
 IsTrial rights stripe None = Unit {0}
 IsTrial rights stripe (Some (Mine place)) = slice_get rights place ≡ Some stripe
@@ -127,8 +128,8 @@ claim_in None m step = Lock
 claim_in (Some trial) m (Ask c op) = claim_by m c trial
 claim_in (Some trial) m step = Lock
 
--- The claims of a call before its first hold: an operation tries the word of its key's stripe,
--- unless its caller has the right.
+-- The claims `k` are made ready for the first hold of a call, and become `l`: an operation tries
+-- the word of its key's stripe, unless the caller has the right; any other call changes nothing.
 abbrev pub Readies : Claimed → Call → Claimed → Type 0
 Readies k (calls.Op op) l = Tries k (stripe_of k.stripes (key_of op)) l
 Readies k call l = l ≡ k

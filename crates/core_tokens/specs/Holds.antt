@@ -58,8 +58,9 @@ pub record MayTake (claims : Claimed) (m : State) (seen : List Entry) (d : Drive
   pub stripes : m.limits.stripes ≡ claims.stripes
   pub tried : HasTriedIf claims.tried claims.stripes (step_of d)
 
--- A step is taken: the core makes its move, or, if an operation is asked for, the outcome is that
--- of the claim to its stripe; the drive is told the answer, and the step's entries are seen.
+-- A step is taken: the core makes the step's move or, if the step asks for an operation, does what
+-- the claim to the operation's stripe gives. The drive is told the answer, and the step's entries
+-- are seen.
 pub record Takes (tried : Option Trial) (m : State) (seen : List Entry) (d : Drive) (step : Step)
     (answer : Answer) (n : State) (seen' : List Entry) (e : Drive) : Type 0 where
   pub goes : Goes (claim_in tried m step) m step answer n
@@ -110,8 +111,8 @@ HeldBy HadNoRoom m k d outcome n l e =
     (k.broken ≡ false) × (outcome ≡ Some (ends.Refused NoMemory)) × (n ≡ m) × (l ≡ k) × (e ≡ d)
 HeldBy TookTurn m k d outcome n l e = TurnHeld m k d outcome n l e
 
--- The effect of a hold: the drive is told the size, and its turn is taken, if the token is not
--- broken and has room and the core has as many stripes as there are words.
+-- The effect of a hold. In any case the drive is told the core's size. Its turn is taken if the
+-- token is not broken and has room, and the core has as many stripes as there are words.
 abbrev pub Held : {S : Type 0} → State → Token S → Drive → Option End → State → Token S → Drive
     → Type 0
 Held m k d outcome n l e = (how : How) × HeldBy how m k (sized_of m.size d) outcome n l e

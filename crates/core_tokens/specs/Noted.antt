@@ -29,8 +29,9 @@ pub record Noted : Type 0 where
   pub room : ℕ
   pub save_room : ℕ
 
--- The seat is that of the entries, if each had a row; the transaction is the last one; there is
--- room for all that the caller owes; and the share, of one part, counts the entries.
+-- The seat is the one that the entries give, if each has a row; `txn` is the number of the last
+-- transaction that they begin; there is room for all that the caller owes; and the share, of one
+-- part, counts the entries.
 pub record IsNoted (entries : Vec Entry) (seat : RoomySeat) (whole : Bool) (txn parts amount : ℕ) :
     Type 0 where
   pub fits : whole ≡ is_some (seat_after entries.items)

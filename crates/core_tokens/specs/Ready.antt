@@ -12,13 +12,14 @@ use Rattle.txn_drive.specs.declared.call.Call.TheVariants as calls
 use Rattle.txn_drive.specs.Drives.{first_step}
 use Rattle.core_tokens.specs.Tokens.{Token}
 
--- The refusal of help by its key; the argument says whether the map takes only half keys.
+-- The refusal of a call for help whose key is bad; `half` says whether the map takes only half
+-- keys.
 abbrev pub refused_help : Bool → Call → Option Refusal
 refused_help half (calls.Help key) = if is_bad_key half key then Some BadKey else None
 refused_help half call = None
 
--- The refusal of a call by the token: out of step if it is broken, else that of the seat which its
--- entries give it, and then that of help by its key.
+-- The refusal of a call by the token: `OutOfStep` if the token is broken or its entries give it no
+-- seat; else the refusal by this seat; else the refusal of help with a bad key.
 abbrev pub refused_at : Bool → Bool → Option Seat → Call → Option Refusal
 refused_at half true seat call = Some OutOfStep
 refused_at half false None call = Some OutOfStep

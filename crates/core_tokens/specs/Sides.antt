@@ -25,7 +25,7 @@ CanFollow (ends.Answered (answers.Saved n)) side = 0 < side.save_room
 CanFollow (ends.Answered (answers.Returned n)) side = n < length side.levels
 CanFollow outcome side = Unit {0}
 
--- It can follow each end of a call.
+-- The side value can follow each end that this call may have.
 abbrev pub IsReadyFor : {S : Type 0} → Call → Leveled S → Type 0
 IsReadyFor calls.Save side = 0 < side.save_room
 IsReadyFor (calls.Back n) side = n < length side.levels

@@ -54,8 +54,9 @@ abbrev pub is_odd : Call → End → Bool
 is_odd call (ends.Refused refusal) = not (may_refuse call refusal)
 is_odd call outcome = false
 
--- Until the first step of a call is answered, the seat does not refuse that step, for some `half`;
--- while the drive works, the seat has the phase of the work.
+-- The seat fits the drive: before the first step of the call is answered, there is a value of
+-- `half` for which the seat does not refuse this step; while the drive works, the seat has the
+-- phase of the work.
 abbrev pub Fits : Seat → Call → Phase → Type 0
 Fits s call Fresh = (half : Bool) × (refusal_in half s (first_step 0 call) ≡ None)
 Fits s call (Seeking work again) = work_phase call work ≡ Some s.phase
@@ -73,7 +74,7 @@ abbrev pub IsSized : ℕ → Phase → Type 0
 IsSized size (Doubling seen) = seen ≡ size
 IsSized size phase = Unit {0}
 
--- The seat, cursor and helper of a drive's caller are as the drive was told last.
+-- In the core, the seat, cursor and helper of a drive's caller fit the drive's phase.
 abbrev pub Suits : State → Seat → ℕ → Call → Phase → Type 0
 Suits m s c call Fresh =
     (refusal_in m.limits.half s (first_step c call) ≡ None) × (is_help call ≡ false)
@@ -87,7 +88,7 @@ Suits m s c call (Refused refusal) = is_odd call (ends.Refused refusal) ≡ fals
 Suits m s c call phase = (is_help call ≡ true) × HelpSuits m c phase
 
 -- The core has the limits, the caller's entries are those that were seen, and the caller's seat,
--- cursor and helper are as the drive was told last.
+-- cursor and helper fit the drive's phase.
 pub record IsInStep (m : State) (limits : Sizes) (c : ℕ) (seen : List Entry) (d : Drive) : Type 0
   where
     pub same_limits : m.limits ≡ limits

@@ -42,7 +42,7 @@ pub record IsSameCaller {S : Type 0} (k l : Token S) : Type 0 where
   pub number : l.number ≡ k.number
   pub limits : l.limits ≡ k.limits
 
--- It holds the same rights, and has tried no other word.
+-- The caller holds the same rights, and has tried no further word.
 abbrev pub IsSameClaims : {S : Type 0} → Token S → Token S → Type 0
 IsSameClaims k l = l.claims ≡ k.claims
 
@@ -69,7 +69,7 @@ pub record IsUnused (number : ℕ) (limits : Sizes) (claims : Claimed) : Type 0 
   pub seat : IsSeated number limits claims
   pub idle : IsIdle claims
 
--- Whether no transaction is open at a seat; if the entries give no seat, none is.
+-- Whether no transaction is open at a seat; `true` if the entries give no seat.
 abbrev pub is_over : Option Seat → Bool
 is_over None = true
 is_over (Some s) = is_closed s.phase

@@ -68,7 +68,7 @@ impl<L: Ledger> Booked<L> {
     ///
     /// # Cost
     ///
-    /// That of `new`, and what `Core::with_room` says of the room.
+    /// The cost of `new`, and the cost that `Core::with_room` states for the room.
     pub fn with_room(
         alloc: Global,
         blank: Blank,
@@ -94,8 +94,8 @@ impl<L: Ledger> Booked<L> {
         Ok((booked, passes))
     }
 
-    /// Takes the core out, once the callers of all passes are there: its history has as many
-    /// entries as they saw. Core and callers are unchanged.
+    /// Takes the core out; `callers` must be the callers of all passes. The core's history has as
+    /// many entries as these callers have seen. Core and callers are unchanged.
     ///
     /// # Cost
     ///

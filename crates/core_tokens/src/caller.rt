@@ -32,10 +32,10 @@ use undo_log::{Side, SideJob, SideValue};
 
 /// One caller of a shared map: its token. It cannot be cloned, so each number has at most one.
 ///
-/// A contract sees its number, the limits of its map, its side value, in `seen` the entries that
-/// its calls have added, in `claims` the stripes whose rights it holds and all words that it has
-/// tried, and whether it is `broken`: a call that falls out of step breaks it, and from then on
-/// each call is refused with `Refusal::OutOfStep`.
+/// A contract sees its number, the limits of its map, its side value, and whether it is `broken`: a
+/// call that falls out of step breaks it, and from then on each call is refused with
+/// `Refusal::OutOfStep`. In `seen` a contract sees the entries that its calls have added, and in
+/// `claims` the stripes whose rights it holds and all words that it has tried.
 ///
 /// It keeps its rights until its transaction has committed or aborted. A broken token keeps them
 /// for good, and a token that is dropped loses them: their stripes stay held.
@@ -127,8 +127,8 @@ impl<L: Ledger, S: Side> Caller<L, S> {
     }
 
     /// Makes room in `seen` for this many more entries, so that it need not grow while they are
-    /// added. If the room is to be written, no later entry is the first to touch a page of memory.
-    /// The token is unchanged.
+    /// added. If `is_written`, the room is also written, so that no later entry is the first to
+    /// touch a page of memory. The token is unchanged.
     ///
     /// # Errors
     ///
@@ -163,8 +163,8 @@ impl<L: Ledger, S: Side> Caller<L, S> {
         self.side.words()
     }
 
-    /// Takes the drive's next turn on the core, which nobody else has meanwhile, and answers the
-    /// end of the call, if the drive has ended with it or before.
+    /// Takes the drive's next turn on the core, and answers the end of the call if the drive has
+    /// ended, with this turn or before. Nobody else has the core during the turn.
     ///
     /// The core takes the steps of the turn and no other, and `seen` gains their entries and no
     /// other. An operation is asked for by its stripe's right, or by the word that was tried last,
@@ -252,8 +252,8 @@ impl<L: Ledger, S: Side> Caller<L, S> {
     /// Tries the word of the stripe of an operation's key, unless the token has the stripe's right.
     /// `make_ready` does so too: this is for those who call `hold` for operations only.
     ///
-    /// If the word was free the token has the right now, and keeps it until its transaction has
-    /// committed or aborted. If not, the word is kept, and the operation is asked for by it.
+    /// If the word was free, the token has the right now, and keeps it until its transaction has
+    /// committed or aborted. If not, the token remembers the word, and asks by it.
     ///
     /// # Errors
     ///
@@ -302,9 +302,9 @@ impl<L: Ledger, S: Side> Caller<L, S> {
     ///
     /// # Errors
     ///
-    /// - The refusal of the call by the token: `OutOfStep` if it is broken, else the first that
-    ///   applies of those that the entries in `seen` give, and then `BadKey` for help with a bad
-    ///   key. The token is unchanged.
+    /// - The refusal of the call by the token: `OutOfStep` if it is broken; else the first refusal
+    ///   that the entries in `seen` give; else `BadKey` for help with a bad key. The token is
+    ///   unchanged.
     /// - Then `NoMemory` if memory is refused, for one more right or for the level of a save: no
     ///   word was tried, and the token is unchanged.
     /// - `OutOfStep` if the side value does not have the level of a return, which breaks the token;
@@ -344,8 +344,8 @@ impl<L: Ledger, S: Side> Caller<L, S> {
     }
 
     /// Changes the side value as the end of a call requires, and gives back all rights if the call
-    /// has ended its transaction. `seen` is unchanged, and so is the side value after any other end
-    /// than that of a begin, a commit, an abort, a save, a return or an operation that was busy.
+    /// has ended its transaction. `seen` is unchanged. The side value may change only if a begin, a
+    /// commit, an abort, a save or a return was answered, or if an operation was busy.
     ///
     /// Pass the end that the last hold of the call has answered: after any other end, side value
     /// and rights do not agree with the token's entries.
@@ -377,9 +377,9 @@ impl<L: Ledger, S: Side> Caller<L, S> {
 
     /// Changes the side value, and logs the job that takes the change back.
     ///
-    /// The words now must be the job's `before`, and the words of the value that `change` answers
-    /// its `after`. No transaction is needed: a change that is made outside of one stays. Nothing
-    /// is added to `seen`.
+    /// The words of the side value now must be the job's `before`, and the words of the value that
+    /// `change` answers must be the job's `after`. No transaction is needed: a change that is made
+    /// outside of one stays. Nothing is added to `seen`.
     ///
     /// # Errors
     ///
@@ -422,7 +422,7 @@ impl<L: Ledger, S: Side> Caller<L, S> {
     }
 }
 
-/// The first step of a call, by which its caller's seat refuses it.
+/// The first step of a call. The caller's seat refuses the call if it refuses this step.
 fn first_step(call: Call) -> Step
     ensures { result ≡ first_step 0 call }
 {
@@ -437,7 +437,7 @@ fn first_step(call: Call) -> Step
     }
 }
 
-/// The refusal of help by its key.
+/// The refusal of a call for help whose key is bad.
 fn help_refusal(limits: Limits, call: Call) -> Option<Refusal>
     ensures { result ≡ refused_help limits.half call }
 {

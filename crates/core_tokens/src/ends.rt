@@ -1,6 +1,6 @@
 //! The ends that a call may have, and those that break its token: an end that a call may not have
 //! shows that core and token are out of step. These are functions of values, without core or token.
-//! Once its token lets a commit or an abort pass, neither may be refused.
+//! A commit or an abort may not be refused once its token has let it pass.
 ghost use Rattle.std.specs.Prelude.{◌≡◌, ◌||◌, not};
 ghost use Rattle.core_tokens.specs.Suits.{is_odd, may_refuse};
 ghost use Rattle.core_tokens.specs.Holds.{end_in, odd_if};

@@ -1,8 +1,9 @@
 //! The laws of holds: a function that does nothing, whose contract is about the holds of a call for
-//! help. Each clause is about one hold, so it also serves those who call `hold` themselves. From
-//! one hold to the next the clauses carry a key's bucket, which the contract of `Caller::hold`
-//! cannot do. They assume `Held`, which that contract ensures, and for the last hold that the core
-//! is `IsWhole` and, unless it is also the first, that core and token are in step.
+//! help. Each clause is about one hold, so it also serves those who call `hold` themselves.
+//! Together the clauses carry a key's bucket from one hold to the next, which the contract of
+//! `Caller::hold` cannot do. Each clause assumes `Held`, which that contract ensures. The two
+//! clauses about the last hold also assume that the core is `IsWhole`, and if the last hold is not
+//! also the first, that core and token are in step.
 ghost use Rattle.std.specs.Prelude.{◌≡◌, ◌%◌, ℕ, true, Some, None};
 ghost use Rattle.txn_drive.specs.declared.drive.Drive.{Drive};
 ghost use Rattle.txn_drive.specs.declared.«end».End.TheVariants.{Helped};

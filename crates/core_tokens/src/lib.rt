@@ -17,15 +17,15 @@
 //! - Between two holds a token knows of the core only its own entries, and the seat that they give
 //!   it. If the core's answer is impossible by these, the call ends with `OutOfStep`, and so does
 //!   every later call of the token.
-//! - No entry can be added without a token: a ledger counts them, `Booked` has its book, and each
-//!   token a share. So the history of the core that `Booked::into_core` takes out has as many
-//!   entries as the tokens saw. The ledger is `std`'s `sync::ledger`. Its name `L` is the first
-//!   parameter of `Booked`, `Pass` and `Caller`, and is picked as `sync::ledger` says.
+//! - No entry can be added without a token: a ledger counts the entries, `Booked` has the ledger's
+//!   book, and each token has a share. So the history of the core that `Booked::into_core` takes
+//!   out has as many entries as the tokens saw. The ledger is `std`'s `sync::ledger`. Its name `L`
+//!   is the first parameter of `Booked`, `Pass` and `Caller`, and is picked as `sync::ledger` says.
 //! - `laws::helped` is about the holds of a call for help: if it ends well, its key's bucket is
 //!   initialised.
 //!
-//! It stands alone since nothing here waits: the crates above say how callers take turns at the
-//! core. Calls take constant time and no memory unless they say otherwise.
+//! It is a separate crate since nothing here waits: the crates above say how callers take turns at
+//! the core. Calls take constant time and no memory unless they say otherwise.
 #![tactic(auto)]
 
 mod booked;

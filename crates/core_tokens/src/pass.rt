@@ -1,6 +1,6 @@
 //! A pass: the right to be the caller of a number, with that number's part of the ledger and its
-//! seat at the words. One is made for each number of a core, and `Booked::into_core` takes the core
-//! out only with the callers of all of them.
+//! seat at the words. There is one pass for each caller's number of a core, and `Booked::into_core`
+//! needs the callers of all passes to take the core out.
 ghost use Rattle.std.specs.Prelude.{◌≡◌, false, [], ◌∷◌, IfErr, IfOk, map};
 ghost use Rattle.std.specs.List.{range_with_len};
 ghost use Rattle.key_words.specs.Seats.{AreSeats, stripes_of};

@@ -109,7 +109,7 @@ impl<L: Ledger> Seen<L> {
         self.seat.refusal(limits, step)
     }
 
-    /// Makes room for this many more entries, written or not.
+    /// Makes room for this many more entries, and writes the room if `is_written`.
     ///
     /// # Errors
     ///

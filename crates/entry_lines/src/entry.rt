@@ -9,7 +9,7 @@ ghost use Rattle.txn_files.specs.Operations.{op_at, op_of, put_if_at};
 use piece_files::{Plain, end_in, leading_optional_in, number_in, one_in, optional_in, word_in};
 use txn_words::{Entry, Op};
 
-/// A `put_if` of this key, from the elements after it, and the rest of the elements.
+/// The `put_if` of this key, read from the elements after the key, and the elements that are left.
 #[tactic(auto, unfolding(txn_files::specs::Operations::put_if_at))]
 fn leading_put_if<'v, 'a>(key: u64, values: &'v [Plain<'a>]) -> Option<(Op, &'v [Plain<'a>])>
     ensures { option_map (λ x. (x.0, map data_of x.1.now)) result
@@ -46,7 +46,7 @@ fn whole_op(values: &[Plain<'_>]) -> Option<Op>
     }
 }
 
-/// A Busy of this caller, from the elements after it.
+/// The Busy of this caller, read from the elements after the caller.
 #[tactic(auto, unfolding(txn_files::specs::Entries::busy_of))]
 fn busy_entry(caller: u64, values: &[Plain<'_>]) -> Option<Entry>
     ensures { result ≡ busy_of caller (map data_of values.now) }

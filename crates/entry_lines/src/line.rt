@@ -70,7 +70,8 @@ fn entry_in_range(found: Option<Entry>) -> Result<Option<Entry>, FileFault>
     }
 }
 
-/// The entry that an array is, after its opening bracket, or none if it is no entry.
+/// The entry that an array is, or none if it is no entry. The reader has read the array's opening
+/// bracket.
 #[tactic(auto, using(txn_files::proofs::PlainPieces::no_entry))]
 fn entry_in_array(reader: &mut Reader<'_>) -> Result<Option<Entry>, Stop>
     ensures ok { IfOk result (λ found. (ds : List Data)
@@ -111,8 +112,9 @@ fn entry_in_value(reader: &mut Reader<'_>) -> Result<Option<Entry>, Stop>
     }
 }
 
-/// The entry that a text is: `Some(None)` if it is an array that is no entry, `None` if it is no
-/// array in plain form of 1 to 7 elements, or white space is before the array.
+/// The entry that a text is, if the text is an array in plain form, of 1 to 7 elements and with no
+/// white space before it. Answers `Some(None)` if this array is no entry, and `None` if the text is
+/// no such array.
 fn entry_in_plain(text: &str) -> Option<Option<Entry>>
     ensures { IfSome result (λ found. (d : Data) × (read text.now ≡ Some d)
         × (found ≡ option_and_then entry_of (elements_of d))) }

@@ -172,7 +172,7 @@ fn finished(alloc: Global, core: &Core) -> Result<(u64, u64), AllocError> {
     Ok((jobs, count))
 }
 
-/// Prints how many jobs are finished, and whether as many were done.
+/// Prints how many jobs are finished, and whether the count of done jobs is the same number.
 fn say<R: Print + AllocGlobal>(rt: &R, core: &Core) -> io::Result<()> {
     let (jobs, count) = finished(rt.alloc(), core)?;
     println!(rt;
@@ -181,7 +181,8 @@ fn say<R: Print + AllocGlobal>(rt: &R, core: &Core) -> io::Result<()> {
     )
 }
 
-/// Does all jobs, and prints how many are finished and whether as many were done.
+/// Does all jobs, and prints how many are finished and whether the count of done jobs is the same
+/// number.
 pub(crate) fn show<R: Threads + Wait + Sync + Print + AllocGlobal>(rt: &R) -> io::Result<()> {
     match do_all(rt, rt.alloc()) {
         Ok(core) => say(rt, &core),

@@ -1,4 +1,5 @@
--- Each kind of entry, if it breaks no rule after a legal history: what the history says after it.
+-- For each kind of entry: the meaning of a legal history with one more entry of this kind, if that
+-- entry breaks no rule.
 use Rattle.std.proofs.Common.{◌≡◌, ℕ, ◌+◌, ◌-◌, ◌<◌, ◌==◌, ◌&&◌, Bool, true, false, cond, not, List, [], ◌∷◌, ◌++◌, take, length, slice_index, refl, ap, sym, ◌∙◌, Some, None, Option, is_some, arith}
 use Rattle.std.specs.Prelude.{nat_eq, nat_lt}
 use Rattle.std.specs.Option.{option_eq}
@@ -102,7 +103,8 @@ aborted_from s LeavingToEnd c h = (refl, eqb-true s.standing 0 (some_if (s.stand
 aborted_from s _ c h = absurd (false≢true h)
 
 module _ {holder : Holder} (stripes : ℕ) (g : List Entry) (legal : IsLegal holder stripes g) (c : ℕ) (seat : Seat) (seat_is : seat_after (own c g) ≡ Some seat) where
-  -- An entry of the caller with the right shape has a row at its seat, and the right number.
+  -- If an entry of the caller has the right shape, the rule of shape has a row for it at the
+  -- caller's seat, and its number is right.
   pub in_row : (e : Entry) → caller_of e ≡ c → is_shaped g e ≡ true → (is_some (row seat seat.phase e) ≡ true) × (is_numbered g e ≡ true)
   in_row e mine shaped = and_parts (is_some (row seat seat.phase e)) (is_numbered g e) (sym (is_shaped_is g e seat (ap (λ d. seat_after (own d g)) mine ∙ seat_is)) ∙ shaped)
 
@@ -111,7 +113,7 @@ module _ {holder : Holder} (stripes : ℕ) (g : List Entry) (legal : IsLegal hol
       let shape = in_row (Began c t) refl (breaks_none holder stripes g (Began c t) fine).0 in
       entries.began stripes g legal c t seat seat_is (only_closed seat seat.phase c t shape.0) (eqb-true t _ shape.1)
 
-  -- The number of a transaction that begins, and the commit number of one that commits.
+  -- A transaction that begins has the next number, and one that commits has the next commit number.
   pub number-began : (t : ℕ) → broken holder stripes g (Began c t) ≡ None → t ≡ how_many is_began g + 1
   number-began t fine = eqb-true t _ (in_row (Began c t) refl (breaks_none holder stripes g (Began c t) fine).0).1
 
@@ -169,8 +171,8 @@ module _ {holder : Holder} (stripes : ℕ) (g : List Entry) (legal : IsLegal hol
       let from = aborted_from seat seat.phase c (in_row (Aborted c) refl (breaks_none holder stripes g (Aborted c) fine).0).0 in
       entries.aborted stripes g legal c seat seat_is from.0 from.1
 
-  -- If the caller waits for an operation and a Did has the right shape, its reply is right exactly
-  -- if it is the map's now.
+  -- If the caller waits for an operation and a Did has the right shape, the Did's reply is right
+  -- exactly if it is the reply of the map as it is now.
   pub did_right : (op : Op) (x : Option ℕ) → seat.phase ≡ Waiting op → is_shaped g (Did c x) ≡ true → replies_hold (g ++ Did c x ∷ []) ≡ option_eq nat_eq x (reply_of (now g) op)
   did_right op x waits shaped =
       replies_hold-push stripes g legal (Did c x) shaped

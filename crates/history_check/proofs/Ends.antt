@@ -1,5 +1,5 @@
--- The first bad entry and the verdict by the rules of legal histories are a case of those by any
--- rule (`FirstBad`).
+-- `FirstBad` defines the first bad entry and the verdict for any rules. For the rules of legal
+-- histories its definitions agree with those of `txn_trace`.
 use Rattle.std.proofs.Common.{◌≡◌, ℕ, ◌+◌, List, [], ◌∷◌, ◌++◌, length, refl, ap, sym, ◌∙◌, Some, None, Option}
 use Rattle.std.specs.Prelude.{◌↔◌}
 use Rattle.txn_words.specs.declared.entry.Entry.{Entry}

@@ -23,7 +23,8 @@ pub next_is : (o : Option ℕ) (P : Type 0) (v x : ℕ) → SomeIff o P v → o 
 next_is None P v x may is = absurd (cc is)
 next_is (Some y) P v x may is = let same : y ≡ x = cc is in sym same ∙ may.1
 
--- The first bad entry, with one more entry at this index, which breaks this rule or none.
+-- The first bad entry after one more entry, which has index `i` and breaks `rule`, if that is a
+-- rule: an earlier bad entry stays the first one.
 abbrev then_bad : Option (ℕ × ℕ) → Option ℕ → ℕ → Option (ℕ × ℕ)
 then_bad (Some bad) rule i = Some bad
 then_bad None (Some rule) i = Some (i, rule)
@@ -70,8 +71,8 @@ module _ (broken : List Entry → Entry → Option ℕ) where
   pub verdict_by-some : (h : List Entry) (bad : ℕ × ℕ) → first_bad_by broken [] h 0 ≡ Some bad → legal.Illegal bad.0 bad.1 ≡ verdict_by broken h
   verdict_by-some h bad is = sym (rw (is, verdict_by) refl)
 
-  -- A verdict says that a history is good exactly if it is, given that a history is good exactly if
-  -- no entry is bad.
+  -- Given that a history is good exactly if no entry is bad, the verdict says legal exactly if the
+  -- history is good.
   pub says : (good : Type 0) (h : List Entry) (v : Verdict) → good ↔ (first_bad_by broken [] h 0 ≡ None) → meaning_of v ≡ verdict_by broken h → SaysLegal v ↔ good
   says good h (Legal commits count) iff is = (λ u. iff.1 (none (first_bad_by broken [] h 0) refl), λ g. tt)
     where

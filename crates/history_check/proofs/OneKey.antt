@@ -20,7 +20,8 @@ use Rattle.history_check.proofs.Seating.{each-set, if_some, at_some}
 pub is_at-nat : (k q : ℕ) → is_at (nat_cmp k) q ≡ (q == k)
 is_at-nat k q = (eq_by_cmp_equiv nat_cmp_total).symm k q ∙ unsigned_tied q k
 
--- In one of the sorted maps one key has another value, or is gone.
+-- If a key gets another value, or is gone, in the map and in a sorted map, the sorted map stays
+-- right.
 has_of-set_at : (m : Map) (r : ℕ) (old new : BTreeMap ℕ ℕ) (k : ℕ) (v : Option ℕ) → HasOf m r old → ((q : ℕ) → value_at nat_cmp new q ≡ cond (is_at (nat_cmp k) q) v (value_at nat_cmp old q)) → HasOf (set_at m k v) r new
 has_of-set_at m r old new k v has updates q at =
     updates q ∙ (λ i. cond (is_at-nat k q i) v (has q at i)) ∙ sym (get-set_at m k v q)
@@ -30,18 +31,19 @@ has_of-other : (m : Map) (r : ℕ) (values : BTreeMap ℕ ℕ) (k : ℕ) (v : Op
 has_of-other m r values k v other has q at =
     has q at ∙ sym (get-set_at m k v q ∙ ap (λ b. cond b v (get m q)) (ne_eqb q k (λ is. other (sym at ∙ ap (λ x. x % 1021) is))))
 
--- The sorted map of a key.
+-- At the remainder of a key there is a sorted map: the one that is read there.
 map_at : (values : Values) (k : ℕ) (tree : BTreeMap ℕ ℕ) → tree ≡ get_or values.maps.items (k % 1021) tree → slice_get values.maps.items (k % 1021) ≡ Some tree
 map_at values k tree is =
     let below : k % 1021 < 1021 = omega arith in
     let all : vec_len values.maps ≡ 1021 = values.all in
     slice_get_read values.maps.items (vec_len values.maps) (k % 1021) tree values.maps.ok.0 (omega arith) is
 
--- The value of a key, in the sorted map of its remainder.
+-- The sorted map of a key's remainder gives the key's value.
 pub has-get : (m : Map) (values : Values) (k : ℕ) (tree : BTreeMap ℕ ℕ) → Have m values → tree ≡ get_or values.maps.items (k % 1021) tree → value_at nat_cmp tree k ≡ get m k
 has-get m values k tree has is = at_some (HasOf m (k % 1021)) (slice_get values.maps.items (k % 1021)) tree (map_at values k tree is) (has (k % 1021)) k refl
 
--- One key has another value, or is gone, in the sorted map of its remainder.
+-- If a key gets another value, or is gone, in the map and in the sorted map of its remainder, all
+-- sorted maps stay right.
 pub has-set_at : (m : Map) (old : Values) (k : ℕ) (v : Option ℕ) (tree tree' : BTreeMap ℕ ℕ) → Have m old → tree ≡ get_or old.maps.items (k % 1021) tree
     → ((q : ℕ) → value_at nat_cmp tree' q ≡ cond (is_at (nat_cmp k) q) v (value_at nat_cmp tree q)) → (r : ℕ) → IfSome (slice_get (set old.maps.items (k % 1021) tree') r) (HasOf (set_at m k v) r)
 has-set_at m old k v tree tree' has is updates r =
@@ -49,7 +51,7 @@ has-set_at m old k v tree tree' has is updates r =
     each-set (HasOf (set_at m k v)) old.maps.items (k % 1021) tree' (has_of-set_at m (k % 1021) tree tree' k v here updates)
     (λ s other. if_some (HasOf m s) (HasOf (set_at m k v) s) (slice_get old.maps.items s) (λ t. has_of-other m s t k v other) (has s)) r
 
--- Sorted maps without keys.
+-- Sorted maps without keys are right for the empty map.
 pub bare_has : (trees : List (BTreeMap ℕ ℕ)) → All IsEmpty trees → (r k : ℕ) → IfSome (slice_get trees k) (HasOf empty r)
 bare_has [] all r k = tt
 bare_has (x ∷ xs) all r zero = λ q at. ap (lookup (is_at (nat_cmp q))) (All-head IsEmpty x xs all)

@@ -1,4 +1,4 @@
--- The table of callers after one more entry, or none.
+-- The table of callers after one more entry, and after a change of a caller that adds no entry.
 use Rattle.std.proofs.Common.{get_or, vec_len, ◌≡◌, ◌≢◌, ◌||◌, ℕ, zero, suc, ◌<◌, drop, length, List, [], ◌∷◌, ◌++◌, true, ap, sym, subst, ◌∙◌, Some, None, Option, arith, is_some, refl}
 use Rattle.std.specs.Prelude.{slice_get}
 use Rattle.std.specs.Option.{IfSome, option_and_then}
@@ -26,7 +26,8 @@ use Rattle.history_check.specs.Callers.{seat_of, log_in, Enters, HasRoom, HasRoo
 use Rattle.history_check.specs.Logs.{log_entered, log_replied}
 use Rattle.history_check.proofs.EachKind.{did_waits, undone_some}
 
--- A property of each element, after one is written.
+-- After a write, each element has its property if the written element has it, and all other
+-- elements had it before.
 pub each-set : {A : Type 0} (P : ℕ → A → Type 0) (xs : List A) (i : ℕ) (a : A) → P i a → ((k : ℕ) → k ≢ i → IfSome (slice_get xs k) (P k)) → (k : ℕ) → IfSome (slice_get (set xs i a) k) (P k)
 each-set P [] i a here others k = tt
 each-set P (x ∷ xs) zero a here others zero = here
@@ -34,18 +35,19 @@ each-set P (x ∷ xs) zero a here others (suc k) = others (suc k) (λ is. absurd
 each-set P (x ∷ xs) (suc i) a here others zero = others zero (λ is. absurd (omega arith))
 each-set P (x ∷ xs) (suc i) a here others (suc k) = each-set (λ j. P (suc j)) xs i a here (λ j other. others (suc j) (λ is. other (let same : suc j ≡ suc i = is in omega arith))) k
 
--- A property of the element that is written.
+-- After a write, the element at that index, if there is one, has the property of the written
+-- element.
 pub set-here : {A : Type 0} (P : A → Type 0) (xs : List A) (i : ℕ) (a : A) → P a → IfSome (slice_get (set xs i a) i) P
 set-here P [] i a here = tt
 set-here P (x ∷ xs) zero a here = here
 set-here P (x ∷ xs) (suc i) a here = set-here P xs i a here
 
--- A property of an optional element implies a weaker one.
+-- If a property implies another, an optional element with the first has the second too.
 pub if_some : {A : Type 0} (P Q : A → Type 0) (o : Option A) → ((a : A) → P a → Q a) → IfSome o P → IfSome o Q
 if_some P Q None to is = tt
 if_some P Q (Some a) to is = to a is
 
--- The element at an index.
+-- If an optional element has a property, the element that is there has it.
 pub at_some : {A : Type 0} (P : A → Type 0) (o : Option A) (a : A) → o ≡ Some a → IfSome o P → P a
 at_some P o a is holds = subst (λ r. IfSome r P) is holds
 
@@ -113,7 +115,7 @@ log_step-is phase log (Aborted c) s pending there = refl
 pub log_entered-is : (g : List Entry) (e : Entry) (seat : Seat) → seat_after (own (caller_of e) g) ≡ Some seat → is_some (row seat seat.phase e) ≡ true → log_of (caller_of e) (g ++ e ∷ []) ≡ log_entered seat.phase (log_of (caller_of e) g) e
 log_entered-is g e seat seat_is there = log_of-own g e ∙ log_step-is seat.phase (log_after (own (caller_of e) g)) e seat (seat_logged (own (caller_of e) g) seat seat_is).phase there
 
--- One more entry, by which its caller goes on.
+-- The table has entered one more entry if the entry's caller is changed as the entry says.
 pub entered-push : (h : List Entry) (e : Entry) (old new : Callers) (before after : Caller) → HaveEntered h old → is_shaped h e ≡ true → caller_of e < 64 → Sits h (caller_of e) before
     → (is_some (row (seat_of before) (seat_of before).phase e) ≡ true → Enters e before after) → new.table.items ≡ set old.table.items (caller_of e) after
     → new.began ≡ how_many is_began (h ++ e ∷ []) → new.committed ≡ how_many is_commit (h ++ e ∷ []) → HaveEntered (h ++ e ∷ []) new

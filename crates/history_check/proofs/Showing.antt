@@ -22,7 +22,8 @@ module _ {holder : Holder} (stripes : ℕ) (h : List Entry) (legal : IsLegal hol
   pub fine : is_locked holder stripes h e ≡ true → broken holder stripes h e ≡ None
   fine locked = broken_by holder stripes h e true true true shaped answered locked
 
-  -- A map that agrees with the law of the entry's kind shows the entry.
+  -- A live map with the values and holders that the law of the entry's kind gives shows the history
+  -- with the entry added.
   pub followed : (new : LiveMap) (seat : Seat) (log : List (ℕ × Option ℕ)) (committed current : Map) (held : ℕ → Option ℕ) → is_locked holder stripes h e ≡ true → Next holder stripes h e seat log committed current held
       → new.holder ≡ live.holder → new.stripes ≡ live.stripes → Have current new.values → ((s : ℕ) → s < stripes → locks.holder_of new.locks s ≡ held s) → FollowsAt holder stripes h e true new
   followed new seat log committed current held locked next holder_is stripes_are has holds = record {
@@ -74,6 +75,6 @@ busy_followed stripes h legal live shows c op x shaped answered right new locked
       (followed stripes h legal live shows e shaped answered new _ _ _ _ _ (locked ∙ r) next holder_is stripes_are has holds).shows refl;
 }
 
--- An entry by the kind that it is.
+-- If an entry equals `kind`, the live map follows the entry as it follows `kind`.
 pub of_entry : {holder : Holder} {stripes : ℕ} {h : List Entry} {right : Bool} {new : LiveMap} {e kind : Entry} → e ≡ kind → FollowsAt holder stripes h kind right new → FollowsAt holder stripes h e right new
 of_entry {holder} {stripes} {h} {right} {new} {e} {kind} is follows = subst (λ f. FollowsAt holder stripes h f right new) (sym is) follows

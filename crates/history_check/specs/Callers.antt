@@ -14,7 +14,8 @@ use Rattle.history_check.specs.declared.caller.Caller.{Caller}
 use Rattle.history_check.specs.declared.callers.Callers.{Callers}
 use Rattle.history_check.specs.Logs.{is_did, log_entered}
 
--- The phase of a caller that goes back to a level, or, if there is none, to the end.
+-- The phase of a caller that goes back to this level or, if no level is given, takes all changes
+-- back and ends its transaction.
 abbrev pub goal_of : Option ℕ → Phase
 goal_of None = LeavingToEnd
 goal_of (Some level) = LeavingTo level
@@ -34,7 +35,7 @@ pub record Enters (e : Entry) (old new : Caller) : Type 0 where
   pub log : log_in new ≡ log_entered (seat_of old).phase (log_in old) e
   pub begun : new.has_begun ≡ (old.has_begun || is_began e)
 
--- There is room for what an entry takes: a Did for a change, a Saved for a savepoint.
+-- There is room for the change that a Did may add, and for the savepoint that a Saved adds.
 pub record HasRoom (e : Entry) (caller : Caller) : Type 0 where
   pub change : is_did e ≡ true → vec_len caller.changes < vec_capacity caller.changes
   pub level : is_saved e ≡ true → 0 < caller.seat.room
@@ -45,8 +46,9 @@ pub record Sits (h : List Entry) (c : ℕ) (caller : Caller) : Type 0 where
   pub log : log_of c h ≡ log_in caller
   pub begun : has_begun c h ≡ caller.has_begun
 
--- The callers have entered these entries, which have the right shape: each caller sits as its own
--- entries make it, and the counts are those of all entries.
+-- The callers have entered these entries, which have the right shape: each caller has the seat and
+-- the log that its own entries give it, and `began` and `committed` count the transactions of all
+-- entries.
 pub record HaveEntered (h : List Entry) (callers : Callers) : Type 0 where
   pub shape : IsShaped h
   pub below : All (λ e. caller_of e < 64) h

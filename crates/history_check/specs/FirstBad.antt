@@ -8,8 +8,8 @@ use Rattle.txn_trace.specs.Legal.{Verdict, Legal, Illegal, callers_in, running}
 use Rattle.history_check.specs.declared.verdict.Rule.{Rule}
 use Rattle.history_check.specs.Verdicts.{number_of}
 
--- The first of the entries h that breaks a rule, and the rule's number; h follows g, and its first
--- entry has index i.
+-- The index of the first entry of `h` that breaks a rule, and the rule's number. The entries `g`
+-- are before `h`, and the first entry of `h` has index `i`.
 abbrev pub first_bad_by : (List Entry → Entry → Option ℕ)
     → List Entry → List Entry → ℕ → Option (ℕ × ℕ)
 first_bad_by broken g [] i = None
@@ -26,8 +26,8 @@ verdict_by broken h = elim (first_bad_by broken [] h 0) [
   | Some bad ↦ Illegal bad.0 bad.1
 ]
 
--- The entries that a checker was fed: its state tells them and it counted them, or the first bad
--- one among them is the one that it noted.
+-- A checker was fed the entries `h`. If it noted no bad entry, its state tells `h`, and it counted
+-- all of them; if it noted one, this is the first bad entry of `h`.
 abbrev pub FedBy : (List Entry → Entry → Option ℕ)
     → Type 0 → List Entry → ℕ → Option (ℕ × Rule) → Type 0
 FedBy broken told h fed None = told × (fed ≡ length h)

@@ -26,8 +26,8 @@ Keeps old new =
     (holder : Holder) (stripes : ℕ) (h : List Entry)
     → Shows holder stripes h old → Shows holder stripes h new
 
--- After a legal history, for an entry of right shape and reply: the answer is whether it keeps the
--- rule of locks, and if it does the new map shows one entry more.
+-- After a legal history, for an entry of right shape and reply: `right` says whether the entry
+-- keeps the rule of locks. If it does, the new map shows the history with this entry added.
 pub record FollowsAt (holder : Holder) (stripes : ℕ) (h : List Entry) (e : Entry) (right : Bool)
     (new : LiveMap) : Type 0 where
   pub locked : is_locked holder stripes h e ≡ right

@@ -21,8 +21,8 @@ Stays old new =
     (holder : Holder) (stripes : ℕ) (h : List Entry)
     → Tells holder stripes h old → Tells holder stripes h new
 
--- After a history the entry breaks the rule that is named; if none is named, the state tells one
--- entry more.
+-- If a rule is named, the entry breaks it after the history. If none is named, the new state tells
+-- the history with the entry added.
 abbrev pub Judged : Holder → ℕ → List Entry → Entry → Option Rule → State → Type 0
 Judged holder stripes h e None new = Tells holder stripes (h ++ e ∷ []) new
 Judged holder stripes h e (Some rule) new = broken holder stripes h e ≡ Some (number_of rule)

@@ -10,8 +10,8 @@ ghost use Rattle.history_check.specs.Logs.{is_did, log_entered};
 use std::alloc::{AllocError, Global};
 use txn_trace::{Entry, Phase, Reply, Seat};
 
-/// A caller: its seat, whether it has begun a transaction, and of each change that stands its key
-/// and the value before it, oldest first.
+/// A caller: its seat, whether it has begun a transaction, and for each change that stands the key
+/// and the value before the change, oldest first.
 #[derive(Drop)]
 pub(crate) struct Caller {
     pub(crate) seat: Seat,
@@ -67,7 +67,7 @@ impl Caller {
         self.changes.last().copied()
     }
 
-    /// Makes room for what an entry takes: a change or a savepoint.
+    /// Makes room for the change that a Did may add, or for the savepoint that a Saved adds.
     #[inline(always)]
     pub(crate) fn reserve(&mut self, entry: &Entry) -> Result<(), AllocError>
         ensures seat { seat_of self.new ≡ seat_of self.old }

@@ -14,9 +14,9 @@ use txn_trace::{Entry, Phase, Reply};
 /// The 64 callers of a history: the seat of each, with the changes of its transaction that stand,
 /// and how many transactions began and committed.
 ///
-/// It is the judge of the rule of shape: it says which entry may follow, and is fed the entries
-/// that do. A contract sees which it was fed: `HaveEntered h callers`, which says too that they
-/// have the right shape.
+/// It is the judge of the rule of shape: it says whether an entry may follow, and is fed the
+/// entries that do. In a contract, `HaveEntered h callers` says that it was fed the entries `h`,
+/// and that they have the right shape.
 #[derive(Drop)]
 pub struct Callers {
     /// How many transactions began.
@@ -141,11 +141,12 @@ impl Callers {
         }
     }
 
-    /// Makes room for what an entry takes: a Did for a change, a Saved for a savepoint.
+    /// Makes room for the change that a Did may add, or for the savepoint that a Saved adds. The
+    /// entry is not entered yet.
     ///
     /// # Errors
     ///
-    /// `AllocError` if memory is refused. Either way no further entry has entered.
+    /// `AllocError` if memory is refused.
     ///
     /// # Cost
     ///
@@ -193,7 +194,7 @@ fn has_next_number(began: u64, committed: u64, entry: &Entry) -> bool
     }
 }
 
-/// Whether the number is one more than that before it.
+/// Whether the number is one more than the number before it.
 #[inline(always)]
 fn is_next(before: u64, number: u64) -> bool
     ensures { result ≡ (number == before + 1) }
@@ -201,7 +202,7 @@ fn is_next(before: u64, number: u64) -> bool
     before.checked_add(1) == Some(number)
 }
 
-/// How many transactions began, with an entry of the right number.
+/// How many transactions began, after one more entry, whose number is right.
 #[inline(always)]
 fn began_after(began: u64, entry: Entry) -> u64
     ensures { (h : List Entry) → began ≡ how_many is_began h → is_numbered h entry ≡ true →
@@ -213,7 +214,7 @@ fn began_after(began: u64, entry: Entry) -> u64
     }
 }
 
-/// How many transactions committed, with an entry of the right number.
+/// How many transactions committed, after one more entry, whose number is right.
 #[inline(always)]
 fn committed_after(committed: u64, entry: Entry) -> u64
     ensures { (h : List Entry) → committed ≡ how_many is_commit h → is_numbered h entry ≡ true →

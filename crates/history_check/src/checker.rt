@@ -14,8 +14,8 @@ use txn_trace::{Entry, Holder};
 
 /// A checker that is fed the entries of a history one after another, and keeps none of them.
 ///
-/// A contract sees which entries it was fed, of a map with how many stripes, and whom a Busy may
-/// name: `IsFed holder stripes h checker`.
+/// In a contract, `IsFed holder stripes h checker` says that it was fed the entries `h` of a map
+/// with `stripes` stripes, and that `holder` says whom a Busy may name.
 #[derive(Drop)]
 pub struct Checker {
     state: State,
@@ -119,8 +119,8 @@ impl Checker {
         &self.state.callers
     }
 
-    /// The value of a key in the map as it is now, as long as no entry is bad: the reply that an
-    /// operation on it is due.
+    /// The value of a key in the map as it is now, as long as no entry is bad. It is the reply that
+    /// is due to the next operation on the key.
     ///
     /// # Cost
     ///

@@ -47,7 +47,7 @@ impl LiveMap {
         })
     }
 
-    /// Whether an entry is no reply, or the one that the map as it is now gives.
+    /// Whether a Did has the reply that the map as it is now gives; `true` for any other entry.
     #[inline(always)]
     pub(crate) fn is_answered(&self, callers: &Callers, entry: &Entry) -> bool
         requires { caller_of entry.now < 64 }
@@ -64,7 +64,8 @@ impl LiveMap {
         }
     }
 
-    /// Applies an entry of the right shape and reply, or answers that it breaks the rule of locks.
+    /// Applies an entry of the right shape and reply and answers `true`, or answers `false` if the
+    /// entry breaks the rule of locks.
     #[inline(always)]
     pub(crate) fn follow(&mut self, callers: &Callers, entry: &Entry) -> Result<bool, AllocError>
         requires { caller_of entry.now < 64 }
@@ -91,7 +92,8 @@ impl LiveMap {
         Ok(true)
     }
 
-    /// An operation is asked for, if no other caller holds the stripe of its key.
+    /// Takes the stripe of an operation's key for the caller, or answers `false` if another caller
+    /// holds it.
     #[inline(always)]
     fn ask(&mut self, caller: u64, op: Op) -> bool
         requires { caller < 64 }

@@ -40,7 +40,7 @@ impl State {
         ensures ok { IfOk result (λ rule. Judges entry.now self.old rule self.new) }
         ensures err { OnErr result (Stays self.old self.new) }
     {
-        // An arm each, so that `judge` is compiled for each kind of entry by itself.
+        // Each kind of entry has its own arm, so that `judge` is compiled for it separately.
         match *entry {
             Entry::Began(caller, txn) => self.judge(&Entry::Began(caller, txn)),
             Entry::Asked(caller, op) => self.judge(&Entry::Asked(caller, op)),

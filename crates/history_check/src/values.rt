@@ -1,6 +1,7 @@
-//! The map as it is now, as sorted maps that share the keys out by remainder: a key's value, an
-//! operation, and the taking back of one. Few keys fall to each map, so that a look-up reads less
-//! memory than in one map of all keys; keys of one remainder cost the logarithm of their number.
+//! The map as it is now, as sorted maps among which the keys are divided by remainder. It gives a
+//! key's value, does an operation, and restores a key's value. Each sorted map has few keys, so a
+//! look-up reads less memory than in one map of all keys. If all keys have the same remainder, a
+//! look-up still takes only the logarithm of their number.
 ghost use Rattle.std.specs.Prelude.{◌≡◌, Option, Some, None, IfOk, OnOk, OnErr, vec_len};
 ghost use Rattle.txn_words.specs.Map.{Map, empty, get, after, set_at};
 

@@ -10,9 +10,9 @@ use std::fmt;
 /// A rule that an entry of a history may break, with its number. It is printed as `rule 1`.
 #[derive(Clone, Copy, Debug, PartialEq, Eq)]
 pub enum Rule {
-    /// Each open transaction has the replies of running alone on the map of the committed ones, for
-    /// operations that it has taken back too. By the order of commits only a transaction that
-    /// commits must have them.
+    /// Each open transaction has the replies of running alone on the map of the committed ones,
+    /// also for operations that it has taken back. For the judge by the order of commits, only a
+    /// transaction that commits must have these replies.
     Replies = 1,
     /// A stripe of keys belongs to one open transaction at a time: an Asked finds no other holder,
     /// and a Busy names another caller that holds the stripe, or that has begun a transaction.

@@ -17,13 +17,13 @@ Consumes-more (Some us) None c xs ys p q = absurd p
 Consumes-more (Some us) (Some vs) None xs ys p q = absurd q
 Consumes-more (Some us) (Some vs) (Some ws) xs ys p q = p ∙ ap (λ (s : List ℕ). xs ++ s) q ∙ sym (append_assoc xs ys ws)
 
--- A property of what was read, whatever follows it, is a property of all bytes.
+-- If the bytes that were read have a property whatever bytes follow, all bytes have it.
 pub OfAll-early : (P : List ℕ → Type 0) (a b : Option (List ℕ)) (xs : List ℕ) → Consumes a b xs → ((more : List ℕ) → P (xs ++ more)) → (bytes : List ℕ) × IfSome a (λ all. bytes ≡ all) × P bytes
 OfAll-early P None b xs p h = (xs ++ [], tt, h [])
 OfAll-early P (Some us) None xs p h = absurd p
 OfAll-early P (Some us) (Some vs) xs p h = (us, refl, subst P (sym p) (h vs))
 
--- All was read.
+-- If the reader is at its end, a property of the bytes that were read is one of all bytes.
 pub OfAll-read : (P : List ℕ → Type 0) (a b : Option (List ℕ)) (xs : List ℕ) → Consumes a b xs → IsAtEnd b → P xs → (bytes : List ℕ) × IfSome a (λ all. bytes ≡ all) × P bytes
 OfAll-read P None b xs p end h = (xs, tt, h)
 OfAll-read P (Some us) None xs p end h = absurd p

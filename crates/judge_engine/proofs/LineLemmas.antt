@@ -41,7 +41,7 @@ broken_at xs i e =
     let rest : drop i xs ≡ 10 ∷ drop (i + 1) xs = drop-cons xs i 0 p.0 ∙ ap (λ y. y ∷ drop (suc i) xs) ten ∙ ap (λ n. 10 ∷ drop n xs) (sym (add-one i)) in
     (p.0, sym (take-append-drop i xs) ∙ ap (λ ys. take i xs ++ ys) rest)
 
--- A line and its line feed taken off.
+-- A line and its line feed go from the rest of a chunk to the part that is done.
 pub cut_line : (chunk done rest : List ℕ) (i n : ℕ) → chunk ≡ done ++ rest → position is_break rest ≡ Some i → n ≡ length rest → chunk ≡ (done ++ (take i rest ++ 10 ∷ [])) ++ take (n - (i + 1)) (drop (i + 1) rest)
 cut_line chunk done rest i n is e long =
     let b = broken_at rest i e in
@@ -63,7 +63,7 @@ pub some_line : (xs : List ℕ) → (first : List ℕ) × (rest : List (List ℕ
 some_line [] = ([], [], refl)
 some_line (x ∷ xs) = let s = some_line xs in first_split x xs (is_break x) refl s.0 s.1 s.2
 
--- The first line begins with all that precedes a line feed.
+-- If a text begins with bytes that have no line feed, its first line begins with them.
 pub line_begins : (xs more : List ℕ) → IsUnbroken xs → (first : List ℕ) × (rest : List (List ℕ)) × (lines_of (xs ++ more) ≡ (xs ++ first) ∷ rest)
 line_begins [] more h = some_line more
 line_begins (x ∷ xs) more h =

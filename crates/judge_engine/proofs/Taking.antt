@@ -39,7 +39,7 @@ settled basis bytes more w outcome entry rule is t v =
     let there : IsVerdictBy basis (history_of_lines (bytes ++ more)).0 (Illegal entry rule) = subst (λ es. IsVerdictBy basis es (Illegal entry rule)) (sym past.1) stays in
     subst (IsJudgedLines basis (bytes ++ more)) (sym is) (record { verdict = there; whole = λ no. absurd no })
 
--- A line was read.
+-- After a line is read, the watcher stands at the start of the next line.
 pub line_done : (bytes : List ℕ) (h : List Entry) (part : List ℕ) (n next : ℕ) (refused : Option (ℕ × FileFault)) → part ≡ [] → next ≡ n + 1 → is_some refused ≡ false → StandsAt bytes h [] (n + 1) None → StandsAt bytes h part next refused
 line_done bytes h part n next None empty is e s = rw (empty, is) s
 line_done bytes h part n next (Some r) empty is e s = absurd (cc e)
@@ -51,7 +51,7 @@ refused_line basis bytes more h part n number fault refused outcome commits runn
     let legal : IsLegalBy basis h = legal_said basis h commits running (subst (IsVerdictBy basis h) said v) in
     subst (λ found. IsRefusedLine basis found number fault) (sym (there more)) (record { line = refl; legal = legal })
 
--- All bytes were taken in, the last line with a line feed.
+-- If a line feed and no more bytes follow, the lines have the same entries.
 pub all_taken : (bytes : List ℕ) → history_of_lines ((bytes ++ 10 ∷ []) ++ []) ≡ history_of_lines bytes
 all_taken bytes = ap history_of_lines (append-nil (bytes ++ 10 ∷ [])) ∙ last_line bytes
 

@@ -58,7 +58,7 @@ grown_lines new old start workers os i d line before within =
     line ∙ ap (λ t. t ++ outcome_line workers i (get_or os i d)) before ∙ append_assoc start (lines_from workers 0 (take i os)) (outcome_line workers i (get_or os i d))
     ∙ ap (λ m. start ++ m) (sym (lines_more workers os i d within))
 
--- A script file that is refused, and a history file.
+-- Why there are no scripts: the script file or memory was refused.
 pub fails_scripts : (left : Option (List ℕ)) (bytes : List ℕ) (fault : FileFault) → IfSome left (λ all. bytes ≡ take max_read all) → Fails fault (scripts_of bytes) → FailsForScripts left (of_scripts fault)
 fails_scripts left bytes files.NoMemory known fails = tt
 fails_scripts left bytes files.NotJson known fails = (bytes, known, fails)
@@ -66,6 +66,7 @@ fails_scripts left bytes files.Member known fails = (bytes, known, fails)
 fails_scripts left bytes (files.Piece part i) known fails = (bytes, known, fails)
 fails_scripts left bytes files.Limit known fails = (bytes, known, fails)
 
+-- Why there is no history: the history file or memory was refused.
 pub fails_history : (left : Option (List ℕ)) (bytes : List ℕ) (fault : FileFault) → IfSome left (λ all. bytes ≡ take max_read all) → Fails fault (history_of bytes) → FailsForHistory left (of_history fault)
 fails_history left bytes files.NoMemory known fails = tt
 fails_history left bytes files.NotJson known fails = (bytes, known, fails)
@@ -73,7 +74,7 @@ fails_history left bytes files.Member known fails = (bytes, known, fails)
 fails_history left bytes (files.Piece part i) known fails = (bytes, known, fails)
 fails_history left bytes files.Limit known fails = (bytes, known, fails)
 
--- The text of the outcomes of two files.
+-- The text of the right outcomes is a report on the two files.
 pub told : (scripts history : Option (List ℕ)) (work : Work) (entries read : List Entry) (found seen : List Outcome) (workers : ℕ) (text : List ℕ) (well : Bool)
     → OfFile scripts (λ bytes. scripts_of bytes ≡ Ok work) → OfFile history (HistoryOf entries) → read ≡ entries → AreOutcomes work.sizes.callers work.scripts read found
     → workers ≡ work.sizes.callers → seen ≡ found → text ≡ outcomes_text workers seen → ((well ≡ true) ↔ IsWell work.scripts found) → Tells scripts history text well

@@ -23,7 +23,7 @@ message_of NoMemory = codes "no memory"
 message_of Read = codes "read failed"
 message_of Write = codes "write failed"
 
--- The fault of a file; lack of memory is not the file's.
+-- `NoMemory` if memory was refused, else the fault of the file.
 abbrev pub of_file : FileFault → Fault
 of_file files.NoMemory = NoMemory
 of_file files.NotJson = Input files.NotJson

@@ -24,7 +24,8 @@ pub record IsJudgedFile (by_commits : Bool) (bytes : List ℕ) (outcome : Verdic
   pub file : history_of bytes ≡ Ok (stripes, history, version)
   pub verdict : IsVerdictBy (basis_of by_commits stripes version) history outcome
 
--- Why there is no verdict on bytes as a file: they are refused, memory was, or a read failed.
+-- Why there is no verdict on the file that the bytes are: the file is refused, memory is refused,
+-- or a read failed.
 abbrev pub IsUnjudgedFile : List ℕ → Fault → Type 0
 IsUnjudgedFile bytes (Input fault) = history_of bytes ≡ Err fault
 IsUnjudgedFile bytes NoMemory = Unit {0}
@@ -32,7 +33,8 @@ IsUnjudgedFile bytes Read = Unit {0}
 IsUnjudgedFile bytes (Line number fault) = ⊥
 IsUnjudgedFile bytes Write = ⊥
 
--- A property of the bytes that a reader had left, but at most one more than a file may have.
+-- The bytes that were read have this property. They are all that the reader had left, but at most
+-- one more than a file may have.
 abbrev pub OfFile : Option (List ℕ) → (List ℕ → Type 0) → Type 0
 OfFile remaining P = (bytes : List ℕ) × IfSome remaining (λ all. bytes ≡ take max_read all) × P bytes
 

@@ -11,8 +11,8 @@ abbrev pub those : Option Entry → List Entry
 those None = []
 those (Some entry) = entry ∷ []
 
--- The judge, which was fed these entries, was fed those of the line too; or the line is refused
--- with this fault, and it was fed no more.
+-- The judge was fed these entries and then the entries of the line. Or the line is refused with
+-- this fault, and the judge was fed only these entries.
 abbrev pub ReadsLine : Basis → List Entry → Result (Option Entry) FileFault → Option FileFault
     → Judge → Type 0
 ReadsLine basis h line None judge =

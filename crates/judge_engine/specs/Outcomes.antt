@@ -40,7 +40,7 @@ outcomes_message HistoryRead = codes "history read failed"
 outcomes_message NoMemory = codes "no memory"
 outcomes_message Write = codes "write failed"
 
--- The fault of a script file; lack of memory is not the file's.
+-- `NoMemory` if memory was refused, else the fault of the script file.
 abbrev pub of_scripts : FileFault → OutcomesFault
 of_scripts files.NoMemory = NoMemory
 of_scripts files.NotJson = Scripts files.NotJson
@@ -48,7 +48,7 @@ of_scripts files.Member = Scripts files.Member
 of_scripts (files.Piece part i) = Scripts (files.Piece part i)
 of_scripts files.Limit = Scripts files.Limit
 
--- The fault of a history file; lack of memory is not the file's.
+-- `NoMemory` if memory was refused, else the fault of the history file.
 abbrev pub of_history : FileFault → OutcomesFault
 of_history files.NoMemory = NoMemory
 of_history files.NotJson = History files.NotJson
@@ -147,7 +147,7 @@ WritesOutcomes scripts history old new well =
 
 -- The output at a fault. If a write failed, there is a text as `Tells` says, and nothing is stated
 -- of the output. At any other fault nothing is written; if a file is refused, the fault is the one
--- that it has.
+-- that `scripts_of` or `history_of` answers.
 abbrev pub LeavesOutcomes : Option (List ℕ) → Option (List ℕ) → Option (List ℕ)
     → Option (List ℕ) → OutcomesFault → Type 0
 LeavesOutcomes scripts history old new (Scripts fault) =

@@ -16,8 +16,8 @@ abbrev pub says_legal : Verdict → Bool
 says_legal (Legal commits running) = true
 says_legal (Illegal entry rule) = false
 
--- The output if a verdict was not written: nothing if memory was refused. If a write failed,
--- nothing is stated.
+-- The output if a verdict was not written. If memory was refused, the output is unchanged. If a
+-- write failed, nothing is stated of the output.
 abbrev pub FailsToWrite : Option (List ℕ) → Option (List ℕ) → Fault → Type 0
 FailsToWrite old new Write = Unit {0}
 FailsToWrite old new NoMemory = Keeps old new
@@ -25,15 +25,15 @@ FailsToWrite old new Read = ⊥
 FailsToWrite old new (Input fault) = ⊥
 FailsToWrite old new (Line number fault) = ⊥
 
--- The line of a verdict that is as `IsRight` says was written, and `legal` is whether the verdict
--- says legal.
+-- The line of a verdict was written, and nothing else. The verdict is as `IsRight` says, and
+-- `legal` is whether it says legal.
 abbrev pub WritesLine : (Verdict → Type 0) → Bool → Option (List ℕ) → Option (List ℕ) → Type 0
 WritesLine IsRight legal old new =
     (outcome : Verdict) × IsRight outcome × (legal ≡ says_legal outcome)
     × Appends old new (verdict_line outcome)
 
--- The line of a verdict that is as `IsRight` says was written and further lines after it, and
--- `legal` is whether the verdict says legal.
+-- The line of a verdict was written, and further lines after it. The verdict is as `IsRight` says,
+-- and `legal` is whether it says legal.
 abbrev pub WritesLines : (Verdict → Type 0) → Bool → Option (List ℕ) → Option (List ℕ) → Type 0
 WritesLines IsRight legal old new =
     (outcome : Verdict) × (lines : List ℕ) × IsRight outcome × (legal ≡ says_legal outcome)

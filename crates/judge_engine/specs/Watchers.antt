@@ -8,13 +8,13 @@ use Rattle.judge_engine.specs.declared.watcher.Watcher.{Watcher}
 use Rattle.judge_engine.specs.Bases.{IsFedBy}
 use Rattle.judge_engine.specs.Breaks.{IsUnbroken}
 
--- The entries h, and then the entries of `more`; the line that is refused is that of `more`.
+-- The entries `h` and then those of `more`, with the refused line of `more`, if there is one.
 abbrev pub ahead : List Entry → List Entry × Option (ℕ × FileFault)
     → List Entry × Option (ℕ × FileFault)
 ahead h more = (h ++ more.0, more.1)
 
--- The bytes have these entries, and then this part of the line with this number; or a line was
--- refused with this fault. It holds whatever bytes follow.
+-- The bytes have these entries, and then a part of the line with this number. Or they have these
+-- entries, and then a line with this number and fault was refused. Both hold whatever bytes follow.
 abbrev pub StandsAt : List ℕ → List Entry → List ℕ → ℕ → Option (ℕ × FileFault) → Type 0
 StandsAt bytes h part number None =
     IsUnbroken part × ((more : List ℕ) → history_of_lines (bytes ++ more)

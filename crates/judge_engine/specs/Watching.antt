@@ -28,7 +28,8 @@ pub record IsRefusedLine (basis : Basis) (found : List Entry × Option (ℕ × F
   pub line : found.1 ≡ Some (number, fault)
   pub legal : IsLegalBy basis found.0
 
--- Why there is no verdict on what was found: a line is refused, memory was, or a read failed.
+-- Why there is no verdict on what was found: a line is refused, memory is refused, or a read
+-- failed.
 abbrev pub HasNoVerdict : Basis → List Entry × Option (ℕ × FileFault) → Fault → Type 0
 HasNoVerdict basis found (Line number fault) = IsRefusedLine basis found number fault
 HasNoVerdict basis found NoMemory = Unit {0}
@@ -40,7 +41,7 @@ HasNoVerdict basis found Write = ⊥
 abbrev pub IsUnjudged : Basis → List ℕ → Fault → Type 0
 IsUnjudged basis bytes fault = HasNoVerdict basis (history_of_lines bytes) fault
 
--- A property of the bytes that a reader had left; the reader need not have read them all.
+-- All bytes that a reader had left have this property, even if not all of them were read.
 abbrev pub OfAll : Option (List ℕ) → (List ℕ → Type 0) → Type 0
 OfAll remaining P = (bytes : List ℕ) × IfSome remaining (λ all. bytes ≡ all) × P bytes
 

@@ -1,7 +1,7 @@
 //! The commands of `judge` that answer a verdict, over a reader and a writer; other modules read,
-//! judge and write. Each command makes the whole text of a verdict before it writes, so an earlier
-//! fault leaves the output unchanged; only `why` then writes the flaw of a refused file. `watch`
-//! keeps a checker and a part of the input in memory, the others a file.
+//! judge and write. Each command makes the whole text of a verdict before it writes. So a fault
+//! before that leaves the output unchanged, except that `why` writes the flaw of a refused file.
+//! `watch` keeps a checker and a part of the input in memory; the others keep a whole file.
 ghost use Rattle.std.specs.Prelude.{IfOk, IfErr};
 ghost use Rattle.judge_engine.specs.Bases.{HasStripes};
 ghost use Rattle.judge_engine.specs.Files.{Checks, FailsToCheck, FailsToExplain};
@@ -20,10 +20,10 @@ use std::io::{Read, Write};
 /// ends with a line feed, and nothing else: `legal C commits O open` at the end of the input, or
 /// `illegal entry I rule R` at the first bad entry. The answer is whether the history is legal.
 ///
-/// A line is the array that an entry is in a history file of the newest version. Blank lines are
-/// passed over, and a last line without its line feed is read as a line. There may be any number of
-/// lines. Nothing is read after the bytes with the first bad entry. A read that failed is not tried
-/// again. A write is tried again only if it was interrupted.
+/// Each line is an entry, written as the array that a history file of the newest version has for
+/// it. Blank lines are passed over, and a last line without its line feed is read as a line. There
+/// may be any number of lines. Nothing is read after the bytes with the first bad entry. A read
+/// that failed is not tried again. A write is tried again only if it was interrupted.
 ///
 /// # Errors
 ///
@@ -94,9 +94,10 @@ pub fn check<R: Read + Drop, W: Write>(
 /// Judges a history file as `check` does, and writes after the verdict's line, if it is illegal,
 /// lines that lead to the bad entry. The answer is whether the history is legal.
 ///
-/// Of a file that is refused it writes one line, the flaw that `bad_file` finds: that the file is
-/// too long or no JSON; or the JSON path of the first place at fault, the value there and the
-/// values that are allowed instead, with the range, or that the element is one too many.
+/// If the file is refused, one line is written instead: the flaw that `bad_file` finds. The line
+/// says that the file is too long or no JSON. Or it has the JSON path of the first place at fault,
+/// with the value there and the values that are allowed instead, with their range; if no value is
+/// allowed there, it has the path and the words "an element too many".
 ///
 /// # Errors
 ///

@@ -164,7 +164,7 @@ fn put_last(text: &mut String, key: u64, last: Option<(Change, Fate)>) -> Result
     }
 }
 
-/// Adds the first reply that contradicts those before it.
+/// Adds the first reply that contradicts the replies before it, if there is one.
 fn put_first_torn(
     alloc: Global,
     text: &mut String,
@@ -343,7 +343,8 @@ pub(crate) fn lines_by_commits(
     Ok(text)
 }
 
-/// The index of the bad entry, which is below the number of entries, and its rule.
+/// The index of the bad entry, which is below the number of entries, and the rule that the entry
+/// breaks.
 fn bad_in(verdict: Verdict, count: usize) -> Option<(usize, Rule)>
     ensures { IfSome result (λ bad. bad.0 < count) }
 {

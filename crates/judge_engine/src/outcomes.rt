@@ -175,7 +175,7 @@ fn text_of(alloc: Global, workers: usize, outcomes: &[Outcome]) -> Result<String
     Ok(text)
 }
 
-/// The fault of a script file; lack of memory is not the file's. Constant time.
+/// `NoMemory` if memory was refused, else the fault of the script file. Constant time.
 fn of_scripts(fault: FileFault) -> OutcomesFault
     ensures { result ≡ of_scripts fault }
 {
@@ -187,7 +187,7 @@ fn of_scripts(fault: FileFault) -> OutcomesFault
     }
 }
 
-/// The fault of a history file; lack of memory is not the file's. Constant time.
+/// `NoMemory` if memory was refused, else the fault of the history file. Constant time.
 fn of_history(fault: FileFault) -> OutcomesFault
     ensures { result ≡ of_history fault }
 {

@@ -81,8 +81,8 @@ fn read_on<R: Read>(
     Err(Fault::Read)
 }
 
-/// The verdict on the entries that the lines of a reader are, at the first bad one or at the end of
-/// the input.
+/// The verdict on a reader's lines, each of which is an entry: at the first bad entry, or at the
+/// end of the input.
 ///
 /// # Errors
 ///

@@ -30,7 +30,8 @@ fn first_break(bytes: &[u8]) -> Option<usize>
     bytes.iter().position(|byte| *byte == b'\n')
 }
 
-/// Feeds the judge the entry that a line is, or answers with the line's fault.
+/// Feeds the judge the entry of a line, unless the line is blank. Answers the fault of a line that
+/// is refused.
 fn read_line(
     judge: &mut Judge,
     scratch: &mut Scratch<Global>,
@@ -98,8 +99,8 @@ impl Watcher {
         Ok(())
     }
 
-    /// Reads the present line; `rest` is the rest of it. The line is not copied unless an earlier
-    /// part of it was kept, and not if it is too long.
+    /// Reads the present line; `rest` is the rest of it. The line is copied only if an earlier part
+    /// of it was kept, and it is not too long.
     fn read_rest(&mut self, rest: &[u8]) -> Result<Option<FileFault>, Fault>
         ensures ok { IfOk result (λ fault. (basis : Basis) (h : List Entry) →
             IsFedBy basis h self.old.judge →
@@ -165,8 +166,8 @@ impl Watcher {
         self.hold(rest)
     }
 
-    /// The verdict, if an entry is bad: no further byte can change it then. None if no entry is bad
-    /// and no line is refused.
+    /// Answers the verdict if an entry is bad; no further byte can change that verdict. Answers
+    /// `None` if no entry is bad and no line is refused.
     ///
     /// # Errors
     ///

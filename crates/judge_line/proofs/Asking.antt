@@ -21,7 +21,7 @@ by_kind : (kinds : Kinds) (found : Option (Text × List Row)) (kind : ErrorKind)
 by_kind [] found kind what among is = absurd among
 by_kind (first ∷ kinds) found kind what among is = (kind, among, is)
 
--- The call that the words ask for if the parse fails, and not for memory.
+-- The call that the words ask for if the parse fails, and memory was not refused.
 pub refused : (app : App) (words : List Text) (error : Error) (what : Option Asked) → app ≡ command_line → (is_simple_and_free app ≡ true → HasKind (fault_of app words) error) → (kind_of error ≡ OutOfMemory → ⊥)
     → what ≡ answer_to (kind_of error) → Asks words what
 refused app words error what same fails other is =

@@ -1,5 +1,5 @@
--- The outcome of each command: its engine ran on the open source, it failed, or the source was not
--- opened.
+-- The outcome of each command: its engine ran on the open source, the engine failed, or the source
+-- was not opened.
 use Rattle.std.proofs.Common.{◌≡◌, ◌⊎◌, inl, inr, ℕ, Bool, List, Option, Some, None, Ok, Err, refl, sym, subst, ◌∙◌, codes}
 use Rattle.std.specs.Result.{IsErrAnd}
 use Rattle.std.specs.Io.KnownBytes.{Keeps}

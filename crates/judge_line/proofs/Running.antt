@@ -17,7 +17,7 @@ pub memory_or_is : (kind : ErrorKind) (other : Failure) → (memory_or kind othe
 memory_or_is OutOfMemory other = inl refl
 memory_or_is kind other = inr refl
 
--- A property of the words is one of the words that are known.
+-- If the words have a property, and some words are known, the known words have the property.
 of_known : (spoken : Option (List Text)) (words : List Text) (P : List Text → Type 0) → IfSome spoken (λ known. words ≡ known) → P words → IfSome spoken P
 of_known None words P same holds = tt
 of_known (Some known) words P same holds = subst P same holds

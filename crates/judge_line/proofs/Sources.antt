@@ -1,5 +1,5 @@
--- A statement about a source's bytes is one about the bytes that the file of its name is known to
--- have.
+-- A statement about the bytes of a source also holds of the bytes that the file with the source's
+-- name is known to have.
 use Rattle.std.proofs.Common.{◌≡◌, ℕ, Bool, List, Option, Some, None, take, subst}
 use Rattle.std.specs.Prelude.{IfSome}
 use Rattle.history_check.specs.declared.verdict.Verdict.{Verdict}
@@ -62,7 +62,7 @@ fails_to_watch basis known bytes NoMemory same h = h
 fails_to_watch basis known bytes Read same h = h
 fails_to_watch basis known bytes Write same h = h
 
--- A report on the two sources of `outcomes` is one on the two files.
+-- A report on the two sources of `outcomes` is also a report on the two files.
 tells : (s h left right : Option (List ℕ)) (text : List ℕ) (well : Bool) → Holds s left → Holds h right → Tells left right text well → Tells s h text well
 tells s h left right text well one two (read, is, more) =
     (read, read_same s left (λ all. read ≡ take max_read all) one is, of_file h right (λ right_read. IsReport read right_read text well) two more)

@@ -20,7 +20,7 @@ below n fits =
 pub fits : (n : ℕ) → 1 ≤ n → n ≤ max_stripes → Some n ≡ in_range n
 fits n low high = sym (ap (λ (b : Bool). if b then Some n else None) (and_from _ _ (le-leb 1 n low) (le-leb n max_stripes high)))
 
--- A parse of the word as a number, if it is in range.
+-- The word asks for the number that it is parsed as, if that number is in range, and else for none.
 pub parsed : {E : Type 0} (word : List ℕ) (r : Result ℕ E) → ParsesUnsigned 64 10 word r → option_and_then in_range (result_ok r) ≡ stripes_of word
 parsed word (Ok n) parses =
     let ds = without_leading_plus word in

@@ -39,7 +39,8 @@ Ends IsDone HasFailed outcome = MatchResult outcome IsDone (ByFault HasFailed)
 abbrev pub Shows : Text → Option (List ℕ) → Option (List ℕ) → Bool → Type 0
 Shows text old new well = (well ≡ true) × Appends old new (text ++ 10 ∷ [])
 
--- The output if `outcomes` fails: that of its fault, or nothing if memory was refused.
+-- The output if `outcomes` fails: as `LeavesOutcomes` says of its fault, or unchanged if memory was
+-- refused before the engine was called.
 abbrev pub LeavesBoth : Option (List ℕ) → Option (List ℕ) → Option (List ℕ) → Option (List ℕ)
     → Failure → Type 0
 LeavesBoth scripts history old new (failures.Outcomes fault) =
@@ -96,8 +97,8 @@ status_after (Ok true) = 0
 status_after (Ok false) = 1
 status_after (Err failure) = status_of failure
 
--- The text on standard error: the message of a failure, unless not all of it was taken; nothing if
--- there was no failure.
+-- The text on standard error. After a failure it is the message, if all of the message was taken.
+-- If there was no failure, nothing is written.
 abbrev pub Tells : Option (List ℕ) → Option (List ℕ) → Bool → Outcome → Type 0
 Tells old new is_told (Ok well) = Keeps old new × (is_told ≡ true)
 Tells old new is_told (Err failure) =

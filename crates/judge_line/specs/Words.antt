@@ -19,9 +19,9 @@ use Rattle.judge_engine.specs.Bases.{HasStripes}
 use Rattle.judge_line.specs.declared.words.Call.{Call}
 use Rattle.judge_line.specs.declared.words.Call.TheVariants as calls
 
--- A call: to judge the history file of a name, by the order of commits or not, or to say why it is
--- bad; to judge the entries of standard input by such rules; to tell the outcomes of a script file
--- in a history file; or to show the usage or the version.
+-- A call: to judge the history file with a name, by the order of commits or by locks, or to judge
+-- it and say why it is bad; to judge the entries of standard input by given rules; to tell the
+-- outcomes of a script file in a history file; or to show the usage or the version.
 pub data Asked : Type 0 where
   Check : Bool → Text → Asked
   Why : Bool → Text → Asked
@@ -84,7 +84,7 @@ command_line =
     let watch = with_subcommand outcomes watching.top in
     with_subcommand watch (over_history (codes "why")).top
 
--- A flag was found, and set.
+-- Whether a flag was found and is set.
 abbrev pub is_set : Option Text → Bool
 is_set None = false
 is_set (Some word) = bytes_eq word (codes "true")
@@ -98,8 +98,8 @@ stripes_of word =
     if is_numeral digits && (nat_le 1 stripes && nat_le stripes max_stripes)
     then Some stripes else None
 
--- The rules to judge by, by the flag and the word for the number of locks, if there is one: both
--- together are no call.
+-- The rules to judge by, given the flag and the word for the number of locks, each of which may be
+-- missing. Both together are no call.
 abbrev pub basis_for : Bool → Option Text → Option Basis
 basis_for true None = Some Commits
 basis_for true (Some word) = None
@@ -112,7 +112,7 @@ outcomes_for scripts history =
     if bytes_eq scripts (codes "-") && bytes_eq history (codes "-")
     then None else Some (Outcomes scripts history)
 
--- The call of a command of this name, by what was found for its arguments.
+-- The call of the command with this name, given the arguments that were found.
 abbrev pub asked_in : Text → List Row → Option Asked
 asked_in name rows =
     let by_commits = is_set (first_of (codes "serializable") rows) in
@@ -127,13 +127,15 @@ asked_in name rows =
     then option_map (Why by_commits) (first_of (codes "FILE") rows)
     else None
 
--- The call if `clap` answers with an error of this kind: help and the version are such errors.
+-- The call that words ask for if `clap` answers them with an error of this kind. `clap` answers a
+-- call for help or for the version with an error too.
 abbrev pub answer_to : ErrorKind → Option Asked
 answer_to DisplayHelp = Some Help
 answer_to DisplayVersion = Some Version
 answer_to kind = None
 
--- An error of this kind is not that memory was refused, and gives this call.
+-- The kind of error is not refused memory, and words that `clap` answers with it ask for this call,
+-- or for none.
 abbrev pub IsAnswered : ErrorKind → Option Asked → Type 0
 IsAnswered kind what = (kind ≡ OutOfMemory → ⊥) × (what ≡ answer_to kind)
 
@@ -143,6 +145,6 @@ abbrev pub AsksBy : Kinds → Option (Text × List Row) → Option Asked → Typ
 AsksBy [] found what = what ≡ option_and_then (λ command. asked_in command.0 command.1) found
 AsksBy kinds found what = (kind : ErrorKind) × IsAmong kind kinds × (what ≡ answer_to kind)
 
--- The words, the first of which is the program's name, ask for this call; or they are no call.
+-- The words ask for this call, or for none. The first word is the program's name.
 abbrev pub Asks : List Text → Option Asked → Type 0
 Asks words what = AsksBy (fault_of command_line words) (subcommand_of command_line words) what

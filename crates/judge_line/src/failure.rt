@@ -1,6 +1,7 @@
 //! The reasons why a call of the program has no verdict or no outcomes, and the usage, which is
-//! printed for words that are no call. The engines have two fault types and know no words. Here
-//! both types and the usage error are one type, with one text and one exit status for each value.
+//! printed for words that are no call. The engines have two fault types, and do not read the
+//! command line. Here both types and the usage error are one type, with one text and one exit
+//! status for each value.
 ghost use Rattle.std.specs.Prelude.{◌≡◌};
 ghost use Rattle.judge_line.specs.Failures.{message_of, status_of};
 ghost use Rattle.judge_line.specs.declared.failure.Failure.TheVariants as failures;

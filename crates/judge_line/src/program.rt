@@ -32,7 +32,7 @@ pub struct Ending {
     pub is_told: bool,
 }
 
-/// Writes a line. The answer is that all is well.
+/// Writes a line. The answer is `true`, for all is well, if the write succeeds.
 fn show<W: Write>(output: &mut W, text: &str) -> Result<bool, Failure>
     ensures { Ends (Shows text.now (W.contents output.old) (W.contents output.new))
         (λ fault. fault ≡ faults.Write) result }
@@ -130,8 +130,8 @@ fn outcomes_in<S: System, W: Write>(
     Ok(tell_outcomes(alloc, scripts, history, output)?)
 }
 
-/// Does what a call asks for. The answer is whether all is well: it is not if a history is illegal,
-/// or a script without an abort was given up.
+/// Does what a call asks for. The answer is `false` if a history is illegal, or a script without an
+/// abort was given up; else it is `true`, for all is well.
 fn answer<S: System, W: Write>(
     alloc: Global,
     system: &S,

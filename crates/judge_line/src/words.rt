@@ -1,5 +1,5 @@
-//! The command line of `judge`, by the rules of `clap`: the call that the words ask for, or that
-//! they ask for none. Numbers are tested here, so an engine can run each call (`IsReady`): `watch`
+//! The command line of `judge`, by the rules of `clap`: the call that the words ask for, if they
+//! ask for one. Numbers are tested here, so an engine can run each call (`IsReady`): `watch`
 //! has 1 to 4,096 locks. Each command is made and added separately, which keeps the proof of
 //! `command` short.
 ghost use Rattle.std.specs.Prelude.{◌≡◌, ◌⊎◌, false, Some, None, IfOk, IfErr, IfSome, codes, map, option_map};
@@ -143,7 +143,7 @@ fn is_by_commits(found: &ArgMatches<'_>) -> bool
     }
 }
 
-/// How many locks there are, by the word that says so: 1 to 4,096.
+/// The number of locks that a word asks for, if it is from 1 to 4,096.
 fn stripes_in(word: &str) -> Option<u64>
     ensures { result ≡ stripes_of word.now }
 {
@@ -155,7 +155,8 @@ fn stripes_in(word: &str) -> Option<u64>
     }
 }
 
-/// The rules to judge by, by the flag and the word for the number of locks.
+/// The rules to judge by, given the flag and the word for the number of locks. Answers `None` if
+/// both are given, or the word is no number from 1 to 4,096.
 fn basis_in(by_commits: bool, word: Option<&str>) -> Option<Basis>
     ensures basis { result ≡ basis_for by_commits (option_map (λ text. text.now) word.entry) }
     ensures stripes { IfSome result HasStripes }
@@ -175,7 +176,7 @@ fn basis_in(by_commits: bool, word: Option<&str>) -> Option<Basis>
     }
 }
 
-/// The call for the outcomes of these files, unless standard input would have to be both.
+/// The call for the outcomes of these files, unless both are standard input.
 fn outcomes_of<'a>(scripts: &'a str, history: &'a str) -> Option<Call<'a>>
     ensures call { option_map asked_of result ≡ outcomes_for scripts.entry.now history.entry.now }
     ensures stripes { IfSome result (λ call. IsReady (asked_of call)) }
@@ -187,7 +188,7 @@ fn outcomes_of<'a>(scripts: &'a str, history: &'a str) -> Option<Call<'a>>
     }
 }
 
-/// The call of the command of this name, by what was found for its arguments.
+/// The call of the command with this name, given the arguments that were found.
 fn call_named<'a>(name: &str, found: &ArgMatches<'a>) -> Option<Call<'a>>
     ensures call { option_map asked_of result ≡ asked_in name.now (rows_of (found_of found.now)) }
     ensures stripes { IfSome result (λ call. IsReady (asked_of call)) }
@@ -215,8 +216,8 @@ fn call_named<'a>(name: &str, found: &ArgMatches<'a>) -> Option<Call<'a>>
     }
 }
 
-/// The call of words that `clap` answers with an error of this kind: help and the version are such
-/// errors.
+/// The call that words ask for if `clap` answers them with an error of this kind. `clap` answers a
+/// call for help or for the version with an error too.
 fn call_for<'a>(kind: ErrorKind) -> Result<Call<'a>, Failure>
     ensures call { IfOk result (λ call. IsAnswered kind (Some (asked_of call))) }
     ensures stripes { IfOk result (λ call. IsReady (asked_of call)) }

@@ -35,7 +35,8 @@ caller_is : (caller : ℕ) (holder : Option ℕ) → is_caller caller holder ≡
 caller_is caller None is = cc
 caller_is caller (Some holder) is = ap (λ h. Some h) (eqb-true holder caller is)
 
--- The list after a write, at each place.
+-- After a write, an element has a property if it is the written one and that has the property, or
+-- if it is another one and had the property before.
 get_or-set_is : (holders : Holders) (stripe other : ℕ) (holder : Option ℕ) → stripe < length holders → (P : Option ℕ → Type 0) → (other ≡ stripe → P holder) → (other ≢ stripe → P (get_or holders other None)) → P (get_or (set holders stripe holder) other None)
 get_or-set_is holders stripe other holder within P here elsewhere =
     elim (cases_eq other stripe) [
@@ -85,7 +86,7 @@ IsChain-elsewhere holders older caller stripe first next holder chain is not_bef
           (λ differs. is.held other);
     }
 
--- A chain whose first stripe is this one is this stripe and a rest.
+-- A chain that begins at this stripe is this stripe and a rest.
 chain_from : (holders older : Holders) (caller stripe : ℕ) (first : Option ℕ) (chain : List ℕ) → IsChain holders older caller first chain → first ≡ Some stripe → (rest : List ℕ) × IsChain holders older caller (Some stripe) (stripe ∷ rest)
 chain_from holders older caller stripe first [] is begins = absurd (none_is_not_some first stripe is.leads begins)
 chain_from holders older caller stripe first (other ∷ rest) is begins =
@@ -95,7 +96,7 @@ chain_from holders older caller stripe first (other ∷ rest) is begins =
 first_held : (holders older : Holders) (caller stripe : ℕ) (rest : List ℕ) → IsChain holders older caller (Some stripe) (stripe ∷ rest) → get_or holders stripe None ≡ Some caller
 first_held holders older caller stripe rest is = caller_is caller _ (sym (is.held stripe) ∙ or_left (eqb stripe stripe) (is_in rest stripe) (eq-eqb stripe stripe refl))
 
--- Without its first stripe a chain is a chain of the rest.
+-- After the first stripe of a chain is freed, the rest is the caller's chain.
 IsChain-freed : (holders older : Holders) (caller stripe : ℕ) (rest : List ℕ) → IsChain holders older caller (Some stripe) (stripe ∷ rest) → IsChain (set holders stripe None) older caller (get_or older stripe None) rest
 IsChain-freed holders older caller stripe rest is =
     let within = held_below holders stripe caller (first_held holders older caller stripe rest is) in
@@ -123,7 +124,7 @@ none_else-freed holders stripe within none_else other holder =
     (λ same held. absurd (none_is_not_some None holder refl held))
     (λ differs held. none_else other holder held)
 
--- A number that is no caller's holds no stripe.
+-- A release by a number from 64 on, which no caller has, changes no holder.
 not_a_caller : (caller : ℕ) (held : Option ℕ) → ((holder : ℕ) → held ≡ Some holder → holder < 64) → 64 ≤ caller → held ≡ without_caller caller held
 not_a_caller caller None few past = refl
 not_a_caller caller (Some holder) few past =
@@ -225,7 +226,7 @@ fewer_held holders caller stripe within held =
     let one : cond {A = ℕ} (is_caller caller (get_or holders stripe None)) 1 0 ≡ 1 = ap (λ b. cond {A = ℕ} b 1 0) (some_is_caller caller _ held) in
     omega (arith, one, sum_by-set (λ (holder : Option ℕ). cond {A = ℕ} (is_caller caller holder) 1 0) holders stripe None None within)
 
--- A stripe of the caller may be freed first: the release leaves the same holders.
+-- If one of the caller's stripes is freed before the release, the release leaves the same holders.
 pub without_caller-set : (holders : Holders) (caller stripe other : ℕ) → get_or holders stripe None ≡ Some caller → without_caller caller (get_or (set holders stripe None) other None) ≡ without_caller caller (get_or holders other None)
 without_caller-set holders caller stripe other held =
     get_or-set_is holders stripe other None (held_below holders stripe caller held) (λ holder. without_caller caller holder ≡ without_caller caller (get_or holders other None))

@@ -20,7 +20,7 @@ pub record IsChain (holders older : List (Option ℕ)) (caller : ℕ) (first : O
   pub leads : Leads older first chain
   pub held : (stripe : ℕ) → is_in chain stripe ≡ is_caller caller (holder_of holders stripe)
 
--- Each of the 64 callers has its chain, and no stripe has another holder.
+-- Each of the 64 callers has its chain, and only these callers hold stripes.
 pub record AreChained (holders older newest : List (Option ℕ)) : Type 0 where
   pub as_many : length older ≡ length holders
   pub callers : length newest ≡ 64

@@ -3,11 +3,11 @@ use Rattle.std.specs.Prelude.{◌≡◌, ℕ, Option, Some, None, ◌==◌, if�
 use Rattle.std.proofs.Common.{refl, sym, inl, inr, eq-eqb, ne_eqb}
 use Rattle.std.proofs.lemmas.Bool.{cases_eq}
 
--- The number that is packed here, if `none` stands for none.
+-- The option that a number stands for: no number if it is `none`, else the number itself.
 abbrev pub unpacked : ℕ → ℕ → Option ℕ
 unpacked none number = if number == none then None else Some number
 
--- The packed form of this number, or of none.
+-- The number that stands for an option: `none` if there is no number, else the number itself.
 abbrev pub packed : ℕ → Option ℕ → ℕ
 packed none None = none
 packed none (Some number) = number

@@ -98,7 +98,8 @@ impl KeyLocks {
         }
     }
 
-    /// Frees all stripes that the caller holds, and no other: none if no caller has this number.
+    /// Frees all stripes that the caller holds, and no other stripe. Frees none if no caller has
+    /// this number.
     ///
     /// # Cost
     ///

@@ -4,7 +4,7 @@
 /// The answer to a caller that asks for a stripe.
 #[derive(Clone, Copy, Debug, PartialEq, Eq)]
 pub enum LockAnswer {
-    /// The stripe is the caller's now, or was so before.
+    /// The caller holds the stripe: it took the stripe now, or held it before.
     Granted,
     /// This other caller holds the stripe.
     Busy(usize),

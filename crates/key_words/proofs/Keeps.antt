@@ -45,14 +45,15 @@ module _ (s : St) (o : IsOrderly s) (id : ℕ) (v w : View) (me : get_elem? s.vi
       (id, w, set_here s.views id w (within s.views id v me), t.3 ∙ ap (λ (n : ℕ). n + 1) (ap (λ (y : View). y.number) is ∙ sym same)))
       (λ ne. (t.0, t.1, set_else s.views id t.0 w ne ∙ t.2, t.3)))) n
 
-  -- A stripe that was taken before counts as taken after.
+  -- If a stripe was taken (`WasTaken`) by the views before, it was taken by the views after.
   lifted : (stripe word : ℕ) → WasTaken s.views stripe word → WasTaken after stripe word
   lifted stripe word t = dite (ℕ_discrete t.0 id)
       (λ e. let is : t.1 ≡ v = some-injective t.1 v (sym t.2 ∙ subst (λ (k : ℕ). get_elem? s.views k ≡ some v) (sym e) me) in
       (id, w, set_here s.views id w (within s.views id v me), t.3 ∙ ap (λ (n : ℕ). n + 1) (ap (λ (y : View). y.number) is ∙ sym same), kept (stripe, 0) (subst (λ (u : View). Contains u.notes (stripe, 0)) is t.4)))
       (λ ne. (t.0, t.1, set_else s.views id t.0 w ne ∙ t.2, t.3, t.4))
 
-  -- The words and slots change, and the view `w` is in place of `v`.
+  -- The rule is kept, under these conditions, when words and slots change and the view `w` takes
+  -- the place of `v`.
   pub moved : (ws : List ℕ) (hs : List (Maybe (Option ℕ))) → length ws ≡ length s.words → length hs ≡ length s.homes
       → ((k : ℕ) → (get_or ws k 0 ≡ 0) ⊎ ((get_or ws k 0 ≡ v.number + 1) ⊎ (get_or ws k 0 ≡ get_or s.words k 0)))
       → ((k : ℕ) → times k w.held ≡ once_for v.number (get_or ws k 0))
@@ -85,7 +86,8 @@ module _ (s : St) (o : IsOrderly s) (id : ℕ) (v w : View) (me : get_elem? s.vi
         (λ (t : (i ≢ id) × (get_elem? s.views i ≡ some u)). o.noted i u t.1 k word ne has) (at_set s.views id i w u e));
   }
 
-  -- The words are unchanged, and so are the slots, each looked at by its position.
+  -- The rule is kept when only the view changes: the words are unchanged, and so is the slot at
+  -- each position.
   pub unmoved : (hs : List (Maybe (Option ℕ))) → length hs ≡ length s.homes → ((k : ℕ) → get_elem? hs k ≡ get_elem? s.homes k)
       → ((k : ℕ) → times k w.held ≡ times k v.held)
       → ((k word : ℕ) → word ≢ 0 → Contains w.notes (k, word) → WasTaken s.views k word)

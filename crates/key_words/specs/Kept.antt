@@ -12,14 +12,14 @@ use Rattle.key_words.specs.Steps.{gained, with_note}
 abbrev pub IsSame : Rights → Rights → Type 0
 IsSame r q = (q.seat ≡ r.seat) × (q.rights.items ≡ r.rights.items)
 
--- The seat holds the stripe now, and its right is the newest.
+-- The seat now holds the stripe too, and the stripe's right is added at the end of the rights.
 abbrev pub Gains : Rights → ℕ → Rights → Type 0
 Gains r stripe q = (known q.seat ≡ gained (known r.seat) stripe)
     × (q.rights.items ≡ r.rights.items ++ stripe ∷ [])
 
--- A take by a caller that keeps its rights. Mine: the stripe's right is at this position; if the
--- seat held the stripe before, nothing was done, and if not, it was free and is the seat's now.
--- Another: the seat did not hold the stripe, another seat did, the word is noted, and the rights
+-- A take by a caller that keeps its rights. `Mine`: the stripe's right is at this position of the
+-- rights; if the seat held the stripe before, nothing has changed; if not, the stripe was free, and
+-- the seat holds it now. `Another`: another seat held the stripe; the word is noted, and the rights
 -- are unchanged.
 abbrev pub Tries : Rights → ℕ → Tried → Rights → Type 0
 Tries r stripe (Mine place) q = (slice_get q.rights.items place ≡ Some stripe)

@@ -25,8 +25,8 @@ WasTaken views stripe word =
     (seat : ℕ) × (v : View) × (get_elem? views seat ≡ some v) × (word ≡ v.number + 1)
     × Contains v.notes (stripe, 0)
 
--- Each stripe is held by one seat, the one that its word names, or its right is at home; and each
--- note of a word other than 0 names a seat that has taken the stripe.
+-- Each stripe's right is at home, or one seat holds the stripe: the seat that the stripe's word
+-- names. Each note of a word other than 0 names a seat that has taken the stripe.
 pub record IsOrderly (s : State (Option ℕ) View) : Type 0 where
   pub wide : length s.homes ≡ length s.words
   -- No two views have the same number, and each number is below the count of the view of seat 0.
@@ -36,18 +36,18 @@ pub record IsOrderly (s : State (Option ℕ) View) : Type 0 where
   pub below : (i : ℕ) (v : View) → get_elem? s.views i ≡ some v → v.number < first.made
   pub apart : (i j : ℕ) (v w : View) → get_elem? s.views i ≡ some v → get_elem? s.views j ≡ some w
       → v.number ≡ w.number → i ≡ j
-  -- A word is 0 or names a seat, and a seat holds a stripe, once, exactly if the word is the
-  -- seat's.
+  -- A word is 0 or names a seat. A seat holds a stripe exactly if the stripe's word names the seat,
+  -- and then it holds the stripe once.
   pub named : (stripe : ℕ) → stripe < length s.words → IsNamed s.views (slice_index s.words stripe)
   pub held : (i : ℕ) (v : View) → get_elem? s.views i ≡ some v → (stripe : ℕ)
       → times stripe v.held ≡ once_for v.number (slice_index s.words stripe)
-  -- If the word is 0 the stripe's slot is at home with its right, and if not it is out.
+  -- If a stripe's word is 0, its slot is at home with its right; if not, its slot is out.
   pub home : (stripe : ℕ) → stripe < length s.words → slice_index s.words stripe ≡ 0
       → get_elem? s.homes stripe ≡ some (some (Some stripe))
   pub out : (stripe : ℕ) → stripe < length s.words → slice_index s.words stripe ≢ 0
       → get_elem? s.homes stripe ≡ some none
-  -- A seat that holds a stripe has noted that its word was 0, and a seat is noted as a stripe's
-  -- holder only after it took the stripe.
+  -- A seat that holds a stripe has noted that the stripe's word was 0. A seat is noted as a
+  -- stripe's holder only after it has taken the stripe.
   pub taken : (i : ℕ) (v : View) → get_elem? s.views i ≡ some v → (stripe : ℕ) → Holds v stripe
       → Contains v.notes (stripe, 0)
   pub noted : (i : ℕ) (v : View) → get_elem? s.views i ≡ some v → (stripe word : ℕ) → word ≢ 0

@@ -1,4 +1,4 @@
--- The steps at the words: the seat after each.
+-- The steps at the words: for each step, the seat after it.
 use Rattle.std.specs.Prelude.{◌≡◌, ◌≢◌, ◌↔◌, ℕ, ◌+◌, List, [], ◌∷◌, ◌++◌, Option, Some, None}
 use Rattle.atomic_table.specs.Table.{Me, Step, rest}
 use Rattle.txn_words.specs.Held.{removed}
@@ -17,7 +17,7 @@ Told = Step (Option ℕ) → Sat → ℕ → Sat → Type 0
 abbrev pub with_note : View → ℕ → ℕ → View
 with_note v stripe word = view v.number v.made v.held (v.notes ++ (stripe, word) ∷ [])
 
--- The stripe is held, and noted as free.
+-- The view after the seat has taken the stripe: it holds the stripe, and has noted the word 0.
 abbrev pub gained : View → ℕ → View
 gained v stripe = view v.number v.made (stripe ∷ v.held) (v.notes ++ (stripe, 0) ∷ [])
 
@@ -25,11 +25,11 @@ gained v stripe = view v.number v.made (stripe ∷ v.held) (v.notes ++ (stripe, 
 abbrev pub lost : View → ℕ → View
 lost v stripe = view v.number v.made (removed stripe v.held) v.notes
 
--- One more seat was made.
+-- The view of the first seat after one more seat was split off.
 abbrev pub elder : View → View
 elder v = view v.number (v.made + 1) v.held v.notes
 
--- The seat that was made.
+-- The view of the seat that was split off.
 abbrev pub newborn : View → View
 newborn v = view v.made 0 [] []
 
@@ -38,8 +38,8 @@ abbrev pub emptied : List ℕ → List (ℕ × Option ℕ)
 emptied [] = []
 emptied (stripe ∷ others) = (stripe, None) ∷ emptied others
 
--- If the word was 0, the seat holds the stripe and has its slot with the right. If not, it notes
--- the word, which is its own exactly if it held the stripe before.
+-- If the word was 0, the seat now holds the stripe and has its slot out, with the right. If not,
+-- the seat notes the word; the word names this seat exactly if the seat held the stripe before.
 abbrev pub took : Told
 took st m found n = (found ≡ 0 → n ≡ (gained m.0 st.word, (st.word, Some st.word) ∷ m.1))
     × (found ≢ 0 → (n ≡ (with_note m.0 st.word found, m.1))

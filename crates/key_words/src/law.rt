@@ -1,6 +1,6 @@
-//! A law of the words, by a function that does nothing and whose contract is the law: a crate above
-//! can cite it without naming a lemma of this crate. No contract of a call could say it, since each
-//! is about one seat: the law compares the views of two.
+//! A law of the words, as the contract of a function that does nothing. So a crate above can cite
+//! the law without naming a lemma of this crate. The contract of a call cannot state it: such a
+//! contract is about one seat, and the law compares the views of two seats.
 ghost use Rattle.key_words.specs.Laws.{HeldOnce};
 
 /// No stripe is held in two views.

@@ -14,7 +14,7 @@ use std::alloc::{AllocError, Global};
 /// A caller's seat, and the rights of the stripes that it holds, the newest last.
 ///
 /// The type guarantees that the rights are those of the stripes that the seat holds, each once. So
-/// no call loses one; only dropping the whole value loses its rights.
+/// no call loses a right; rights are lost only if the whole value is dropped.
 #[derive(Drop)]
 pub struct Rights {
     pub(crate) seat: KeySeat,

@@ -1,6 +1,7 @@
-//! The view of a seat in the rule of the words, apart from the seat, since the rule needs it and no
-//! program does. Each atomic step gives the view after it: the number stays, the count and the
-//! notes only grow, and the list of stripes follows the takes and the gives.
+//! The view of a seat, which the rule of the words relates to the words. It is a type apart from
+//! the seat, since the rule needs it and no program does. Each atomic step gives the view after it:
+//! the number stays, the count and the notes only grow, and the list of stripes follows the takes
+//! and the gives.
 use std::collections::LinkedList;
 
 /// A seat's view. It exists only in proofs, and no value of it is made.
@@ -11,6 +12,6 @@ pub struct View {
     pub made: u64,
     /// The stripes that the seat holds, the newest first.
     pub held: LinkedList<u64>,
-    /// The words that its takes saw, the newest last: each stripe with its word.
+    /// The words that the seat's takes saw, each with its stripe; the newest last.
     pub notes: LinkedList<(u64, u64)>,
 }

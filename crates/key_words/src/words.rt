@@ -33,7 +33,8 @@ fn zeros(alloc: Global, count: usize) -> Result<Vec<u64>, AllocError>
 impl KeyWords {
     ghost use Rattle.key_words.specs.Seats.{AreSeats, IsOf, Takes, known, stripes_of};
 
-    /// The words of these stripes, all of them free, and their seats by rising number.
+    /// Makes a word for the stripe of each of these rights, all stripes free, and this number of
+    /// seats, by rising number.
     ///
     /// # Errors
     ///

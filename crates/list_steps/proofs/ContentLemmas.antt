@@ -102,7 +102,7 @@ module _ (nodes : List NodeAt) (place : ℕ) (n : NodeAt) (is : node_of nodes pl
         (pair_regular n regular unmarked) (pair_regular (record n { value = value }) regular unmarked)
         (changed (λ k. record k { value = value }))
 
-    -- Its pair is in the content.
+    -- The node's pair is in the content.
     pub pairs_contain : Contains (pairs nodes) (n.at.key, n.value)
     pairs_contain =
         let parts : pairs nodes ≡ pairs at.front ++ ((n.at.key, n.value) ∷ pairs at.rest) =
@@ -148,7 +148,8 @@ pairs_sought nodes from sort start =
     ∙ pairs_same_rest at.front start.node (cleaned sort at.rest) at.rest (pairs_cleaned sort at.rest)
     ∙ sym (ap pairs at.is)
 
--- A statement about each pair, from one about each regular, unmarked node.
+-- If `P` holds of each node, and for a regular, unmarked node `P` implies `Q` of the node's pair,
+-- then `Q` holds of each pair.
 pub each_pair : (P : NodeAt → Type 0) (Q : ℕ → ℕ → Type 0) → ((n : NodeAt) → n.kind ≡ Regular → n.marked ≡ false → P n → Q n.at.key n.value) → (nodes : List NodeAt) → AllByRecursion P nodes → AllByRecursion (λ pair. Q pair.0 pair.1) (pairs nodes)
 unfolding pairs
 each_pair P Q holds [] each = tt

@@ -33,7 +33,7 @@ unmarked_from_not : (b : Bool) → not b ≡ true → b ≡ false
 unmarked_from_not true is = cc
 unmarked_from_not false is = refl
 
--- The tests on the next node.
+-- If the next node is at the noted place, its test is that of its stamp and its mark.
 pub next_noted : (n : NodeAt) (cur : Noted) → n.place ≡ cur.place → is_next_noted (Some n) (Some cur) ≡ (n.stamp == cur.stamp && not n.marked)
 next_noted n cur same = rw (same_test n.place cur.place same) refl
 
@@ -68,7 +68,7 @@ module _ (l : Listing) (c : Cursor) where
   unfolding fits
   fits_none is = ap (λ o. is_noted o c.pred.stamp && is_next_noted (behind l c) c.cur) is
 
--- If a cursor fits.
+-- A cursor that fits.
 module _ (l : Listing) (c : Cursor) (fitting : fits l c ≡ true) where
   -- Its first node is linked.
   pub fits_pred : (n : NodeAt) × (node_of l.nodes (pred_of c) ≡ Some n) × (n.stamp ≡ c.pred.stamp)
@@ -82,7 +82,7 @@ module _ (l : Listing) (c : Cursor) (fitting : fits l c ≡ true) where
   pub fits_linked : IsLinked l.nodes (pred_of c)
   fits_linked = found_linked l.nodes (pred_of c) fits_pred.0 fits_pred.1
 
-  -- The node behind that, if there is one, is the noted second one.
+  -- The node behind the first one, if there is one, is the noted second one.
   pub fits_next : (m : NodeAt) → behind l c ≡ Some m → (cur : Noted) × (c.cur ≡ Some cur) × Fits m cur
   unfolding fits
   fits_next m is = go c.cur refl
@@ -94,7 +94,7 @@ module _ (l : Listing) (c : Cursor) (fitting : fits l c ≡ true) where
       go None cur_is = absurd (true-false (sym (sym (ap (λ o. is_next_noted (Some m) o) cur_is) ∙ holds)))
       go (Some k) cur_is = (k, cur_is, next_fits m k (sym (ap (λ o. is_next_noted (Some m) o) cur_is) ∙ holds))
 
--- If a cursor that was placed fits.
+-- A cursor that was placed, and fits.
 module _ (l : Listing) (c : Cursor) (sound : IsSound l) (placed : IsPlaced l c) (fitting : fits l c ≡ true) where
   pub low : (n : NodeAt) → node_of l.nodes (pred_of c) ≡ Some n → IsBelow n (at_of c)
   low n is =
@@ -102,7 +102,7 @@ module _ (l : Listing) (c : Cursor) (sound : IsSound l) (placed : IsPlaced l c) 
       let same : pred.0 ≡ n = some-injective (sym pred.1 ∙ is) in
       placed.below n is (sym (ap (λ (v : NodeAt). v.stamp) same) ∙ pred.2)
 
-  -- The node behind is not below the sort key.
+  -- The node behind the cursor's first one is not below the sort key.
   pub high : (m : NodeAt) → behind l c ≡ Some m → IsNotBelow m (at_of c)
   high m is =
       let next = fits_next l c fitting m is in
@@ -110,7 +110,8 @@ module _ (l : Listing) (c : Cursor) (sound : IsSound l) (placed : IsPlaced l c) 
       let P : ℕ → Type 0 = λ p. node_of l.nodes p ≡ Some m in
       placed.beyond m next.0 next.1 (subst P next.2.place there) next.2.stamp
 
-  -- It is above the sort key if it does not have it.
+  -- If the node behind the cursor's first one does not have the sort key, the node is above that
+  -- key.
   pub above : node_there l c ≡ None → (m : NodeAt) → behind l c ≡ Some m → IsBefore (at_of c) m.at
   above none m is = elim (cases_same m.at (at_of c)) [
     | inl same ↦ absurd (some-none (rw same.0 at (sym (ap (λ o. with_key o (at_of c)) is) ∙ none)))
@@ -120,7 +121,7 @@ module _ (l : Listing) (c : Cursor) (sound : IsSound l) (placed : IsPlaced l c) 
     ]
   ]
 
--- The node of the sort key, if a cursor fits.
+-- The node that has the sort key of a cursor that fits: it is right behind the cursor's first node.
 pub record There (l : Listing) (c : Cursor) (n : NodeAt) : Type 0 where
   pub behind_is : behind l c ≡ Some n
   pub is : node_of l.nodes n.place ≡ Some n
@@ -193,7 +194,7 @@ module _ (l : Listing) (c : Cursor) (found : IsFound l c) where
       cur_node : (cur : Noted) → c.cur ≡ Some cur → (k : NodeAt) × (node_of l.nodes cur.place ≡ Some k) × (k.stamp ≡ cur.stamp) × IsNotBelow k (at_of c)
       cur_node cur cur_is = go (behind l c) cur refl (found.cur_noted ∙ cur_is) found.beyond
 
--- The note of the node behind a place.
+-- The note of the node behind a place is that of the node at the next place.
 pub noted_next : (nodes : List NodeAt) (place next : ℕ) (k : Noted) → IsSpread nodes → place_of (next_of nodes place) ≡ Some next → noted (node_of nodes next) ≡ Some k → noted (next_of nodes place) ≡ Some k
 noted_next nodes place next k spread is note =
     let found = linked_found nodes next (next_linked nodes place next spread is) in

@@ -40,7 +40,7 @@ found_at (m ∷ rest) place n is = elim (eqb_tells m.place place) [
       }
 ]
 
--- Each function of a list at a place, on a list that is split there.
+-- The functions of a list and a place, on a list that is split at the place.
 module _ (place : ℕ) (n : NodeAt) (rest : List NodeAt) (here : n.place ≡ place) where
   node_of-append : (front : List NodeAt) → AbsentFrom place front → node_of (front ++ n ∷ rest) place ≡ Some n
   unfolding node_of
@@ -72,7 +72,7 @@ module _ (place : ℕ) (n : NodeAt) (rest : List NodeAt) (here : n.place ≡ pla
   linked-append [] = inl here
   linked-append (m ∷ front) = inr (linked-append front)
 
--- A node behind others has none of their places.
+-- If a place is absent from a list (`AbsentFrom`), each node of the list has another place.
 apart_append : (place : ℕ) (front : List NodeAt) (m : NodeAt) (rest : List NodeAt) → AbsentFrom place (front ++ m ∷ rest) → m.place ≢ place
 apart_append place [] m rest absent = absent.0
 apart_append place (k ∷ front) m rest absent = apart_append place front m rest absent.1
@@ -111,7 +111,7 @@ module _ (nodes : List NodeAt) (place : ℕ) (n : NodeAt) (at : IsAt nodes place
   is_linked = let P : List NodeAt → Type 0 = λ ns. IsLinked ns place in
       subst P (sym at.is) (linked-append place n at.rest at.here at.front)
 
-  -- The list without the next node.
+  -- In the list without the next node, the node is still at its place.
   abbrev pub at_unlinked : IsAt (unlinked_after nodes place) place n
   at_unlinked = record { front = at.front; rest = without_first at.rest; is = unlinked_at; absent = at.absent; here = at.here }
 
@@ -134,7 +134,7 @@ some_place : (o : Option NodeAt) (place : ℕ) → place_of o ≡ Some place →
 some_place None place is = absurd (some-none (sym is))
 some_place (Some m) place is = (m, refl, some-injective is)
 
--- No node is behind the last one.
+-- If a node that may be missing has no place, it is missing.
 pub no_place : (o : Option NodeAt) → place_of o ≡ None → o ≡ None
 no_place None is = refl
 no_place (Some n) is = absurd (some-none is)
@@ -147,7 +147,7 @@ module _ (nodes : List NodeAt) (place next : ℕ) (spread : IsSpread nodes) (is 
       let P : ℕ → Type 0 = λ p. IsLinked nodes p in
       subst P there.2 (found_linked nodes there.0.place there.0 (next_found nodes place there.0 spread there.1))
 
-  -- The node there is the next one.
+  -- The node at the next place is the next node.
   pub next_node : (m : NodeAt) → node_of nodes next ≡ Some m → next_of nodes place ≡ Some m
   next_node m found =
       let there = some_place (next_of nodes place) next is in

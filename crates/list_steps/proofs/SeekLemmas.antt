@@ -19,8 +19,8 @@ unfoldable pub nodes_behind : List NodeAt → ℕ → List NodeAt
 nodes_behind [] place = []
 nodes_behind (n ∷ rest) place = if n.place == place then rest else nodes_behind rest place
 
--- The seek is at a node before the position sought, it has the place of the node behind that, and
--- the rest of it has the same result as the whole.
+-- The seek is at a node before the position sought, and has the place of the next node. A seek from
+-- here on the list now has the same result as the whole seek on the old list.
 pub record IsSeeking (old now : Listing) (from place : ℕ) (after : Option ℕ) (sort : SortKey) : Type 0 where
   pub sound : IsSound now
   pub pred : IsPred now.nodes place sort
@@ -79,7 +79,7 @@ module _ (nodes : List NodeAt) (place : ℕ) (n : NodeAt) (at : IsAt nodes place
   pub behind_at : nodes_behind nodes place ≡ at.rest
   behind_at = ap (λ ns. nodes_behind ns place) at.is ∙ nodes_behind-append place n at.rest at.here at.front at.absent
 
--- At a node before the position sought.
+-- A seek that is at a node before the position sought.
 module _ (nodes : List NodeAt) (place : ℕ) (sort : SortKey) (pred : IsPred nodes place sort) where
   pred_at : IsAt nodes place pred.node
   pred_at = found_at nodes place pred.node pred.is
@@ -87,7 +87,7 @@ module _ (nodes : List NodeAt) (place : ℕ) (sort : SortKey) (pred : IsPred nod
   first_rest : (o : Option NodeAt) → next_of nodes place ≡ o → first pred_at.rest ≡ o
   first_rest o is = sym (next_at nodes place pred.node pred_at) ∙ is
 
-  -- The seek ends if no node is behind.
+  -- The seek ends if there is no next node.
   pub sought_at_end : next_of nodes place ≡ None → sought nodes place sort ≡ nodes
   sought_at_end is =
       sought_at nodes place pred.node pred_at sort
@@ -101,7 +101,7 @@ module _ (nodes : List NodeAt) (place : ℕ) (sort : SortKey) (pred : IsPred nod
     rest_is : pred_at.rest ≡ m ∷ without_first pred_at.rest
     rest_is = first_is pred_at.rest m (first_rest (Some m) is)
 
-    -- The seek ends if an unmarked node that is not below the sort key is behind.
+    -- The seek ends if the next node is unmarked and not below the sort key.
     pub sought_stopped : m.marked ≡ false → IsNotBelow m sort → sought nodes place sort ≡ nodes
     sought_stopped unmarked above =
         sought_at nodes place pred.node pred_at sort
@@ -131,7 +131,7 @@ module _ (nodes : List NodeAt) (place : ℕ) (sort : SortKey) (pred : IsPred nod
         (sym (ap (cleaned sort) rest_is ∙ cleaned_marked m (without_first pred_at.rest) sort marked))
         ∙ sym (sought_at nodes place pred.node pred_at sort)
 
-  -- The node at the place is still before the position.
+  -- After the next node is unlinked, the node at the place is still before the position.
   pub pred_unlinked : IsPred (unlinked_after nodes place) place sort
   pred_unlinked = record {
     node = pred.node;
@@ -140,21 +140,21 @@ module _ (nodes : List NodeAt) (place : ℕ) (sort : SortKey) (pred : IsPred nod
     below = pred.below;
   }
 
--- At any linked node.
+-- Any linked node, and the next one.
 module _ (nodes : List NodeAt) (place : ℕ) (n m : NodeAt) (is : node_of nodes place ≡ Some n) (next_is : next_of nodes place ≡ Some m) where
   behind_first : nodes_behind nodes place ≡ m ∷ without_first (found_at nodes place n is).rest
   behind_first =
       let at = found_at nodes place n is in
       behind_at nodes place n at ∙ first_is at.rest m (sym (next_at nodes place n at) ∙ next_is)
 
-  -- Fewer nodes are behind the next one.
+  -- Fewer nodes are behind the next node than behind this one.
   pub behind_next : IsSpread nodes → length (nodes_behind nodes m.place) < length (nodes_behind nodes place)
   behind_next spread =
       let at = found_at nodes place n is in
       let next = at_next nodes place n at m spread (sym (next_at nodes place n at) ∙ next_is) in
       omega (arith, ap length (behind_at nodes m.place m next), ap length behind_first)
 
-  -- Fewer nodes are behind a node when the next one is unlinked.
+  -- After the next node is unlinked, fewer nodes are behind this one.
   pub behind_fewer : length (nodes_behind (unlinked_after nodes place) place) < length (nodes_behind nodes place)
   behind_fewer =
       let at = found_at nodes place n is in
@@ -177,7 +177,7 @@ changes_unchanged changes nodes =
     let none : nodes - nodes ≡ 0 = omega arith in
     ap (changes_after changes) (sym none)
 
--- A statement about each node holds of each that a seek leaves.
+-- If a statement holds of each node, it holds of each node that a seek leaves.
 pub each_cleaned : (P : NodeAt → Type 0) (sort : SortKey) (nodes : List NodeAt) → AllByRecursion P nodes → AllByRecursion P (cleaned sort nodes)
 each_cleaned P sort [] each = let Each : List NodeAt → Type 0 = λ ns. AllByRecursion P ns in subst Each (sym (cleaned_nil sort)) tt
 each_cleaned P sort (n ∷ rest) each = go n.marked refl (each_cleaned P sort rest each.1)

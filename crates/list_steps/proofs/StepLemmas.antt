@@ -20,7 +20,7 @@ module _ (l : Listing) (c : Cursor) (sound : IsSound l) (placed : IsPlaced l c) 
   pred : (n : NodeAt) × (node_of l.nodes (pred_of c) ≡ Some n) × (n.stamp ≡ c.pred.stamp)
   pred = fits_pred l c fitting
 
-  -- If no node has the sort key, it belongs right behind the cursor's first node.
+  -- If no node right behind the cursor's first one has the sort key, that key belongs there.
   pub vacant_where_fits : node_there l c ≡ None → IsVacant l.nodes (pred_of c) (at_of c)
   vacant_where_fits none = record {
     node = pred.0;
@@ -29,7 +29,7 @@ module _ (l : Listing) (c : Cursor) (sound : IsSound l) (placed : IsPlaced l c) 
     above = above l c sound placed fitting none;
   }
 
-  -- No node has the sort key.
+  -- If no node right behind the cursor's first one has the sort key, no linked node has it.
   absent : node_there l c ≡ None → IsAbsent l c
   absent none = record {
     none = none;
@@ -38,7 +38,7 @@ module _ (l : Listing) (c : Cursor) (sound : IsSound l) (placed : IsPlaced l c) 
         (low l c sound placed fitting pred.0 pred.1) (above l c sound placed fitting none);
   }
 
-  -- A node has the sort key.
+  -- If the node behind the first one has the sort key, it is the node sought (`IsThere`).
   there_at : (place : ℕ) → Some place ≡ place_of (node_there l c) → IsThere l c place
   there_at place place_is = go (node_there l c) refl place_is
     where
@@ -61,7 +61,7 @@ module _ (l : Listing) (c : Cursor) (sound : IsSound l) (placed : IsPlaced l c) 
   finds None none = absent (no_place (node_there l c) (sym none))
   finds (Some place) is = there_at place is
 
--- The node that is there is regular, if a regular node has to be there.
+-- If a regular node must have the sort key (`IsKeyThere`), the node that a look finds is regular.
 pub regular_there : (l : Listing) (c : Cursor) → fits l c ≡ true → (place : ℕ) → IsThere l c place → IsKeyThere l c → IsRegularAt l.nodes place
 regular_there l c fitting place here key_there =
     let P : Option NodeAt → Type 0 = λ o. IsSomeAnd o (λ m. IsTrue (is_regular m.kind)) in
@@ -72,14 +72,15 @@ regular_there l c fitting place here key_there =
     go Dummy is = cc
     go Regular is = refl
 
--- A statement about the place of the node that is there, as one about the place that a look finds.
+-- If a statement holds of the place that a look finds, it holds of the place of the node that has
+-- the sort key.
 pub at_node : (l : Listing) (c : Cursor) (place : ℕ) → IsThere l c place → (P : ℕ → Type 0) → P place → IsSomeAnd (node_there l c) (λ n. P n.place)
 at_node l c place here P holds =
     let Q : Option NodeAt → Type 0 = λ o. IsSomeAnd o (λ n. P n.place) in
     let at_place : here.node.place ≡ place = (found_at l.nodes place here.node here.is).here in
     subst Q (sym here.there) (subst P (sym at_place) holds)
 
--- A node that is linked.
+-- Linking a node has the effect that `Links` states.
 pub links : (old new : Listing) (pred : ℕ) (x : NodeAt) → IsVacant old.nodes pred x.at → Takes old new (linked_after old.nodes pred x) x.place → node_of new.nodes x.place ≡ Some x → Links old new pred x
 links old new pred x vacant takes found =
     let Content : List NodeAt → Type 0 = λ ns. Replaces (pairs old.nodes) (pairs ns) [] (pair_of x) in
@@ -99,7 +100,7 @@ module _ (old new : Listing) (place : ℕ) (n : NodeAt) (regular : IsRegularAt o
   unmarked : n.marked ≡ false
   unmarked = ap (λ (v : NodeAt). v.marked) (sym same) ∙ regular.unmarked
 
-  -- A node that is marked.
+  -- Marking the node has the effect that `Marks` states.
   pub marks : Becomes old new (marked_at old.nodes place) → Marks old new place n.value
   marks becomes =
       let Content : List NodeAt → Type 0 = λ ns. Replaces (pairs old.nodes) (pairs ns) ((n.at.key, n.value) ∷ []) [] in
@@ -112,7 +113,7 @@ module _ (old new : Listing) (place : ℕ) (n : NodeAt) (regular : IsRegularAt o
         content = subst Content (sym becomes.nodes) (pairs_marked old.nodes place n is kind unmarked);
       }
 
-  -- A value that is written.
+  -- Writing a value has the effect that `Swaps` states.
   pub swaps : (now : ℕ) → Becomes old new (written_at old.nodes place now) → Swaps old new place n.value now
   swaps now becomes =
       let Content : List NodeAt → Type 0 = λ ns. Replaces (pairs old.nodes) (pairs ns) ((n.at.key, n.value) ∷ []) ((n.at.key, now) ∷ []) in

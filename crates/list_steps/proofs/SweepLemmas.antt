@@ -59,7 +59,7 @@ without_first_marked-append (n ∷ front) m rest passed marked =
     without_first_marked-cons n (front ++ m ∷ rest) passed.0
     ∙ ap (λ ns. n ∷ ns) (without_first_marked-append front m rest passed.1 marked)
 
--- The sweep begins at a node that precedes all marked ones.
+-- A sweep may begin at a node that precedes all marked ones: no node before it is marked.
 pub sweeping_from : (nodes : List NodeAt) (place : ℕ) → IsRising nodes → IsBeforeMarks nodes place → IsSweeping nodes place
 sweeping_from nodes place rising start =
     let node = start.node in
@@ -72,11 +72,12 @@ sweeping_from nodes place rising start =
       passed = clean_up_to at.front node at.rest (subst R at.is rising) (subst B at.is start.before);
     }
 
--- An unmarked node that has no marked one before it precedes all marked nodes.
+-- If a node precedes all nodes of a list, it precedes all marked ones.
 behind_rest : (n : NodeAt) (rest : List NodeAt) → AllByRecursion (IsNodeBefore n) rest → AllByRecursion (λ m. m.marked ≡ true → IsBefore n.at m.at) rest
 behind_rest n [] before = tt
 behind_rest n (m ∷ rest) before = ((λ marked. before.0), behind_rest n rest before.1)
 
+-- An unmarked node that has no marked node before it precedes all marked nodes.
 behind_all : (P : NodeAt → Type 0) (front : List NodeAt) (n : NodeAt) (rest : List NodeAt) → IsRising (front ++ n ∷ rest) → n.marked ≡ false → ((m : NodeAt) → P m → IsBefore m.at n.at → m.marked ≡ true → ⊥) → AllByRecursion P (front ++ n ∷ rest) → AllByRecursion (λ m. m.marked ≡ true → IsBefore n.at m.at) (front ++ n ∷ rest)
 unfolding IsRising
 behind_all P [] n rest rising unmarked never each = (
@@ -158,14 +159,14 @@ module _ (nodes : List NodeAt) (place : ℕ) (sweeping : IsSweeping nodes place)
           sweeping.at.is ∙ ap (λ ns. sweeping.at.front ++ sweeping.node ∷ ns) (first_is sweeping.at.rest m (first_rest (Some m) is))
           ∙ sym (append_assoc sweeping.at.front (sweeping.node ∷ []) (m ∷ without_first sweeping.at.rest))
 
-  -- It reaches the end, and then no node is marked.
+  -- If it reaches the end, no node is marked.
   pub sweeping_ends : next_of nodes place ≡ None → IsClean nodes
   sweeping_ends is =
       let nothing = first_none sweeping.at.rest (first_rest None is) in
       let C : List NodeAt → Type 0 = IsClean in
       subst C (sym (sweeping.at.is ∙ ap (λ ns. sweeping.at.front ++ sweeping.node ∷ ns) nothing)) sweeping.passed
 
--- A statement about each node holds of each that a sweep leaves.
+-- If a statement holds of each node, it holds of each node that a sweep leaves.
 pub each_swept : (P : NodeAt → Type 0) (nodes : List NodeAt) → AllByRecursion P nodes → AllByRecursion P (without_first_marked nodes)
 unfolding without_first_marked
 each_swept P [] each = tt

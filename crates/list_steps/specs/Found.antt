@@ -63,9 +63,10 @@ is_next_noted (Some n) (Some c) = n.place == c.place && (n.stamp == c.stamp && n
 unfoldable pub fits : Listing → Cursor → Bool
 fits l c = is_noted (node_of l.nodes (pred_of c)) c.pred.stamp && is_next_noted (behind l c) c.cur
 
--- A cursor that was placed on the list at any time. A linked node with a noted stamp is the noted
--- one, so the first is below the sort key and the second is not; and the cursor fits while the
--- change number is the one that it noted, and below 2^64 - 1. Each step on the list keeps this.
+-- A cursor that was placed on the list, now or earlier. If the node at a noted place has the noted
+-- stamp, it is the noted node; so the first one is below the sort key, and the second is not. The
+-- cursor fits as long as the change number is the noted one and below 2^64 - 1. Each step on the
+-- list keeps these properties.
 pub record IsPlaced (l : Listing) (c : Cursor) : Type 0 where
   pub pred_known : c.pred.stamp ≤ l.last
   pub pred_apart : (place : ℕ) → out_at l place ≢ Some c.pred.stamp

@@ -13,7 +13,8 @@ IsBelow n at = IsBefore n.at at
 abbrev pub IsNotBelow : NodeAt → SortKey → Type 0
 IsNotBelow n at = IsNotBefore n.at at
 
--- The nodes without the marked ones before the first unmarked one that is not below the sort key.
+-- The nodes without those that a seek unlinks: the marked ones before the first unmarked node that
+-- is not below the sort key.
 unfoldable pub cleaned : SortKey → List NodeAt → List NodeAt
 cleaned at [] = []
 cleaned at (n ∷ rest) =

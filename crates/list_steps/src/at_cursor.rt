@@ -1,6 +1,7 @@
 //! A test and a step in one call, for a caller that takes one step at a cursor; `steps.rt` has them
-//! as two calls. If the cursor does not fit, nothing changes and a spare is returned. Of the linked
-//! nodes a call touches only the two of the cursor, so it takes constant time.
+//! as two calls. If the cursor does not fit, nothing changes, and a spare that was passed in is
+//! returned. Of the linked nodes, a call touches only the two of the cursor, so it takes constant
+//! time.
 ghost use Rattle.std.specs.Prelude.{◌≡◌, ◌<◌, ◌-◌, ◌^◌, is_ok, IsOk, IfOk, IfErr, OnOk, OnErr};
 ghost use Rattle.node_list.specs.Nodes.{IsOut, filled};
 ghost use Rattle.node_list.specs.Follow.{Follows};

@@ -48,7 +48,7 @@ impl std::error::Error for Again {}
 impl Noted {
     ghost use Rattle.list_steps.specs.Found.{noted};
 
-    /// The node that is linked at a place.
+    /// Notes the node that is linked at a place.
     fn of(list: &NodeList, place: NodeRef) -> Noted
         requires { IsLinked list.now.nodes place }
         ensures noted { noted (node_of list.now.nodes place) ≡ Some result }
@@ -106,7 +106,8 @@ impl Cursor {
         self.pred.place
     }
 
-    /// Whether the node behind the first one is the one that was noted, and is unmarked.
+    /// Whether the node behind the cursor's first one is the noted one and unmarked, or there is
+    /// none and none was noted.
     fn is_next_fitting(&self, list: &NodeList) -> bool
         requires { IsLinked list.now.nodes (pred_of self.now) }
         ensures { result ≡ is_next_noted (behind list.now self.now) self.now.cur }

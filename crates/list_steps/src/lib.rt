@@ -3,8 +3,8 @@
 //! This is the list of Shalev and Shavit, "Split-Ordered Lists: Lock-Free Extensible Hash Tables"
 //! (Journal of the ACM 53(3), 2006), with the marked nodes of Harris, "A Pragmatic Implementation
 //! of Non-Blocking Linked-Lists" (DISC 2001), divided into steps that each have the list to
-//! themselves: one step seeks a position, and a later one acts there. The later step itself sees
-//! what other callers did in between.
+//! themselves: one step seeks a position, and a later one acts there. The later step finds out by
+//! itself whether other callers changed the position in between.
 //!
 //! ```text
 //! dummy 0 -> key 4 -> key 2 -> end      a cursor of key 2's sort key: pred is key 4, cur is key 2

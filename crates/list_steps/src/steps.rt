@@ -25,8 +25,8 @@ fn node_there(list: &NodeList, cursor: &Cursor) -> Option<NodeRef>
 }
 
 /// Tests a cursor, and tells which node has the sort key sought. That node is unmarked, and if it
-/// is regular its pair is in the content. `None` means that no linked node, marked or not, has the
-/// sort key, which belongs right behind `cursor.pred()`.
+/// is regular its pair is in the content. If the answer is `None`, no linked node, marked or not,
+/// has the sort key, and a node with it belongs right behind `cursor.pred()`.
 ///
 /// The next step may rely on the answer until the list changes: `link_at` behind `cursor.pred()` if
 /// there is no node, `mark_at` or `swap_at` at a regular one.

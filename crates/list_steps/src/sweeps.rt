@@ -40,8 +40,8 @@ fn before_first_marked(list: &NodeList, start: NodeRef) -> NodeRef
 
 /// Unlinks the first marked node, and nothing else, or answers that no node is marked.
 ///
-/// `Clean` exactly if none is; the list is then unchanged. The content and the spares that are out
-/// are unchanged in any case.
+/// The answer is `Clean` exactly if no node is marked; the list is then unchanged. The content and
+/// the spares that are out are unchanged in any case.
 ///
 /// # Cost
 ///

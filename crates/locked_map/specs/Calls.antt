@@ -23,8 +23,8 @@ use Rattle.core_tokens.specs.Tokens.{Token, IsSameCaller, IsSameSeen}
 use Rattle.map_answers.specs.declared.stop.Stop.{Stop}
 use Rattle.map_answers.specs.declared.stop.Stop.TheVariants as stops
 
--- This number of holds of a call, none of which has ended it: each is of the core that is then
--- under the lock, and other callers take their steps in between.
+-- This number of holds of a call, none of which has ended the call. Each is a hold of the core as
+-- it is then under the lock; other callers may take steps between two holds.
 abbrev pub HasHeld : {S : Type 0} → ℕ → Token S → Drive → Token S → Drive → Type 0
 HasHeld zero k d l e = (l ≡ k) × (e ≡ d)
 HasHeld {S} (suc holds) k d l e =
@@ -50,8 +50,8 @@ pub record IsHeld {S : Type 0} (k : Token S) (call : Call) (outcome : End) (l : 
 
 -- A call that took the lock. An operation had tried the word of its key's stripe before, unless the
 -- token had the right. The entries that the token has seen since are those that its holds added.
--- Its claims are those that it had before its first hold, except that all rights were given back if
--- the call ended its transaction.
+-- The token's claims are those that it had before the first hold, except that all rights were given
+-- back if the call ended the transaction.
 pub record WentOn {S : Type 0} (k : Token S) (call : Call) (outcome : End) (l : Token S) : Type 0
   where
     pub ready : Token S
@@ -63,7 +63,8 @@ pub record WentOn {S : Type 0} (k : Token S) (call : Call) (outcome : End) (l : 
     pub claims : l.claims ≡ claims_at outcome ready.claims
 
 -- A call that its token let pass, and that did what it was asked to do, or found a stripe held and
--- took all back: it added the entries of its end, and side value and rights followed.
+-- aborted the transaction. It added the entries that its end states, and changed the side value and
+-- the rights to match.
 pub record Ran {S : Type 0} (words : S → List ℕ) (k : Token S) (call : Call) (outcome : End)
     (l : Token S) : Type 0 where
   pub free : refused_by k call ≡ None
@@ -81,7 +82,7 @@ abbrev pub TriedNothing : {S : Type 0} → Token S → Refusal → Token S → T
 TriedNothing k refusal l = (refusal ≡ NoMemory) × (l.claims ≡ k.claims)
 
 -- A call that its token let pass, and that lacked memory or a stamp or met a stale word: it added
--- nothing. If it took the lock, this was the end of its last hold.
+-- nothing. If it took the lock, its last hold ended it with this refusal.
 pub record FoundNone {S : Type 0} (k : Token S) (call : Call) (refusal : Refusal) (l : Token S) :
     Type 0 where
   pub may : may_refuse call refusal ≡ true
@@ -97,10 +98,10 @@ LacksLevel k (calls.Back level) l =
     (length k.side.levels ≤ level) × (l.seen ≡ k.seen) × (l.claims ≡ k.claims)
 LacksLevel k call l = ⊥
 
--- A call that its token let pass, and that fell out of step: it added the entries of its moves,
--- none of which commits, provided that all entries that were seen have rows; and the token is
--- broken. It keeps its rights. This was the end of its last hold, except for a return to a missing
--- level.
+-- A call that its token let pass, and that fell out of step. It added the entries of its moves; if
+-- all entries that the token has now seen have rows, none of the added ones commits. The token is
+-- broken, and keeps its rights. The call's last hold ended it with `OutOfStep`, unless the call is
+-- a return to a missing level.
 pub record FellOut {S : Type 0} (k : Token S) (call : Call) (l : Token S) : Type 0 where
   pub whose : IsSameCaller k l
   pub broken : l.broken ≡ true
@@ -114,7 +115,7 @@ abbrev pub Failed : {S : Type 0} → Token S → Call → Refusal → Token S �
 Failed k call OutOfStep l = FellOut k call l
 Failed k call refusal l = FoundNone k call refusal l
 
--- A call that was refused: by its token, which is unchanged, or later.
+-- A call that was refused: by its token, which is then unchanged, or after its token let it pass.
 abbrev pub WasRefused : {S : Type 0} → Token S → Call → Refusal → Token S → Type 0
 WasRefused k call refusal l =
     ((refused_by k call ≡ Some refusal) × (l ≡ k))
@@ -136,8 +137,9 @@ abbrev pub Stopped : {S : Type 0} → (S → List ℕ) → Token S → Call → 
 Stopped words k call (stops.Busy holder) l = Ran words k call (ends.Busy holder) l
 Stopped words k call (stops.Refused refusal) l = WasRefused k call refusal l
 
--- A call that did what it was asked to do: its token let it pass, and this was the end of its last
--- hold. The clauses of each call state its entries and its effect on the side value.
+-- A call that did what it was asked to do: its token let it pass, and its last hold ended it as
+-- answered or as helped (`IsDone`). The clauses of each call state its entries and its effect on
+-- the side value.
 pub record Passed {S : Type 0} (k : Token S) (call : Call) (l : Token S) : Type 0 where
   pub free : refused_by k call ≡ None
   pub whose : IsSameCaller k l
@@ -152,8 +154,8 @@ abbrev pub LeavesBy : {S T : Type 0} → (S → List ℕ) → Token S → Call �
 LeavesBy words k call (Ok reply) l = Passed k call l
 LeavesBy words k call (Err stop) l = Stopped words k call stop l
 
--- The caller after each call. After `OutOfStep` every call is refused with it, and nothing changes
--- any more.
+-- The caller after each call. If the token is broken, the call is refused with `OutOfStep` and
+-- changes nothing.
 pub record Leaves {S T : Type 0} (words : S → List ℕ) (k : Token S) (call : Call)
     (result : Result T Stop) (l : Token S) : Type 0 where
   pub by_result : LeavesBy words k call result l

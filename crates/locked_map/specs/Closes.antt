@@ -12,7 +12,7 @@ use Rattle.locked_map.specs.declared.unclosed.Unclosed.TheVariants.{Missing, Dif
 abbrev pub IsOwn : {S : Type 0} → List Entry → Token S → Type 0
 IsOwn h k = own k.number h ≡ k.seen
 
--- One caller of each number below `count`: as many as that, and each number is there.
+-- One caller of each number below `count`: there are `count` callers, and each number is there.
 abbrev pub IsAllHere : {S : Type 0} → ℕ → List (Token S) → Type 0
 IsAllHere count ks =
     (length ks ≡ count) × ((c : ℕ) → c < count → IsTrue (list_any (λ k. k.number == c) ks))
@@ -22,14 +22,15 @@ abbrev pub back_of : {L S J : Type 0} → Unclosed L S J → List (Token S)
 back_of (Missing map callers) = callers.items
 back_of (Differs core callers) = callers.items
 
--- The reason why it was not closed: a number is missing or was passed in twice; or the core has
+-- The reason why a map was not closed: a number is missing or was passed in twice; or the core has
 -- other limits, or the entries of some caller in the history are not those that it saw.
 abbrev pub IsWhy : {L S J : Type 0} → Sizes → List (Token S) → Unclosed L S J → Type 0
 IsWhy limits ks (Missing map callers) = IsAllHere limits.callers ks → ⊥
 IsWhy limits ks (Differs core callers) =
     (core.limits ≡ limits) × All (λ k. IsOwn core.history k) ks → ⊥
 
--- In addition: a map that is returned has its limits; if a core is returned, no caller is missing.
+-- In addition to `IsWhy`: a map that is returned has these limits; if a core is returned, no caller
+-- is missing.
 abbrev pub IsBeside : {L S J : Type 0} → Sizes → List (Token S) → Unclosed L S J → Type 0
 IsBeside limits ks (Missing map callers) = map.limits ≡ limits
 IsBeside limits ks (Differs core callers) = IsAllHere limits.callers ks

@@ -5,18 +5,18 @@
 //! lock, the token tests the call: `refused_by` is the token's refusal, in the order that each call
 //! lists. A call that the token refuses leaves the token unchanged. If the core's answer is
 //! impossible by the token's state, the call ends with `OutOfStep`: the token is broken, what the
-//! call has done stays, `seen` keeps the entries that it had added, and `close` compares them with
-//! the history. Each of these calls has the clauses
+//! call has done stays, `seen` keeps the entries that the call had added, and `close` compares them
+//! with the history. Each of these calls has the clauses
 //! - `ok`: the entries that it has added, if it did what it was asked to do (`save` also has the
 //!   clause `level`, about its answer; `help` has `helped` and `bad_key`, about its holds and its
 //!   refusal);
-//! - `side`: its effect on the side value in that case;
-//! - `claims`: the rights to stripes that it has then, and the words that it has tried: an
+//! - `side`: the call's effect on the side value in that case;
+//! - `claims`: the rights to stripes that the token has then, and the words that it has tried: an
 //!   operation tries the word of its key's stripe, unless it has the right, and gets the right if
 //!   the word is free; the end of the transaction gives all rights back;
-//! - `leaves`: that the token let it pass, or the reason why it was not done and the state after
-//!   it; and that after `OutOfStep` every call is refused with it and nothing changes any more
-//!   (`Leaves` in `specs/Calls.antt`).
+//! - `leaves`: that the token let the call pass, or the reason why the call was not done and the
+//!   state after it; and that once the token is broken, every call is refused with `OutOfStep` and
+//!   changes nothing (`Leaves` in `specs/Calls.antt`).
 ghost use Rattle.std.specs.Prelude.{◌≡◌, ◌↔◌, ℕ, ◌+◌, [], ◌∷◌, ◌++◌, length, None, Some, true};
 ghost use Rattle.std.specs.Prelude.{false, Err, IfOk, IfErr, OnOk};
 ghost use Rattle.txn_words.specs.declared.entry.Entry.TheVariants as entries;
@@ -394,13 +394,13 @@ impl<L: Ledger> SharedMap<L> {
 
     /// Changes the side value, and logs the job that takes the change back.
     ///
-    /// The words now must be the job's `before`, and the words of the value that `change` answers
-    /// its `after`. No transaction is needed: a change that is made outside of one stays. Nothing
-    /// is added to `seen`.
+    /// The words of the present side value must be the job's `before`, and the words of the value
+    /// that `change` answers must be the job's `after`. No transaction is needed: a change that is
+    /// made outside of one stays. Nothing is added to `seen`.
     ///
     /// # Errors
     ///
-    /// The change was not called, nothing has changed, and change and job are returned:
+    /// `change` was not called, nothing has changed, and `change` and `job` are returned:
     /// - `OutOfStep` if the token is broken;
     /// - `NoMemory` if memory is refused.
     ///

@@ -1,7 +1,7 @@
-//! Closing a map: its history is compared with what the callers saw. The calls share the map;
-//! `close` takes it by value, with its callers, so it waits for no lock and nothing is added. The
-//! ledger has counted what they saw. So if each caller's own entries are right, the history has no
-//! others.
+//! Closing a map: its history is compared with what the callers saw. The other calls share the map;
+//! `close` takes the map by value, with its callers, so it waits for no lock, and no entry is added
+//! meanwhile. The ledger has counted the entries that the callers saw. So if each caller's own
+//! entries are right, the history has no others.
 ghost use Rattle.std.specs.Prelude.{◌≡◌, ◌==◌, ◌↔◌, All, IsTrue, IfOk, IfErr, length};
 ghost use Rattle.std.specs.List.{list_any};
 ghost use Rattle.txn_words.specs.declared.holder.Holder.TheVariants.{Begun};

@@ -1,6 +1,6 @@
 //! The result of `close`: the core and the callers, in one value, so that neither is dropped by
-//! mistake. Its fields are public, and anyone may make one of other parts: only the clauses of
-//! `close` promise that the history is legal and that the callers' entries are all of it.
+//! mistake. Its fields are public, so anyone may make a `Closed` of other parts: only the clauses
+//! of `close` promise that the history is legal and has exactly the callers' entries.
 use boost_core::Core;
 use core_tokens::Caller;
 use std::sync::ledger::Ledger;

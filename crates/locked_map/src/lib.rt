@@ -10,9 +10,10 @@
 //! - Between two holds only the invariants of the core's type are known, and what a token knows by
 //!   `core_tokens`. If these exclude the core's answer, the call ends with `OutOfStep`, and so does
 //!   every later call of the token.
-//! - `SharedMap::close` takes all tokens back and compares: the history is legal, each caller's own
-//!   entries in it are its `seen`, and there are no others, since a ledger counts them. The lock's
-//!   value, `Booked`, holds the ledger's book, each token a share.
+//! - `SharedMap::close` takes all tokens back and compares the history with them. If it answers
+//!   `Ok`, the history is legal, each caller's own entries in it are its `seen`, and there are no
+//!   others, since a ledger counts the entries. The lock's value, `Booked`, holds the ledger's
+//!   book, and each token holds a share of the ledger.
 //! - `laws::helped`, of `core_tokens`: if core and token are in step, a `help` that ends well has
 //!   initialised its key's bucket.
 //!

@@ -41,7 +41,7 @@ impl fmt::Display for Stop {
 
 impl Error for Stop {}
 
-/// A refusal is `Refused`, so that `?` converts it.
+/// A refusal becomes `Refused`, so that `?` converts it.
 impl From<Refusal> for Stop {
     ghost from_gives = { λ refusal stop. stop ≡ Refused refusal };
 
@@ -50,7 +50,7 @@ impl From<Refusal> for Stop {
     }
 }
 
-/// Memory that is refused is `Refused` with `NoMemory`, so that `?` converts it.
+/// An `AllocError` becomes `Refused` with `NoMemory`, so that `?` converts it.
 impl From<AllocError> for Stop {
     ghost from_gives = { λ _ stop. stop ≡ Refused NoMemory };
 

@@ -86,7 +86,7 @@ fits_not_again fitting linked last bucket changes help is fit again =
     not_again (slice_index_or linked bucket false) (last == 2 ^ 64 - 2)
     (ap (λ (b : Bool). link_answer b linked last (Some (Sought bucket changes))) (sym fit) ∙ ap (λ (o : Option Help). link_answer fitting linked last o) (sym is) ∙ again)
 
--- If the answer of a step is `NoMemory`, so is that of the call on buckets.
+-- If the table's step answers `NoMemory`, the call on the buckets answered `NoMemory`.
 pub no_memory_alone : {A : Type 0} (result : Result A InitRefusal) → answer_for result ≡ Err refusals.NoMemory → result ≡ Err NoMemory
 no_memory_alone (Ok done) is = absurd (cc is)
 no_memory_alone (Err NoMemory) is = refl

@@ -1,4 +1,4 @@
--- The changes by the calls on the buckets of a table.
+-- The changes that calls on the buckets make to a table.
 use Rattle.std.proofs.Common.{◌≡◌, ℕ, ◌+◌, ◌<◌, ◌≤◌, ◌^◌, ◌==◌, ◌||◌, inl, inr, List, true, false, map, length, sym, ◌∙◌, ap, subst, arith, get_or, slice_set}
 use Rattle.std.specs.Prelude.{Result, Ok, Err}
 use Rattle.std.specs.List.{range_with_len}
@@ -59,7 +59,7 @@ seek_linked before after old new helper bucket result changes dummies =
     limit (Ok Placed) seeks = ap (λ (d : Directory). limit_of d) seeks.now
     limit (Err refusal) changes = ap (λ (d : Directory). limit_of d) changes.0
 
--- The linked dummies after one more is linked.
+-- The linked dummies after one more dummy is linked.
 linked_more : (before after : List NodeAt) (limit bucket : ℕ) → bucket < limit → limit ≤ 2 ^ 32 → ((other : ℕ) → other < 2 ^ 32 → has_dummy after other ≡ ((bucket == other) || has_dummy before other))
     → map (has_dummy after) (range_with_len 0 limit) ≡ slice_set (map (has_dummy before) (range_with_len 0 limit)) bucket true
 linked_more before after limit bucket within small more =
@@ -81,7 +81,7 @@ linked_more before after limit bucket within small more =
               ∙ sym (get_or-set_other (map (has_dummy before) (range_with_len 0 limit)) bucket i true false (λ same. other (sym same)))
         ]
 
--- The linked dummies after a helper has linked that of its bucket.
+-- The linked dummies after a helper has linked its bucket's dummy.
 pub linked_with : (old new : TableAt) (helper : ℕ) → HasParents old
     → (links : parts.LinksDummy old.buckets new.buckets old.list new.list helper)
     → linked_of new ≡ slice_set (linked_of old) links.bucket true

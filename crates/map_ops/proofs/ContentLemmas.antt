@@ -20,7 +20,7 @@ use Rattle.txn_words.proofs.Order.{Rises, IsSortedBySplit, value_at, or_else, or
 use Rattle.txn_words.proofs.OrderedPairs.{ordered-linked, ordered-written, ordered-unlinked}
 use Rattle.map_ops.specs.TableAt.{map_of}
 
--- A key that belongs before all others is not among them.
+-- If a key belongs before the keys of all pairs, the pairs have no value at it.
 none_above : (k : ℕ) (es : List (ℕ × ℕ)) → AllByRecursion (λ (other : ℕ × ℕ). IsBefore (regular_at k) (regular_at other.0)) es → value_at k es ≡ None
 none_above k [] all = refl
 none_above k (e ∷ es) all = ap (λ b. cond b (Some e.1) (value_at k es)) (split_cmp_tied k e.0 ∙ ne_eqb k e.0 (λ same. before_apart (regular_at k) (regular_at e.0) all.0 (ap regular_at same))) ∙ none_above k es all.1
@@ -41,7 +41,7 @@ get-inserted (p ∷ ps) m q rises =
           ∙ sym (ap (λ b. or_else (cond b (Some p.1) (value_at q ps)) (get m q)) (split_cmp_tied q p.0 ∙ ne_eqb q p.0 other))
     ]
 
--- The map of pairs that rise has at each key the value of the pairs.
+-- If pairs rise, their map has at each key the value that the pairs have at that key.
 pub get-map_of : (ps : List (ℕ × ℕ)) (q : ℕ) → Rises ps → get (map_of ps) q ≡ value_at q ps
 get-map_of ps q rises = get-inserted ps empty q rises ∙ or_else_none (value_at q ps)
 
@@ -72,7 +72,7 @@ module _ (old new : List (ℕ × ℕ)) (k : ℕ) (old_rises : Rises old) (new_ri
       map_of_is (remove (map_of old) k) new new_rises (r.new_is ∙ ordered-unlinked (map_of old) k v r.before r.after
       (sym r.old_is ∙ ordered-map_of old old_rises))
 
--- The pairs of nodes rise if the nodes rise and each is at the position of its key.
+-- A key that belongs before some nodes belongs before the keys of their pairs.
 above_pair : (k : ℕ) (kind : Kind) (marked : Bool) (key value : ℕ) (ps : List (ℕ × ℕ)) → (kind ≡ Regular → IsBefore (regular_at k) (regular_at key)) → AllByRecursion (λ (other : ℕ × ℕ). IsBefore (regular_at k) (regular_at other.0)) ps → AllByRecursion (λ (other : ℕ × ℕ). IsBefore (regular_at k) (regular_at other.0)) (pair_if kind marked key value ++ ps)
 above_pair k Dummy marked key value ps here all = all
 above_pair k Regular true key value ps here all = all
@@ -91,7 +91,7 @@ rises_pair Dummy marked key value ps here rises = rises
 rises_pair Regular true key value ps here rises = rises
 rises_pair Regular false key value ps here rises = (here refl, rises)
 
--- The pairs of a list rise by sort keys.
+-- The pairs of nodes rise if the nodes rise and each regular node is at its key's position.
 pub rises-pairs : (nodes : List NodeAt) → IsRising nodes → IsKeyed nodes → Rises (pairs nodes)
 unfolding pairs IsRising
 rises-pairs [] rising keyed = tt
@@ -135,7 +135,8 @@ value_at-there key (m ∷ rest) place n rising keyed is kind at unmarked = elim 
       ∙ value_at-there key rest place n rising.1 keyed.1 later kind at unmarked
 ]
 
--- There are as many pairs as live nodes, and as many keys.
+-- A list of nodes has as many pairs as live nodes, and the map of pairs that rise has as many keys
+-- as there are pairs.
 length_pair : (kind : Kind) (marked : Bool) (key value : ℕ) (ps : List (ℕ × ℕ)) (count : ℕ) → length ps ≡ count → length (pair_if kind marked key value ++ ps) ≡ (if is_regular kind && not marked then 1 else 0) + count
 length_pair Dummy marked key value ps count is = omega (arith, is)
 length_pair Regular true key value ps count is = omega (arith, is)

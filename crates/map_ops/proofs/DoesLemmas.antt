@@ -35,12 +35,12 @@ sets_then_back old mid new buckets k value spare sets gives = record {
   last = gives.last ∙ sets.last;
 }
 
--- The spare is then no longer out.
+-- A spare that is given back after the write is no longer out; the other spares are unchanged.
 pub keeps_then_back : (old mid new : Listing) (buckets : Directory) (spare : SpareAt) → KeepsSpares (table_of old buckets) (table_of mid buckets) → GivesBack (table_of mid buckets) (table_of new buckets) (Some spare)
     → Spends (table_of old buckets) (table_of new buckets) (Some spare)
 keeps_then_back old mid new buckets spare keeps gives = (gives.spares.0, λ other apart. gives.spares.1 other apart ∙ keeps other)
 
--- The spare of a put is not that of its job.
+-- The job of a put owns no spare, so the spare of the put is spent.
 put_spends : (old new : TableAt) (k : ℕ) (before : Option ℕ) (spare : Option SpareAt) (job : Option MapJob) → job ≡ unput k before → Spends old new spare → SpendsFor old new spare job
 put_spends old new k None spare job is spends = subst (SpendsFor old new spare) (sym is) spends
 put_spends old new k (Some value) spare job is spends = subst (SpendsFor old new spare) (sym is) spends
@@ -142,7 +142,8 @@ places old new buckets key from bound c sound nodes_is kept same found placed fi
   changes = found.changes;
 }
 
--- A change is taken back if its key has the value before the change.
+-- A change is taken back if its key is set to the value before the change and the spare of its job
+-- is spent.
 pub takes_back : (old new : Listing) (buckets : Directory) (job : MapJob) → Sets (table_of old buckets) (table_of new buckets) (key_of_job job) (value_before job) → Spends (table_of old buckets) (table_of new buckets) (spare_of_job job)
     → TakesBack (table_of old buckets) (table_of new buckets) job
 takes_back old new buckets job sets spends = record {

@@ -50,7 +50,8 @@ abbrev is_at : Option SpareAt → ℕ → Bool
 is_at None place = false
 is_at (Some spare) place = place == spare.place
 
--- The spare that is out at a place after another spare was spent.
+-- The spare that is out at a place after a spare was spent: none if the spent one was at that
+-- place, else the same as before.
 spent-at : (old new : TableAt) (spare : Option SpareAt) (place : ℕ) → Spends old new spare → spare_out new place ≡ cond (is_at spare place) None (spare_out old place)
 spent-at old new None place spends = spends place
 spent-at old new (Some spare) place spends = elim (cases_eq place spare.place) [
@@ -74,12 +75,12 @@ either-spares old one other first second a b place =
     ∙ either_none k j (spare_out old place)
     ∙ sym (spent-at b.between other (spare_of_job first) place b.two.spares ∙ ap (cond j None) (spent-at old b.between (spare_of_job second) place b.one.spares))
 
--- A spare at another place still belongs to the table when one is spent.
+-- A spare still belongs to the table after a spare at another place is spent.
 spent_owned : (old new : TableAt) (spent : Option SpareAt) (spare : SpareAt) → AreApart spent (Some spare) → Spends old new spent → OwnsIf old (Some spare) → OwnsIf new (Some spare)
 spent_owned old new None spare apart spends owned = still_owned old new spare spends owned
 spent_owned old new (Some gone) spare apart spends owned = other_owned old new spare gone.place spends.1 (λ same. apart (sym same)) owned
 
--- A job is due after the change of another key is taken back.
+-- A job stays due (`ShowsAfter`) when the change of another key is taken back.
 pub either_due : (old new : TableAt) (first second : MapJob) → key_of_job first ≢ key_of_job second → AreApart (spare_of_job first) (spare_of_job second) → ShowsAfter second old → TakesBack old new first → ShowsAfter second new
 either_due old new first second apart spares shows back = go second apart spares shows
   where

@@ -13,11 +13,11 @@ use Rattle.bucket_table.specs.Directory.{Directory, limit_of}
 use Rattle.bucket_table.specs.Dummies.{has_dummy}
 use Rattle.map_ops.specs.TableAt.{TableAt, table_of, Follows, IsPlaced, KeepsBuckets, KeepsNodes}
 
--- Only the list changes.
+-- If only the list changes, the buckets are unchanged.
 pub same_buckets : (old new : Listing) (d : Directory) → KeepsBuckets (table_of old d) (table_of new d)
 same_buckets old new d = record { all = refl; size = refl; largest = refl; stored = refl; helps = refl }
 
--- Only the spares change.
+-- If the list keeps its nodes and its change number, the table keeps its nodes (`KeepsNodes`).
 pub same_nodes : (old new : Listing) (d : Directory) → new.nodes ≡ old.nodes → new.changes ≡ old.changes → KeepsNodes (table_of old d) (table_of new d)
 same_nodes old new d same kept = record {
   all = same;
@@ -27,7 +27,7 @@ same_nodes old new d same kept = record {
   changes = kept;
 }
 
--- A cursor that was placed on the list was placed on the table.
+-- A cursor that was placed on the list at the key's position was placed on the table for the key.
 pub placed_on : (l : Listing) (d : Directory) (cursor : Cursor) (key : ℕ) → cursors.IsPlaced l cursor → cursors.at_of cursor ≡ regular_at key → IsPlaced (table_of l d) cursor key
 placed_on l d cursor key placed is = record { list = placed; at_is = is; held = placed.held }
 

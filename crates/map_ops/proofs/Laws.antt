@@ -38,7 +38,7 @@ pub shows_before : (old new : TableAt) (job : MapJob) → TakesBack old new job 
 shows_before old new job back =
     ap (λ m. get m (key_of_job job)) back.content_is ∙ get-set_at-here (content old) (key_of_job job) (value_before job)
 
--- Some buckets, for statements that hold with any.
+-- Some buckets, for statements that hold for any buckets.
 abbrev pub no_buckets : Directory
 no_buckets = record { size = 0; entries = []; helpers = [] }
 
@@ -47,7 +47,7 @@ put_is_due : (m : Map) (k v : ℕ) (job : MapJob) (o : Option ℕ) → unput k o
 put_is_due m k v job None same = subst (IsDue (insert m k v)) (some-injective same) (ap is_some (get-insert-here m k v))
 put_is_due m k v job (Some old) same = subst (IsDue (insert m k v)) (some-injective same) (ap is_some (get-insert-here m k v))
 
--- A job is due after its operation, and its undoing restores the map before it.
+-- The job of an operation is due after the operation.
 pub job_is_due : (m : Map) (op : Op) (spare : Option SpareAt) (job : MapJob) → job_of m op spare ≡ Some job → IsDue (after m op) job
 job_is_due m (Put k v) spare job is = put_is_due m k v job (get m k) is
 job_is_due m (Take k) spare job is = go (get m k) spare is
@@ -63,7 +63,7 @@ job_is_due m (PutIf k expected v) spare job is = go (option_eq nat_eq (get m k) 
     go true same = put_is_due m k v job (get m k) same
     go false same = absurd (some-none (sym same))
 
--- To write over a key and then to set it to its old value restores the map.
+-- To write or remove a key and then set the key to its old value restores the map.
 set_at-insert : (m : Map) (k v : ℕ) (before : Option ℕ) → get m k ≡ before → set_at (insert m k v) k before ≡ m
 set_at-insert m k v before is = same_map _ m (λ q. get-set_at (insert m k v) k before q ∙ elim (cases_eq q k) [
   | inl same ↦ ap (λ b. cond b before (get (insert m k v) q)) (eq-eqb q k same) ∙ sym is ∙ ap (get m) (sym same)
@@ -76,7 +76,8 @@ set_at-remove m k before is = same_map _ m (λ q. get-set_at (remove m k) k befo
   | inr other ↦ ap (λ b. cond b before (get (remove m k) q)) (ne_eqb q k other) ∙ get-remove m k q ∙ ap (λ b. cond b None (get m q)) (ne_eqb q k other)
 ])
 
--- The undoing of a put restores the map before it.
+-- To take back the change of a put, or of any operation with a job, restores the map before the
+-- operation.
 put_set_at : (m : Map) (k v : ℕ) (job : MapJob) (o : Option ℕ) → get m k ≡ o → unput k o ≡ Some job → set_at (insert m k v) (key_of_job job) (value_before job) ≡ m
 put_set_at m k v job None was same = subst (λ j. set_at (insert m k v) (key_of_job j) (value_before j) ≡ m) (some-injective same) (set_at-insert m k v None was)
 put_set_at m k v job (Some old) was same = subst (λ j. set_at (insert m k v) (key_of_job j) (value_before j) ≡ m) (some-injective same) (set_at-insert m k v (Some old) was)
@@ -136,7 +137,8 @@ content-there_and_back old mid new op reply job applies back =
 pub content-no_job : (old new : TableAt) (op : Op) (reply : Option ℕ) → Applies old new op reply None → content new ≡ content old
 content-no_job old new op reply applies = applies.content_is ∙ after-no_job (content old) op applies.spare applies.spare_is (sym applies.job_is)
 
--- The spare of a prepared operation belongs to the table while the spares are unchanged.
+-- The spare of a prepared operation belongs to the table, and still does as long as the spares are
+-- unchanged.
 given_owned : (old new : TableAt) (takes : Bool) (spare : Option SpareAt) → GivesFor old new takes spare → OwnsIf new spare
 given_owned old new true None gives = absurd gives
 given_owned old new true (Some spare) gives = gives.owned
@@ -158,7 +160,7 @@ put_keeps old new k v reply job applies = go (get (content old) k) (subst (JobSp
     go None keeps = keeps
     go (Some before) keeps = keeps
 
--- A get done by `apply` keeps the spares and the content.
+-- A get done by `apply` keeps the spares.
 pub get_keeps : (old new : TableAt) (k : ℕ) (reply : Option ℕ) (job : Option MapJob) → Applies old new (Get k) reply job → KeepsSpares old new
 get_keeps old new k reply job applies = subst (JobSpare old new) applies.job_is applies.spares
 

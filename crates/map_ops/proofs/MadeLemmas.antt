@@ -1,4 +1,4 @@
--- The map that is made of the pairs.
+-- The map that is collected from pairs.
 use Rattle.std.proofs.Common.{◌≡◌, ℕ, List, [], ◌∷◌, Some, None, Ok, Err, Result, cond, refl, sym, ◌∙◌, ap}
 use Rattle.std.specs.List.{fold}
 use Rattle.std.specs.Result.{IfOk}
@@ -10,7 +10,7 @@ use Rattle.std.specs.FinMap.Entries.{find-put}
 use Rattle.txn_words.specs.Map.{Map, empty, get, insert}
 use Rattle.map_ops.specs.TableAt.{map_of}
 
--- Pairs that are inserted one after another are found as in their map.
+-- To insert pairs one after another gives each key the same value as `update_all` with the pairs.
 update_all-inserted : (ps : List (ℕ × ℕ)) (m : Map) (q : ℕ) → update_all (eq_by_cmp nat_cmp) (λ k. get m k) ps q ≡ get (fold (λ (m : Map) (pair : ℕ × ℕ). insert m pair.0 pair.1) m ps) q
 update_all-inserted [] m q = refl
 update_all-inserted (p ∷ ps) m q = ap (λ f. update_all (eq_by_cmp nat_cmp) f ps q) one ∙ update_all-inserted ps (insert m p.0 p.1) q
@@ -18,7 +18,8 @@ update_all-inserted (p ∷ ps) m q = ap (λ f. update_all (eq_by_cmp nat_cmp) f 
     one : update (eq_by_cmp nat_cmp) (λ k. get m k) p.0 (Some p.1) ≡ (λ k. get (insert m p.0 p.1) k)
     one = λ i k. (ap (λ b. cond b (Some p.1) (get m k)) ((eq_by_cmp_equiv nat_cmp_total).symm p.0 k) ∙ sym (find-put nat_cmp nat_cmp_total k p.0 p.1 m.rows)) i
 
--- The map that is collected from pairs has the same values as their map.
+-- The `BTreeMap` that is collected from pairs has at each key the value that the map of the pairs
+-- (`map_of`) has.
 pub made : {E : Type 0} (r : Result (BTreeMap ℕ ℕ) E) (found pairs : List (ℕ × ℕ)) → found ≡ pairs → IfOk r (IsFromIterResult nat_cmp found) → IfOk r (λ map. (key : ℕ) → value_at nat_cmp map key ≡ get (map_of pairs) key)
 made (Ok map) found pairs same is = λ key. is.0 key ∙ ap (λ ps. update_all (eq_by_cmp nat_cmp) (λ _. None) ps key) same ∙ update_all-inserted pairs empty key
 made (Err e) found pairs same is = tt

@@ -11,13 +11,13 @@ use Rattle.map_ops.specs.Jobs.{takes_node}
 use Rattle.map_ops.specs.Changes.{GivesFor, IsRefused, Prepares}
 use Rattle.map_ops.specs.Steps.{GivesOne, IsLacking}
 
--- Without a spare an operation that takes a node is refused.
+-- If no spare is given, an operation that takes a node is refused.
 pub refused : (t : TableAt) (op : Op) (refusal : Refusal) → takes_node op ≡ true → IsLacking t refusal → IsRefused t op refusal
 refused t op StampsUsedUp takes lacking = (takes, lacking)
 refused t op NoMemory takes lacking = (takes, lacking)
 refused t op _ takes lacking = absurd lacking
 
--- With a spare it is prepared.
+-- If a spare is given, an operation that takes a node is prepared.
 pub prepares_put : (old new : TableAt) (op : Op) (k key v : ℕ) (spare : SpareAt) → op ≡ Put k v → key ≡ key_of op → GivesOne old new spare → Prepares old new op (record { op = Put key v; spare = Some spare })
 prepares_put old new op k key v spare is key_is gives = record {
   op_is = ap (λ x. Put x v) (key_is ∙ ap key_of is) ∙ sym is;

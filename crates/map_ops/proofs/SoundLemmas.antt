@@ -6,7 +6,8 @@ use Rattle.bucket_table.specs.Directory.{Directory}
 use Rattle.bucket_table.proofs.HomeLemmas.{still_home}
 use Rattle.map_ops.specs.Sound.{Belong, IsSound}
 
--- A table stays sound when its list changes, if each node is at its position.
+-- If the new list follows the old one and each node of the new list is at its position, the table
+-- stays sound.
 pub still_sound : (old new : Listing) (buckets : Directory) → IsSound old buckets → Follows old new → Belong new.nodes → IsSound new buckets
 still_sound old new buckets sound follows belong = record { sound = follows.sound sound.sound; home = still_home old new follows buckets sound.home; belong = belong }
 

@@ -13,7 +13,7 @@ use Rattle.map_ops.specs.TableAt.{table_of, Keeps}
 use Rattle.map_ops.proofs.BelongLemmas.{belong_swept, has_dummy-swept, linked_same}
 use Rattle.map_ops.proofs.KeepLemmas.{same_buckets}
 
--- A sweep.
+-- A sweep keeps the pairs, the buckets, the linked dummies and the last stamp.
 pub sweep_keeps : (old new : Listing) (d : Directory) (outcome : SweepOutcome) → IsSound old → steps.Sweeps old new outcome → pairs new.nodes ≡ pairs old.nodes → Keeps (table_of old d) (table_of new d)
 sweep_keeps old new d Swept sound becomes same = record {
   regular = same;

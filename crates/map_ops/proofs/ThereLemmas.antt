@@ -1,4 +1,4 @@
--- A cursor, as a statement about the content.
+-- The value of a key, as a cursor that was placed for the key finds it.
 use Rattle.std.proofs.Common.{◌≡◌, ◌≢◌, ℕ, ◌%◌, Option, Some, None, true, refl, sym, ◌∙◌, ap, subst, arith}
 use Rattle.std.specs.Prelude.{IfOk, IsSome, Result, Ok, Err, is_ok, is_some}
 use Rattle.list_steps.specs.declared.cursor.Again.{Again}
@@ -26,7 +26,7 @@ use Rattle.map_ops.specs.Sound.{Belong, IsEvenDummy}
 use Rattle.map_ops.specs.Steps.{HasNode, HasRoom, Stands, place_in}
 use Rattle.map_ops.proofs.ContentLemmas.{rises-pairs, get-map_of, value_at-absent, value_at-there}
 
--- A node at the position of a key is the key's.
+-- A node at a key's position is regular.
 pub regular_of : (n : NodeAt) (key : ℕ) → IsEvenDummy n → n.at ≡ regular_at key → n.kind ≡ Regular
 regular_of n key even same = go n.kind refl
   where
@@ -53,12 +53,13 @@ module _ (l : Listing) (c : Cursor) (key : ℕ) (sound : IsSound l) (belong : Be
       let at = there l c n sound.spread fitting is in
       get-map_of (pairs l.nodes) key rises ∙ value_at-there key l.nodes n.place n sound.rising belong.keyed at.is (kind_there n is) (at.at ∙ same) at.unmarked
 
-  -- If there is none the key is not there.
+  -- If no node is at the cursor, the key has no value.
   get-absent : IsAbsent l c → get (map_of (pairs l.nodes)) key ≡ None
   get-absent absent =
       get-map_of (pairs l.nodes) key rises ∙ value_at-absent key l.nodes belong.keyed (subst (λ (s : SortKey). AllByRecursion (λ (n : NodeAt). n.at ≢ s) l.nodes) same absent.others)
 
-  -- A look at the cursor tells the node of the key, or its place.
+  -- A look at the cursor finds the place of the key's node, or that this node belongs right behind
+  -- the cursor's first node.
   pub stands : (found : Option ℕ) → Finds l c found → Stands l key (pred_of c) found
   stands None absent = record { vacant = subst (IsVacant l.nodes (pred_of c)) same absent.vacant; none = get-absent absent }
   stands (Some place) at =
@@ -70,18 +71,18 @@ module _ (l : Listing) (c : Cursor) (key : ℕ) (sound : IsSound l) (belong : Be
         value = get-there at.node at.there;
       }
 
--- The result of a look.
+-- The same for the result of a look, if it is not `Again`.
 pub found : (l : Listing) (c : Cursor) (key : ℕ) → IsSound l → Belong l.nodes → IsPlaced l c → at_of c ≡ regular_at key
     → (result : Result (Option ℕ) Again) → fits l c ≡ is_ok result → IfOk result (Finds l c) → IfOk result (Stands l key (pred_of c))
 found l c key sound belong placed same (Ok there) fitting finds = stands l c key sound belong placed fitting same there finds
 found l c key sound belong placed same (Err again) fitting finds = tt
 
--- A key that is there has its node at the place.
+-- If the key has a value, the key's node is linked at the place that `place_in` answers.
 pub occupied : (l : Listing) (key pred : ℕ) (there : Option ℕ) → Stands l key pred there → IsSome (get (map_of (pairs l.nodes)) key) → HasNode l key (place_in pred there)
 occupied l key pred None room some = absurd (false≢true (sym (ap is_some room.none) ∙ some))
 occupied l key pred (Some place) has some = has
 
--- A key that is not there belongs behind the node at the place.
+-- If the key has no value, the key's node belongs right behind the node at that place.
 pub vacant : (l : Listing) (key pred : ℕ) (there : Option ℕ) → Stands l key pred there → get (map_of (pairs l.nodes)) key ≡ None → HasRoom l key (place_in pred there)
 vacant l key pred None room none = room
 vacant l key pred (Some place) has none = absurd (some-none (sym has.value ∙ none))
@@ -90,7 +91,7 @@ vacant l key pred (Some place) has none = absurd (some-none (sym has.value ∙ n
 pub node_linked : (l : Listing) (key place : ℕ) → HasNode l key place → IsLinked l.nodes place
 node_linked l key place has = found_linked l.nodes place has.node (ap (node_of l.nodes) has.place_is ∙ has.its.is)
 
--- The value of the key's node is the key's.
+-- The value of the key's node is the value of the key.
 pub value_there : (l : Listing) (key place : ℕ) (n : NodeAt) → HasNode l key place → node_of l.nodes place ≡ Some n → Some n.value ≡ get (map_of (pairs l.nodes)) key
 value_there l key place n has is =
     ap (λ (m : NodeAt). Some m.value) (some-injective (sym is ∙ ap (node_of l.nodes) has.place_is ∙ has.its.is)) ∙ sym has.value

@@ -10,7 +10,8 @@ use Rattle.list_steps.specs.Content.{pair_if, pair_of, pairs}
 use Rattle.list_steps.proofs.NodeLemmas.{IsAt, next_at, at_next, first_is, first_none}
 use Rattle.list_steps.proofs.ContentLemmas.{pairs_none}
 
--- All pairs up to this place are found.
+-- The walk is at this place, and has found the pairs of all nodes up to and including the node
+-- there.
 pub record IsWalking (nodes : List NodeAt) (place : ℕ) (found : List (ℕ × ℕ)) : Type 0 where
   pub node : NodeAt
   pub at : IsAt nodes place node

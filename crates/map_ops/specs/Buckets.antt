@@ -15,7 +15,8 @@ use Rattle.txn_words.specs.declared.refusal.Refusal.TheVariants as refusals
 use Rattle.map_ops.specs.TableAt.{TableAt, Help, last_of, linked_of, helps_of}
 pub use Rattle.map_ops.specs.TableAt.{helper_fits}
 
--- Whether the list, which has a Boolean for each bucket, has true for this one.
+-- Whether this bucket is stored, given a list that has `true` at the position of each stored
+-- bucket.
 abbrev pub is_stored : List Bool → ℕ → Bool
 is_stored stored bucket = slice_index_or stored bucket false
 
@@ -24,7 +25,7 @@ abbrev pub LacksSegment : List Bool → ℕ → Type 0
 LacksSegment stored bucket =
     (other : ℕ) → other / 64 ≡ bucket / 64 → is_stored stored other ≡ false
 
--- The refusal of a step, for one of a call on buckets.
+-- The refusal of a step that stands for a refusal of a call on buckets.
 abbrev pub refusal_for : InitRefusal → Refusal
 refusal_for NoSuchBucket = refusals.NoSuchBucket
 refusal_for ParentMissing = refusals.ParentMissing
@@ -33,17 +34,17 @@ refusal_for HelperOutOfOrder = refusals.HelperOutOfOrder
 refusal_for NoMemory = refusals.NoMemory
 refusal_for StampsUsedUp = refusals.StampsUsedUp
 
--- The answer of a step, for one of a call on buckets.
+-- The answer of a step that stands for an answer of a call on buckets.
 abbrev pub answer_for : {A : Type 0} → Result A InitRefusal → Result A Refusal
 answer_for (Ok done) = Ok done
 answer_for (Err refusal) = Err (refusal_for refusal)
 
--- The answer to a seek for a bucket, from the size, the stored buckets and the helper's state.
+-- The answer to a seek for a bucket, given the size, the stored buckets and the helper's state.
 abbrev pub seek_answer : ℕ → List Bool → Option Help → ℕ → Result InitSeek Refusal
 seek_answer size stored help bucket =
     answer_for (buckets.seek_answer size (is_stored stored) help bucket)
 
--- The answer to a link if memory lasts, from whether the helper's cursor fits, which dummies are
+-- The answer to a link if memory lasts, given whether the helper's cursor fits, which dummies are
 -- linked, the last stamp and the helper's state.
 abbrev pub link_answer : Bool → List Bool → ℕ → Option Help → Result InitLink Refusal
 link_answer fitting linked last help =
@@ -54,12 +55,12 @@ abbrev pub link_answer_of : TableAt → ℕ → Result InitLink Refusal
 link_answer_of t helper =
     link_answer (helper_fits t helper) (linked_of t) (last_of t) (slice_get (helps_of t) helper)
 
--- The answer to a store if memory lasts, from the helper's state.
+-- The answer to a store if memory lasts, given the helper's state.
 abbrev pub store_answer : Option Help → Result Unit Refusal
 store_answer help = answer_for (buckets.store_answer help)
 
--- The changes by a seek for a bucket are those of the table's parts. A refusal, here and below,
--- leaves the table unchanged.
+-- The changes by a seek for a bucket: those of the table's buckets and list. Here and in the
+-- definitions below, a refusal leaves the table unchanged.
 abbrev pub SeekChanges : TableAt → TableAt → ℕ → ℕ → Result InitSeek Refusal → Type 0
 SeekChanges old new helper bucket (Ok done) =
     parts.SeekChanges old.buckets new.buckets old.list new.list helper bucket (Ok done)

@@ -33,7 +33,8 @@ pub record GivesSpare (old new : TableAt) (spare : SpareAt) : Type 0 where
   pub owned : Owns new spare
   pub others : KeepsOthers old new spare.place
 
--- A spare for an operation that takes a node, and none for one that does not.
+-- An operation that takes a node is given a new spare; any other is given none, and nothing has
+-- changed.
 abbrev pub GivesFor : TableAt → TableAt → Bool → Option SpareAt → Type 0
 GivesFor old new true None = ⊥
 GivesFor old new true (Some spare) = GivesSpare old new spare
@@ -103,7 +104,8 @@ ActWrites old new pending (Acted reply job) =
     OpWrites old.list new.list pending.op pending.spare (get (content old) (key_of pending.op))
 ActWrites old new pending (ActAgain back) = WritesNothing old.list new.list
 
--- The change is taken back: its key has the value before it, and every other key is unchanged.
+-- The change is taken back: the job's key has the value before the change, or none, and every other
+-- key is unchanged.
 pub record TakesBack (old new : TableAt) (job : MapJob) : Type 0 where
   pub content_is : content new ≡ set_at (content old) (key_of_job job) (value_before job)
   pub spares : Spends old new (spare_of_job job)
@@ -134,8 +136,8 @@ pub record GivesBack (old new : TableAt) (spare : Option SpareAt) : Type 0 where
   pub last : last_of new ≡ last_of old
   pub spares : Spends old new spare
 
--- The spares after an operation done by `apply`: that of its job is out, and all others are
--- unchanged.
+-- The spares after an operation done by `apply`: if its job owns a spare, this new spare is out;
+-- all others are unchanged.
 abbrev pub JobSpare : TableAt → TableAt → Option MapJob → Type 0
 JobSpare old new (Some (Relink k before spare)) = GivesSpare old new spare
 JobSpare old new (Some (Unput k)) = KeepsSpares old new

@@ -44,13 +44,13 @@ IsDue m (Unput k) = IsSome (get m k)
 IsDue m (Restore k old) = IsSome (get m k)
 IsDue m (Relink k old spare) = get m k ≡ None
 
--- The job that a take of a value leaves.
+-- The job that a take leaves, given the value that was taken, if there was one, and the spare.
 abbrev pub relink : ℕ → Option ℕ → Option SpareAt → Option MapJob
 relink k (Some old) (Some spare) = Some (Relink k old spare)
 relink k (Some old) None = None
 relink k None spare = None
 
--- The job that a put over a value, or over none, leaves.
+-- The job that a put leaves, given the key's value before, or none.
 abbrev pub unput : ℕ → Option ℕ → Option MapJob
 unput k None = Some (Unput k)
 unput k (Some old) = Some (Restore k old)

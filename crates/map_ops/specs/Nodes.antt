@@ -9,7 +9,7 @@ use Rattle.txn_words.specs.declared.op.Op.TheVariants.{Put, Take, Get, PutIf}
 use Rattle.map_ops.specs.declared.job.MapJob.{MapJob}
 use Rattle.map_ops.specs.declared.job.MapJob.TheVariants.{Unput, Restore, Relink}
 
--- The unmarked node of a key with this value, with the place and the stamp of a spare.
+-- The unmarked node that has this key, this value, and the place and the stamp of this spare.
 abbrev pub node_for : ℕ → ℕ → SpareAt → NodeAt
 node_for key value spare = record {
   place = spare.place;
@@ -20,7 +20,7 @@ node_for key value spare = record {
   marked = false;
 }
 
--- The key's unmarked node is linked.
+-- The node is linked, and it is the key's unmarked regular node.
 pub record IsNodeOf (nodes : List NodeAt) (key : ℕ) (node : NodeAt) : Type 0 where
   pub is : node_of nodes node.place ≡ Some node
   pub kind : node.kind ≡ Regular
@@ -41,7 +41,7 @@ pub record WritesOnce (old new : Listing) (now : List NodeAt) : Type 0 where
 abbrev pub IsUnlinking : Listing → Listing → Type 0
 IsUnlinking old new = new.changes ≡ changes_after old.changes (length old.nodes - length new.nodes)
 
--- The node is linked behind one that is linked.
+-- The node is linked behind a node of the old list.
 pub record LinksNode (old new : Listing) (node : NodeAt) : Type 0 where
   pub before : ℕ
   pub linked : IsLinked old.nodes before
@@ -70,12 +70,13 @@ abbrev pub TakeWrites : Listing → Listing → ℕ → Option ℕ → Type 0
 TakeWrites old new key None = WritesNothing old new
 TakeWrites old new key (Some was) = MarksNode old new key
 
--- A put that is not made writes nothing.
+-- A `PutIf` writes as a put does if its condition holds, and writes nothing if it does not.
 abbrev pub PutIfWrites : Listing → Listing → ℕ → ℕ → Option SpareAt → Option ℕ → Bool → Type 0
 PutIfWrites old new key value spare before true = PutWrites old new key value spare before
 PutIfWrites old new key value spare before false = WritesNothing old new
 
--- The writes of an operation with this spare whose key had this value. A get writes nothing.
+-- The writes of an operation that has this spare and whose key had this value. A get writes
+-- nothing.
 abbrev pub OpWrites : Listing → Listing → Op → Option SpareAt → Option ℕ → Type 0
 OpWrites old new (Put k v) spare before = PutWrites old new k v spare before
 OpWrites old new (Take k) spare before = TakeWrites old new k before

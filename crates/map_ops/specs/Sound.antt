@@ -21,7 +21,7 @@ pub record Belong (nodes : List NodeAt) : Type 0 where
   pub keyed : IsKeyed nodes
   pub even : AllEven nodes
 
--- The list is sound, the buckets are the list's, and each node is at its position.
+-- The list is sound, the buckets belong to this list (`IsHome`), and each node is at its position.
 pub record IsSound (list : Listing) (buckets : Directory) : Type 0 where
   pub sound : nodes.IsSound list
   pub home : IsHome buckets list

@@ -11,30 +11,30 @@ use Rattle.map_ops.specs.TableAt.{TableAt, SpareAt, KeepsBuckets, KeepsNodes, co
 use Rattle.map_ops.specs.Nodes.{IsNodeOf}
 use Rattle.map_ops.specs.Changes.{GivesSpare}
 
--- The key's node is linked at the place, and the key has its value.
+-- The key's node is linked at the place, and the key has the node's value.
 pub record HasNode (l : Listing) (key place : ℕ) : Type 0 where
   pub node : NodeAt
   pub its : IsNodeOf l.nodes key node
   pub place_is : place ≡ node.place
   pub value : get (map_of (pairs l.nodes)) key ≡ Some node.value
 
--- The key has no value, and its node belongs right behind the one at the place.
+-- The key has no value, and the key's node belongs right behind the node at the place.
 pub record HasRoom (l : Listing) (key pred : ℕ) : Type 0 where
   pub vacant : IsVacant l.nodes pred (regular_at key)
   pub none : get (map_of (pairs l.nodes)) key ≡ None
 
--- The key's node is linked at the second place, if there is one; else it belongs right behind the
--- node at the first.
+-- If there is a second place, the key's node is linked at it. If not, the key's node belongs right
+-- behind the node at the first place.
 abbrev pub Stands : Listing → ℕ → ℕ → Option ℕ → Type 0
 Stands l key pred None = HasRoom l key pred
 Stands l key pred (Some place) = HasNode l key place
 
--- The place of the key's node, or of the node that it belongs behind.
+-- The second place of `Stands` if there is one, else the first.
 abbrev pub place_in : ℕ → Option ℕ → ℕ
 place_in pred None = pred
 place_in pred (Some place) = place
 
--- A spare is given, and only the last stamp has changed besides.
+-- A spare is given. Apart from the spare, only the last stamp has changed.
 pub record GivesOne (old new : TableAt) (spare : SpareAt) : Type 0 where
   pub given : GivesSpare old new spare
   pub nodes : KeepsNodes old new
@@ -45,7 +45,8 @@ IsLacking t StampsUsedUp = last_of t ≡ 2 ^ 64 - 2
 IsLacking t NoMemory = last_of t < 2 ^ 64 - 2
 IsLacking t refusal = ⊥
 
--- A key has this value, or none, and every other key is unchanged.
+-- The key now has this value, or no value if this is none. Every other key, the buckets, the linked
+-- dummies and the last stamp are unchanged.
 pub record Sets (old new : TableAt) (key : ℕ) (value : Option ℕ) : Type 0 where
   pub content_is : content new ≡ set_at (content old) key value
   pub buckets : KeepsBuckets old new

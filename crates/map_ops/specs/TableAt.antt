@@ -139,20 +139,21 @@ cursor_changes cursor = cursors.changes_of cursor
 abbrev pub fits : TableAt → Cursor → Bool
 fits t cursor = cursors.fits t.list cursor
 
--- The cursor was placed on this table for this key, at any time. It fits while the change number is
--- the one that it noted, and below 2^64 - 1.
+-- The cursor was placed on this table for this key, now or earlier. It fits as long as the change
+-- number is below 2^64 - 1 and still is the one that the cursor noted.
 pub record IsPlaced (t : TableAt) (cursor : Cursor) (key : ℕ) : Type 0 where
   pub list : cursors.IsPlaced t.list cursor
   pub at_is : cursors.at_of cursor ≡ regular_at key
   pub held : table_changes t ≡ cursor_changes cursor → table_changes t < 2 ^ 64 - 1
       → fits t cursor ≡ true
 
--- The place is that of the dummy of the key's bucket, or of its nearest initialised ancestor.
+-- The place is that of the dummy of the key's bucket if the bucket is initialised, else that of the
+-- dummy of the bucket's nearest initialised ancestor.
 abbrev pub IsStart : TableAt → ℕ → ℕ → Type 0
 IsStart t key place = IsNearest t.buckets (key % size_of t) place
 
--- The linked nodes after a seek of a key from a place: without the marked ones between there and
--- the key's position.
+-- The linked nodes after a seek of a key from a place: without the marked nodes between that place
+-- and the key's position.
 abbrev pub nodes_sought : TableAt → ℕ → ℕ → List NodeAt
 nodes_sought t place key = sought t.list.nodes place (regular_at key)
 
@@ -182,14 +183,15 @@ NamesDummies t = IsHome t.buckets t.list
 abbrev pub HasParents : TableAt → Type 0
 HasParents t = directories.IsSound t.buckets
 
--- A table at two times: nothing older was disturbed, so that cursors stay placed.
+-- A table at two times. The new list follows the old one, and every cursor that was placed on the
+-- old table is still placed on the new one.
 pub record Follows (old new : TableAt) : Type 0 where
   pub list : nodes.Follows old.list new.list
   pub last : last_of old ≤ last_of new
   pub placed : (cursor : Cursor) (key : ℕ) → IsPlaced old cursor key → IsPlaced new cursor key
 
--- An empty table of two buckets, the first of them stored, and of idle helpers. Only the dummy of
--- bucket 0 is linked, and no spare is out.
+-- An empty table that has two buckets, and helpers that are all idle. Only bucket 0 is stored, only
+-- its dummy is linked, and no spare is out.
 pub record IsNew (t : TableAt) (largest helpers : ℕ) : Type 0 where
   pub nodes_are : nodes_of t ≡ first_dummy t.list.head 0 ∷ []
   pub regular_is : regular t ≡ []

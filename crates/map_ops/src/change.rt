@@ -1,6 +1,6 @@
 //! The effect of an operation or an inverse on the list of a table. Only `seek_key` reads the
-//! buckets, and no function here changes them. So each contract but that of `seek_key` holds of the
-//! table with any buckets, and the proofs of these need not mention buckets.
+//! buckets, and no function here changes them. So each contract except that of `seek_key` holds of
+//! the tables with this list and any buckets, and its proof need not mention buckets.
 ghost use Rattle.std.specs.Prelude.{◌≡◌, ◌≤◌, Option, Some, None, is_ok, nat_eq, IfOk, IfErr, OnErr};
 ghost use Rattle.std.specs.Option.{option_eq};
 ghost use Rattle.node_list.specs.Follow.{Follows};
@@ -29,7 +29,7 @@ use node_list::{Kind, NodeList, NodeRef, SpareFault, Unfilled};
 use split_key::{Key, SortKey, bucket_of};
 use txn_words::{Op, Refusal, Reply};
 
-/// A spare of the list.
+/// Answers a new spare of the list.
 fn give_spare(list: &mut NodeList) -> Result<Unfilled, Refusal>
     requires { IsSound list.old }
     ensures ok { IfOk result (λ spare. (buckets : Directory)
@@ -46,7 +46,7 @@ fn give_spare(list: &mut NodeList) -> Result<Unfilled, Refusal>
     }
 }
 
-/// An operation with the spare that it takes.
+/// Prepares an operation: takes the spare that it needs from the list.
 #[inline(always)]
 pub(crate) fn plan(list: &mut NodeList, op: Op) -> Result<Plan, Refusal>
     requires { IsSound list.old }
@@ -93,8 +93,8 @@ pub(crate) fn seek_key(list: &mut NodeList, buckets: &Buckets, key: Key) -> Curs
     seek(list, from, SortKey::regular(key))
 }
 
-/// The node of a key, as a cursor tells. If there is none, the key's node belongs right behind
-/// `cursor.pred()`.
+/// Answers the node of a key, given a cursor that was placed for the key. If the answer is `None`,
+/// a node of the key belongs right behind `cursor.pred()`.
 pub(crate) fn find(list: &NodeList, cursor: &Cursor, key: Key) -> Result<Option<NodeRef>, Again>
     requires sound { IsSound list.now }
     requires belong { Belong list.now.nodes }
@@ -199,7 +199,7 @@ pub(crate) fn give_up_job(list: &mut NodeList, job: MapJob)
     }
 }
 
-/// Whether a key had the value that was expected, or none if none was.
+/// Whether a key had the expected value, or had none if none was expected.
 fn is_expected(was: Reply, expected: Reply) -> bool
     ensures { result ≡ option_eq nat_eq was expected }
 {
@@ -344,7 +344,7 @@ pub(crate) fn change(
     }
 }
 
-/// The place of a key's node, or of the node that it belongs behind.
+/// The place of a key's node or, if there is none, of the node behind which it belongs.
 fn place_in(pred: NodeRef, there: Option<NodeRef>) -> NodeRef
     ensures { result ≡ place_in pred there }
 {

@@ -6,9 +6,9 @@ ghost use Rattle.std.specs.Prelude.{◌≡◌};
 use node_list::Unfilled;
 use split_key::Key;
 
-/// The inverse of one change, which takes it back whatever has changed since at other keys (an
-/// inverse method call in the sense of Herlihy and Koskinen 2008). A `Relink` owns a spare of the
-/// table, so that running it needs no memory.
+/// The inverse of one change: it takes the change back, whatever has changed at other keys since
+/// then (an inverse method call in the sense of Herlihy and Koskinen 2008). A `Relink` owns a spare
+/// of the table, so that running it needs no memory.
 #[derive(Debug, Drop)]
 pub enum MapJob {
     /// Takes out the value that was put at the key.

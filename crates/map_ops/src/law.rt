@@ -10,9 +10,9 @@ ghost use Rattle.map_ops.specs.Jobs.{key_of_job, spare_of_job};
 ghost use Rattle.map_ops.specs.Changes.{Applies, AreApart, ShowsAfter, TakesBack};
 ghost use Rattle.map_ops.specs.Laws.{GoesAndReturns, IsInOrder, TakesBackTwo};
 
-/// A change followed by its inverse leaves the content unchanged, and so the list of pairs, which
-/// is that of the content in order (`Table::size` says so of every table). An operation without a
-/// job leaves the content unchanged too.
+/// A change followed by its inverse leaves the content unchanged. So it also leaves the list of
+/// pairs unchanged, since this list has the pairs of the content in order (clause `ordered` of
+/// `Table::size`). An operation without a job leaves the content unchanged too.
 ///
 /// The contract is the law, a consequence of the contracts of `Table::apply` and
 /// `Table::take_back`; the function does nothing.

@@ -10,12 +10,12 @@
 //! - `apply` does an operation, with the reply and the effect of that operation on the map, and
 //!   answers a `MapJob` exactly if it was a change.
 //! - `take_back` restores the value that the job's key had before the change and leaves every other
-//!   key unchanged, whatever has changed there since. The job's key must be as the change left it:
-//!   there after a put, and not there after a take. This is a compensating action of boosting
-//!   (Herlihy and Koskinen, "Transactional Boosting", 2008): each change is taken back by its
-//!   inverse.
-//! - `law::there_and_back` says that after these two the content and the list of pairs are
-//!   unchanged.
+//!   key unchanged, whatever has changed at other keys since. The job's key must be as the change
+//!   left it: there after a put, and not there after a take. This is a compensating action of
+//!   boosting (Herlihy and Koskinen, "Transactional Boosting", 2008): each change is taken back by
+//!   its inverse.
+//! - `law::there_and_back` says that after an `apply` and the `take_back` of its job the content
+//!   and the list of pairs are unchanged.
 //! - `law::either_order` says that jobs of different keys may be taken back in either order, with
 //!   the same result.
 //! - `prepare`, `place` and `act`, or `place_job` and `undo`, do the same in steps. If the cursor's

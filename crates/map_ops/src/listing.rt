@@ -1,6 +1,7 @@
 //! The pairs of a list, in its order, and the sorted map of these, for reports and for tests: no
 //! step uses them. Listing takes time in proportion to the nodes and memory in proportion to the
-//! pairs; the map of n pairs takes time in proportion to n log n, and memory for them again.
+//! pairs; the map of n pairs takes time in proportion to n log n, and memory for the pairs once
+//! more.
 ghost use Rattle.std.specs.Prelude.{◌≡◌, ◌++◌, IfOk, OnOk};
 ghost use Rattle.std.specs.BTreeMap.{IsFromIterResult};
 ghost use Rattle.std.specs.Ordering.{nat_cmp};
@@ -10,7 +11,7 @@ use node_list::{Kind, Node, NodeList};
 use std::alloc::{AllocError, Global};
 use std::collections::BTreeMap;
 
-/// Adds the pair of a node, if it adds one to the content.
+/// Adds the pair of a node to `found`, if the node is regular and unmarked.
 fn push_pair(found: &mut Vec<(u64, u64)>, node: &Node) -> Result<(), AllocError>
     ensures { OnOk result (found.new.items
         ≡ found.old.items ++ pair_if node.now.kind node.now.marked node.now.at.key node.now.value) }

@@ -1,6 +1,7 @@
-//! Prepared operations: each has all that it needs. It is a type apart from `Op` (`txn_words`),
-//! since every operation but a get owns a spare node from here on, until it is done or withdrawn.
-//! The variants of `Plan` keep this rule by their fields, so no code tests for a spare.
+//! Prepared operations: each has all that it needs. `Pending` is a type apart from `Op`
+//! (`txn_words`), since every operation but a get owns a spare node from here on, until it is done
+//! or withdrawn. The variants of `Plan` keep this rule by their fields, so no code tests for a
+//! spare.
 ghost use Rattle.std.specs.Prelude.{◌≡◌, is_some};
 
 use node_list::Unfilled;

@@ -7,7 +7,7 @@ ghost use Rattle.map_ops.specs.Buckets.{answer_for, refusal_for};
 use bucket_table::InitRefusal;
 use txn_words::Refusal;
 
-/// The refusal of a call on buckets.
+/// Converts the refusal of a call on buckets to that of a step.
 fn refusal_for(refusal: InitRefusal) -> Refusal
     ensures { result ≡ refusal_for refusal }
 {
@@ -21,7 +21,7 @@ fn refusal_for(refusal: InitRefusal) -> Refusal
     }
 }
 
-/// The answer of a step, for one of a call on buckets.
+/// Converts the answer of a call on buckets to that of a step.
 pub(crate) fn answer_for<T>(outcome: Result<T, InitRefusal>) -> Result<T, Refusal>
     ensures { result ≡ answer_for outcome }
 {

@@ -75,9 +75,9 @@ impl Table {
 
     /// A table as `new` makes it, with memory for this many nodes taken at once, so that the list
     /// need not grow before it has more. Each linked node counts, also a marked one and a dummy,
-    /// and so does each spare that is out. If `is_written`, that memory is written, so that no
-    /// later node is the first to touch a page of it, and the memory for the entries of as many
-    /// buckets is taken too.
+    /// and so does each spare that is out. If `is_written`, that memory is also written at once, so
+    /// that no later node is the first to touch a page of it; and memory for the entries of the
+    /// same number of buckets is taken too.
     ///
     /// # Errors
     ///
@@ -369,8 +369,8 @@ impl Table {
     /// The content and the list of pairs are unchanged; the marked nodes that it passes are
     /// unlinked.
     ///
-    /// `Ready` if the bucket is initialised already: then the helper is idle. Else `Placed`, and
-    /// the helper has a cursor that fits, in place of whatever it had.
+    /// Answers `Ready` if the bucket is initialised already: then the helper is idle. Else answers
+    /// `Placed`, and the helper has a cursor that fits, in place of whatever it had.
     ///
     /// # Errors
     ///
@@ -397,8 +397,9 @@ impl Table {
     /// Links the dummy of a helper's bucket at the helper's cursor. The content and the list of
     /// pairs are unchanged.
     ///
-    /// `Again` if the cursor no longer fits: it is dropped. `Present` if that dummy is linked
-    /// already, else `Linked`: the helper has the dummy.
+    /// Answers `Again` if the cursor no longer fits: the cursor is dropped, and the helper is idle.
+    /// Else answers `Present` if that dummy was linked already, or `Linked` if this call has linked
+    /// it: in both cases the helper now has the dummy.
     ///
     /// # Errors
     ///
@@ -454,9 +455,9 @@ impl Table {
 
     /// Doubles the size. No node moves.
     ///
-    /// Three tests are made first, in this order, and if one of them holds nothing changes: the
-    /// size is not the one seen (`Moved`); it is the largest (`AtLimit`); there are at most twice
-    /// as many keys as buckets (`Light`).
+    /// Three tests are made first, in this order: the size is not the one seen (`Moved`); the size
+    /// is the largest (`AtLimit`); there are at most twice as many keys as buckets (`Light`). If
+    /// one of them holds, the answer names it, and nothing changes.
     pub fn double(&mut self, seen: u64) -> Double
         ensures answer { result
             ≡ double_answer (size_of self.old) (largest_of self.old)

@@ -1,6 +1,6 @@
-//! A job of the table as a job of an undo log, whose world is the table. Only this module of the
-//! crate uses `undo_log`, which knows no table, so all others are free of logs. To run a job costs
-//! a seek and one change at its position, and takes no memory.
+//! Makes the jobs of the table the jobs of an undo log: the log's world is the table. The crate
+//! `undo_log` knows no table, and only this module uses it, so all others are free of logs. To run
+//! a job costs a seek and one change at the position of its key, and takes no memory.
 use crate::job::MapJob;
 use crate::table::Table;
 use undo_log::UndoJob;

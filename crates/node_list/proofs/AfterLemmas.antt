@@ -7,7 +7,7 @@ use Rattle.node_list.specs.Follow.{IsSameNode}
 use Rattle.node_list.proofs.OrderLemmas.{some-injective, some-none}
 use Rattle.node_list.proofs.NodesLemmas.{same_node, absent_linked, linked_more, next_linked, found_linked, linked_found, first_found, next_found}
 
--- The places that stay linked.
+-- After a link, each place that was linked still is, and the new node is linked.
 pub still_linked : (nodes : List NodeAt) (pred place : ℕ) (x : NodeAt) → IsLinked nodes place → IsLinked (linked_after nodes pred x) place
 unfolding linked_after IsLinked
 still_linked [] pred place x is = is

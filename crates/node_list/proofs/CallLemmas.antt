@@ -1,4 +1,4 @@
--- The effect of each call on a list, by its fields.
+-- The effect of each call on the fields of a list, and on the list as contracts see it.
 use Rattle.std.proofs.Common.{◌≡◌, ℕ, ◌+◌, ◌-◌, ◌^◌, ◌<◌, ◌≤◌, List, Option, Some, None, Bool, true, false, refl, sym, ◌∙◌, ap, arith, cond}
 use Rattle.slab.specs.Slab.{Slab, get, slab_len, Updates, with_value}
 use Rattle.node_list.specs.declared.node.Node.{Node}
@@ -25,11 +25,11 @@ counted_fit slab head last count marked is =
     let fits = nodes_fit slab head (nodes_in slab head) is.laid_out in
     omega (arith, fits, counts_fit (nodes_in slab head), is.counted, is.marks)
 
--- The slot of a linked node.
+-- The slot at a linked place holds a linked node.
 pub slot_linked : (slab : Slab SlotAt) (head last count marked place : ℕ) → IsKept slab head last count marked → IsLinked (nodes_in slab head) place → (node : Node) × (get slab place ≡ Some (Linked node))
 slot_linked slab head last count marked place is linked = linked_node (get slab) (nodes_in slab head) place is.laid_out.chain linked
 
--- A marked node behind another.
+-- A place with a marked node behind it is linked.
 pub behind_linked : (slab : Slab SlotAt) (head : ℕ) (pred : ℕ) → IsBeforeMarked (nodes_in slab head) pred → IsLinked (nodes_in slab head) pred
 behind_linked slab head pred behind = (next_linked (nodes_in slab head) pred behind.node.place (ap place_of behind.next)).0
 
@@ -120,7 +120,8 @@ module _ (old : Slab SlotAt) (head changes last count marked : ℕ) (is : IsKept
       (λ n next node_is. ap (λ (v : Node). record v { value = value }) node_is)
       refl linked is_node new_is (λ n there plain. plain) count marked refl refl
 
-  -- The node at the place of an unmarked regular node.
+  -- If the list has an unmarked regular node at a place, the node in the slot is regular and
+  -- unmarked.
   regular_seen : (place : ℕ) (node : Node) → IsRegularAt (nodes_in old head) place → get old place ≡ Some (Linked node) → (node.kind ≡ Regular) × (node.marked ≡ false)
   regular_seen place node regular is_node =
       let linked = found_linked (nodes_in old head) place regular.node regular.is in
@@ -128,7 +129,7 @@ module _ (old : Slab SlotAt) (head changes last count marked : ℕ) (is : IsKept
       let same = some-injective (sym there ∙ regular.is) in
       (ap (λ (v : NodeAt). v.kind) same ∙ regular.regular, ap (λ (v : NodeAt). v.marked) same ∙ regular.unmarked)
 
-  -- It is the node that the list has at this place.
+  -- The node in that slot is the node that the list has at the place, and it is unmarked.
   pub regular_found : (place : ℕ) (node : Node) → IsRegularAt (nodes_in old head) place → get old place ≡ Some (Linked node) → (node_of (nodes_in old head) place ≡ Some (seen place node)) × (node.marked ≡ false)
   regular_found place node regular is_node =
       let linked = found_linked (nodes_in old head) place regular.node regular.is in
@@ -165,18 +166,18 @@ module _ (old : Slab SlotAt) (head changes last count marked : ℕ) (is : IsKept
       absurd (dummy-not-regular (sym dummy ∙ ap (λ (v : NodeAt). v.kind) n_is ∙ regular.regular)))
       (count - 1) (marked + 1) (omega (arith, one, none, some)) (omega (arith, unmarked))
 
-  -- The next place of the node before a marked one.
+  -- The node before a marked node has the place of the marked node as its next place.
   pub behind_place : (pred : ℕ) (before : Node) (behind : IsBeforeMarked (nodes_in old head) pred) → get old pred ≡ Some (Linked before) → before.next ≡ Some behind.node.place
   behind_place pred before behind is_before =
       sym (next_is (get old) (nodes_in old head) pred before is.laid_out.chain (behind_linked old head pred behind) is_before) ∙ ap place_of behind.next
 
-  -- The slot of the node behind another.
+  -- The slot of the node behind a linked node holds a linked node.
   pub behind_slot : (pred place : ℕ) (before : Node) → IsLinked (nodes_in old head) pred → get old pred ≡ Some (Linked before) → before.next ≡ Some place → (node : Node) × (get old place ≡ Some (Linked node))
   behind_slot pred place before linked is_before next =
       let place_is = next_is (get old) (nodes_in old head) pred before is.laid_out.chain linked is_before ∙ next in
       linked_node (get old) (nodes_in old head) place is.laid_out.chain (linked_more _ _ (next_linked (nodes_in old head) pred place place_is).1)
 
-  -- The sort key of that node.
+  -- A marked node behind another has the sort key that the node in its slot has.
   pub behind_at : (pred place : ℕ) (before node : Node) (behind : IsBeforeMarked (nodes_in old head) pred) → get old pred ≡ Some (Linked before) → before.next ≡ Some place → get old place ≡ Some (Linked node) → behind.node.at ≡ node.at
   behind_at pred place before node behind is_before next is_node =
       let nodes = nodes_in old head in
@@ -225,7 +226,8 @@ module _ (old : Slab SlotAt) (head changes last count marked : ℕ) (is : IsKept
       (is_out : IsOut (listing_of old head changes last) s)
       (next_was : next ≡ before.next)
       (mid_is : mid ≡ with_value old pred (Linked (record before { next = Some s.place }))) where
-    -- The spare's place is still in use after the node before it was changed.
+    -- After the slot of the node in front has changed, the spare's slot still has the spare's
+    -- stamp.
     pub filling_slot : get mid s.place ≡ Some (Out s.stamp)
     filling_slot = mid_spare old mid (with_value mid s.place (Linked (stored (filled s) before.next))) head last pred (nodes_in old head) (filled s) before is.laid_out is.stamps is_before is_out mid_is refl
 

@@ -21,7 +21,8 @@ linked-injective e = cc
 pub out-not-linked : {stamp : ℕ} {n : Node} → Some (Out stamp) ≡ Some (Linked n) → ⊥
 out-not-linked e = cc
 
--- The linked node at a place is the one in its slot.
+-- If `node_in` of a slot is a node, the slot has this linked node; if it is none, the slot has no
+-- linked node.
 pub node_in-linked : (slot : Option SlotAt) (n : Node) → Some n ≡ node_in slot → slot ≡ Some (Linked n)
 node_in-linked None n is = absurd (some-none is)
 node_in-linked (Some (Linked m)) n is = ap (λ k. Some (Linked k)) (some-injective (sym is))
@@ -33,7 +34,7 @@ node_in-none slot n none is = some-none (sym (none ∙ ap node_in is))
 pub true-ne-false : true ≡ false → ⊥
 true-ne-false e = cc
 
--- A walk finds the chain.
+-- A walk finds the nodes of the chain.
 walk_is : (fuel : ℕ) (at : ℕ → Option SlotAt) (nodes : List NodeAt) → IsChain at nodes → length nodes ≤ fuel → walk fuel at (first_place nodes) ≡ nodes
 unfolding walk IsChain
 walk_is zero at [] chain room = refl
@@ -42,7 +43,7 @@ walk_is (suc fuel) at [] chain room = refl
 walk_is (suc fuel) at (n ∷ rest) chain room =
     rw chain.0 (ap (λ ns. n ∷ ns) (walk_is fuel at rest chain.1 (omega arith)))
 
--- A node that is before the nodes of a chain is not in it.
+-- If a node in a slot belongs before all nodes of a chain, no node of the chain is at its place.
 absent_after : (at : ℕ → Option SlotAt) (n : NodeAt) (next : Option ℕ) (nodes : List NodeAt) → at n.place ≡ Some (Linked (stored n next)) → IsChain at nodes → AllByRecursion (IsNodeBefore n) nodes → AbsentFrom n.place nodes
 unfolding IsChain
 absent_after at n next [] is chain before = tt
@@ -69,7 +70,7 @@ unfolding IsChain
 in_use slots [] chain = tt
 in_use slots (n ∷ rest) chain = (ap is_some chain.0, in_use slots rest chain.1)
 
--- A slot that is emptied leaves the slots of the other nodes in use.
+-- If a slot is emptied, the slots of the nodes at other places stay in use.
 in_use_after : (slots : List (Option SlotAt)) (place : ℕ) (nodes : List NodeAt) → AbsentFrom place nodes → AllInUse slots nodes → AllInUse (set slots place None) nodes
 in_use_after slots place [] absent used = tt
 in_use_after slots place (n ∷ rest) absent used =
@@ -116,7 +117,7 @@ unfolding nodes_in
 nodes_in_is slab head nodes laid =
     rw (← start_place nodes head laid.starts) (walk_is (slab_len slab) (get slab) nodes laid.chain (nodes_fit slab head nodes laid))
 
--- A chain is unchanged while its slots are.
+-- If the slots of a chain's nodes are unchanged, the chain is unchanged.
 pub chain_kept : (at new : ℕ → Option SlotAt) (nodes : List NodeAt) → IsChain at nodes → AllByRecursion (λ n. new n.place ≡ at n.place) nodes → IsChain new nodes
 unfolding IsChain
 chain_kept at new [] chain same = tt
@@ -127,7 +128,7 @@ pub chain_absent : (at new : ℕ → Option SlotAt) (place : ℕ) (nodes : List 
 chain_absent at new place nodes chain absent others =
     chain_kept at new nodes chain (each_map (λ n. n.place ≢ place) (λ n. new n.place ≡ at n.place) nodes (λ n apart. others n.place apart) absent)
 
--- A slot without a node is not the slot of a node of the chain.
+-- If the slot at a place has no linked node, no node of the chain is at that place.
 pub absent_free : (at : ℕ → Option SlotAt) (nodes : List NodeAt) (place : ℕ) → IsChain at nodes → ((node : Node) → at place ≢ Some (Linked node)) → AbsentFrom place nodes
 unfolding IsChain
 absent_free at [] place chain free = tt
@@ -155,7 +156,7 @@ node_found at (n ∷ rest) place node chain is is_node = elim (eqb_tells n.place
   | inr apart ↦ rw apart.0 (node_found at rest place node chain.1 (elim is [ inl here ↦ absurd (apart.1 here) | inr later ↦ later ]) is_node)
 ]
 
--- The node behind a node is at the next place in its slot.
+-- The next node after a linked node is at the next place that the linked node's slot has.
 pub next_is : (at : ℕ → Option SlotAt) (nodes : List NodeAt) (pred : ℕ) (before : Node) → IsChain at nodes → IsLinked nodes pred → at pred ≡ Some (Linked before) → place_of (next_of nodes pred) ≡ before.next
 unfolding IsChain IsLinked next_of
 next_is at [] pred before chain is is_before = absurd is

@@ -70,8 +70,8 @@ starts_changed (n ∷ rest) head place change same starts = elim (eqb_tells n.pl
       rw apart.0 (record { node = starts.node; is = starts.is; place = starts.place; at = starts.at; kind = starts.kind })
 ]
 
--- A node is linked behind another: the other's slot gets its place, and its own slot the place that
--- was next.
+-- A node is linked behind another. The slot of the other node gets the new node's place as its next
+-- place, and the new node's slot gets the next place that the other node had.
 pub chain_linked : (at new : ℕ → Option SlotAt) (nodes : List NodeAt) (pred : ℕ) (x : NodeAt) (before : Node) → IsChain at nodes → IsSpread nodes → AbsentFrom x.place nodes → at pred ≡ Some (Linked before) → new pred ≡ Some (Linked (record before { next = Some x.place })) → new x.place ≡ Some (Linked (stored x before.next)) → ((other : ℕ) → other ≢ pred → other ≢ x.place → new other ≡ at other) → IsChain new (linked_after nodes pred x)
 unfolding IsChain IsSpread linked_after
 chain_linked at new [] pred x before chain apart absent is written x_is others = tt
@@ -96,7 +96,8 @@ chain_linked at new (n ∷ rest) pred x before chain apart absent is written x_i
 renamed : (before behind : Node) (n m : NodeAt) (next after : Option ℕ) → before ≡ stored n next → behind ≡ stored m after → record before { next = behind.next } ≡ stored n after
 renamed before behind n m next after first second = ap₂ (λ (b c : Node). record b { next = c.next }) first second
 
--- The node behind another is unlinked: the other's slot gets the place behind it.
+-- The node behind another is unlinked. The slot of the other node gets the next place that the
+-- unlinked node had.
 pub chain_unlinked : (at new : ℕ → Option SlotAt) (nodes : List NodeAt) (pred place : ℕ) (before behind : Node) → IsChain at nodes → IsSpread nodes → at pred ≡ Some (Linked before) → before.next ≡ Some place → at place ≡ Some (Linked behind) → new pred ≡ Some (Linked (record before { next = behind.next })) → ((other : ℕ) → other ≢ pred → new other ≡ at other) → IsChain new (unlinked_after nodes pred)
 unfolding IsChain IsSpread unlinked_after
 chain_unlinked at new [] pred place before behind chain apart is next_is is_behind written others = tt

@@ -7,7 +7,7 @@ use Rattle.node_list.specs.declared.node.Kind.TheVariants.{Dummy, Regular}
 use Rattle.node_list.specs.Nodes.{NodeAt, node_of, next_of, IsLinked, linked_after, unlinked_after, changed_at, count_where, is_live, is_regular, live_count, marked_count}
 use Rattle.node_list.proofs.OrderLemmas.{some-none, some-injective}
 
--- The count of one node.
+-- The count of one node: 1 if it passes the test, else 0.
 abbrev pub gain : (NodeAt → Bool) → NodeAt → ℕ
 gain test n = cond (test n) 1 0
 
@@ -95,7 +95,7 @@ unfolding count_where
 counts_fit [] = omega arith
 counts_fit (n ∷ rest) = omega (arith, counts_fit rest, gains n.kind n.marked)
 
--- The count is 0 exactly if no node passes.
+-- The count of marked nodes is 0 exactly if no node is marked.
 unmarked : (b : Bool) → cond {A = ℕ} b 1 0 ≡ 0 → b ≡ false
 unmarked true none = absurd (omega arith)
 unmarked false none = refl

@@ -1,4 +1,4 @@
--- The invariants of every list, and that each changed list follows the one before.
+-- The invariants hold of every list, and after each change the new list follows the old one.
 use Rattle.std.proofs.Common.{◌≡◌, ◌≢◌, ℕ, ◌+◌, ◌-◌, ◌^◌, ◌<◌, inl, inr, Some, false, refl, sym, ◌∙◌, ap, arith}
 use Rattle.std.proofs.lemmas.Bool.{cases_eq}
 use Rattle.slab.specs.Slab.{Slab, get}
@@ -62,7 +62,7 @@ follows_twice a b c first second = record {
       (in_c.0, in_c.1, same_after _ _ _ in_b.2 in_c.2);
 }
 
--- The list after each change follows the one before.
+-- After each change the new list follows the old one.
 pub gives_out_follows : (old new : Listing) (place stamp : ℕ) → stamp ≡ old.last + 1 → IsSound new → GivesOut old new place stamp → Follows old new
 gives_out_follows old new place stamp above now_sound given = record {
   sound = λ was. now_sound;
@@ -133,7 +133,8 @@ unlinks_follow old new pred fits spread plain behind now_sound now = record {
       (n, rw now.nodes (still_found_unlinked old.nodes pred place n behind.node spread behind.next differs is), same_node n);
 }
 
--- The stamps of linked nodes and of spares.
+-- No stamp of a linked node or of a spare is above the last one, and no two places have the same
+-- stamp.
 stamped : (slab : Slab SlotAt) (head changes last : ℕ) → IsLaidOut slab head (nodes_in slab head) → HasStamps slab last → IsStamped (listing_of slab head changes last)
 stamped slab head changes last laid stamps =
     let slot_of : (place : ℕ) (n : NodeAt) → node_of (nodes_in slab head) place ≡ Some n → (node : Node) × (get slab place ≡ Some (Linked node)) × (node.stamp ≡ n.stamp) = λ place n is.

@@ -1,4 +1,5 @@
--- The fields of a list are kept, also in a slab that only has more room.
+-- Conditions under which the fields of a list keep their invariant (`IsKept`), also when the slab
+-- only gets more room.
 use Rattle.std.proofs.Common.{◌≡◌, ℕ, ◌-◌, ◌^◌, ◌<◌, List, Some, None, Result, Ok, Err, refl, sym, ap}
 use Rattle.std.specs.Result.{result_ok}
 use Rattle.slab.specs.Slab.{Slab}
@@ -8,7 +9,8 @@ use Rattle.node_list.specs.Layout.{nodes_in, listing_of, IsLaidOut, HasStamps, I
 use Rattle.node_list.proofs.OrderLemmas.{some-injective, some-none}
 use Rattle.node_list.proofs.ChainLemmas.{nodes_in_is}
 
--- The fields are kept with these nodes.
+-- The fields keep their invariant if these nodes are laid out in the slab and the stamps and the
+-- counts are right.
 pub kept : (slab : Slab SlotAt) (head last count marked : ℕ) (nodes : List NodeAt) → IsLaidOut slab head nodes → HasStamps slab last → last < 2 ^ 64 - 1 → count ≡ live_count nodes → marked ≡ marked_count nodes → IsKept slab head last count marked
 kept slab head last count marked nodes laid stamps below counted marks =
     let same = nodes_in_is slab head nodes laid in
@@ -20,7 +22,8 @@ kept slab head last count marked nodes laid stamps below counted marks =
       marks = rw same marks;
     }
 
--- A slab that only has more room.
+-- If the slab only gets more room, its nodes, the invariant of the fields and the list stay the
+-- same.
 pub grown : (slab : Slab SlotAt) (room head : ℕ) → nodes_in (record slab { capacity = room }) head ≡ nodes_in slab head
 unfolding nodes_in
 grown slab room head = refl

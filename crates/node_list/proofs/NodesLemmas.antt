@@ -9,7 +9,7 @@ use Rattle.node_list.specs.Order.{AbsentFrom, IsSpread, IsVacant}
 use Rattle.node_list.specs.Follow.{IsSameNode}
 use Rattle.node_list.proofs.OrderLemmas.{some-injective, some-none}
 
--- A spare that is filled as the dummy of bucket 0 is one as a list gives it.
+-- A spare that is filled as the dummy of bucket 0 is equal to `unfilled` of its place and stamp.
 pub unfilled_is : (s : SpareAt) → filled s ≡ first_dummy s.place s.stamp → unfilled s.place s.stamp ≡ s
 unfilled_is s is =
     let with : SortKey → Kind → ℕ → SpareAt = λ at kind value. record { place = s.place; stamp = s.stamp; at = at; kind = kind; value = value } in
@@ -69,7 +69,7 @@ found_linked (m ∷ rest) place n is = elim (eqb_tells m.place place) [
   | inr apart ↦ inr (found_linked rest place n (rw apart.0 at is))
 ]
 
--- If a sort key is vacant there is a linked node to link it behind.
+-- If the position of a sort key is vacant behind a place, that place is linked.
 pub vacant_linked : (nodes : List NodeAt) (pred : ℕ) (sort : SortKey) → IsVacant nodes pred sort → IsLinked nodes pred
 vacant_linked nodes pred sort vacant = found_linked nodes pred vacant.node vacant.is
 

@@ -24,7 +24,7 @@ before-transitive n m k first second = before_transitive n.at m.at k.at first se
 pub before-same : (n m k l : NodeAt) → n.at ≡ k.at → m.at ≡ l.at → IsNodeBefore n m → IsNodeBefore k l
 before-same n m k l n_at m_at before = rw (← n_at, ← m_at) before
 
--- A statement about each node, from a stronger one.
+-- If a statement implies another and holds of each node, the other holds of each node too.
 pub each_map : (P Q : NodeAt → Type 0) (nodes : List NodeAt) → ((n : NodeAt) → P n → Q n) → AllByRecursion P nodes → AllByRecursion Q nodes
 each_map P Q [] more each = tt
 each_map P Q (n ∷ rest) more each = (more n each.0, each_map P Q rest more each.1)
@@ -33,7 +33,7 @@ pub each_both : (P Q : NodeAt → Type 0) (nodes : List NodeAt) → AllByRecursi
 each_both P Q [] one other = tt
 each_both P Q (n ∷ rest) one other = ((one.0, other.0), each_both P Q rest one.1 other.1)
 
--- A statement about each node holds of a node that is found.
+-- A statement that holds of each node holds of the node at a place.
 pub each_found : (P : NodeAt → Type 0) (nodes : List NodeAt) (place : ℕ) (n : NodeAt) → AllByRecursion P nodes → node_of nodes place ≡ Some n → P n
 unfolding node_of
 each_found P [] place n each is = absurd (some-none (sym is))

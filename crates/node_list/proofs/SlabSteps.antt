@@ -17,7 +17,7 @@ use Rattle.node_list.proofs.ChainSteps.{chain_linked, chain_unlinked, chain_chan
 use Rattle.node_list.proofs.StampLemmas.{stamps_kept, stamps_freed}
 use Rattle.node_list.proofs.SpareSteps.{out_in, slot_out}
 
--- A write at a slot in use.
+-- A write to a slot in use changes this slot and no other.
 write_updates : (old new : Slab SlotAt) (place : ℕ) (was slot : SlotAt) → get old place ≡ Some was → new ≡ with_value old place slot → Updates old new place (Some slot)
 write_updates old new place was slot is written = rw written (Updates-with_value old place slot (rw is refl))
 

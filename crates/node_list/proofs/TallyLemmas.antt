@@ -27,24 +27,24 @@ pub tallied_new : (t : TallyAt) (nodes : List NodeAt) (n : NodeAt) → ((region 
 unfolding count_where
 tallied_new t nodes n none unmarked is region = rw is (omega (arith, none region, unmarked_gain region n unmarked))
 
--- The nodes are unchanged.
+-- If the nodes are unchanged, the tally's counts are still right.
 pub tallied_same : (t : TallyAt) (old new : List NodeAt) → new ≡ old → IsTallied t old → IsTallied t new
 tallied_same t old new same is = rw same is
 
--- One more unmarked node.
+-- If an unmarked node is linked, the tally's counts are still right.
 pub tallied_linked : (t : TallyAt) (old new : List NodeAt) (pred : ℕ) (x : NodeAt) → IsTallied t old → IsLinked old pred → x.marked ≡ false → new ≡ linked_after old pred x → IsTallied t new
 tallied_linked t old new pred x is linked unmarked new_is region =
     let more = count-linked (is_marked_in region) old pred x linked in
     rw new_is (omega (arith, is region, more, unmarked_gain region x unmarked))
 
--- A node gets another value.
+-- If a node gets another value, the tally's counts are still right.
 pub tallied_written : (t : TallyAt) (old new : List NodeAt) (place value : ℕ) (n : NodeAt) → IsTallied t old → node_of old place ≡ Some n → new ≡ written_at old place value → IsTallied t new
 tallied_written t old new place value n is found new_is region =
     let now = count-changed (is_marked_in region) old place (λ m. record m { value = value }) n found in
     let same : gain (is_marked_in region) n ≡ gain (is_marked_in region) (record n { value = value }) = refl in
     rw new_is (omega (arith, is region, now, same))
 
--- One more marked node.
+-- If a node is marked and the count of its region rises by one, the counts are still right.
 pub tallied_marked : (t u : TallyAt) (old new : List NodeAt) (place : ℕ) (n : NodeAt) → IsTallied t old → node_of old place ≡ Some n → n.marked ≡ false → ((region : ℕ) → count_in u region ≡ count_in t region + one_in n.at.split region) → new ≡ marked_at old place → IsTallied u new
 tallied_marked t u old new place n is found unmarked added new_is region =
     let now = count-changed (is_marked_in region) old place (λ m. record m { marked = true }) n found in
@@ -55,7 +55,8 @@ module _ (t : TallyAt) (old : List NodeAt) (pred split : ℕ) (m : NodeAt) (is :
   one_of : (region : ℕ) → gain (is_marked_in region) m ≡ one_in split region
   one_of region = marked_gain region m marked ∙ ap (λ s. one_in s region) split_is
 
-  -- One marked node fewer.
+  -- If a marked node is unlinked and the count of its region falls by one, the counts are still
+  -- right.
   pub tallied_unlinked : (u : TallyAt) (new : List NodeAt) → ((region : ℕ) → count_in u region + one_in split region ≡ count_in t region) → new ≡ unlinked_after old pred → IsTallied u new
   tallied_unlinked u new removed new_is region =
       let now = count-unlinked (is_marked_in region) old pred m next in
@@ -67,7 +68,7 @@ module _ (t : TallyAt) (old : List NodeAt) (pred split : ℕ) (m : NodeAt) (is :
       let now = count-unlinked (is_marked_in (region_of split)) old pred m next in
       omega (arith, none, is (region_of split), now, one_of (region_of split), one_here split)
 
--- No node is marked in a region whose count is 0.
+-- If no node is marked in a region below `low`, every marked node is in region `low` or above.
 none_below : (low : ℕ) (nodes : List NodeAt) → ((region : ℕ) → region < low → count_where (is_marked_in region) nodes ≡ 0) → AreMarksFrom (low * 2 ^ 52) nodes
 unfolding count_where
 none_below low [] none = tt
@@ -127,7 +128,7 @@ marks_near t nodes split is rising first =
     let end : split + 2 ^ 52 ≡ (first.region + 1) * 2 ^ 52 = omega (arith, first.is) in
     rw end (first_near first.region nodes rising (λ none. first.some (is first.region ∙ none)))
 
--- A statement about an option's number, from a stronger one.
+-- If a statement implies another and holds of an option's number, the other holds of it too.
 pub if_some : (P Q : ℕ → Type 0) (o : Option ℕ) → ((x : ℕ) → P x → Q x) → IfSome o P → IfSome o Q
 if_some P Q None each is = tt
 if_some P Q (Some x) each is = each x is

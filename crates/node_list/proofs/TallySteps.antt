@@ -25,7 +25,7 @@ nothing_summed = record {
   in_all = sym (run_of_zeros (replicate 64 0) 0 64 (λ place after before. zero_at 64 place));
 }
 
--- The counts with one more, and with one less, in one region.
+-- The count of one region rises by one, or falls by one; the other counts are unchanged.
 pub one_more_in : (counts : List ℕ) (split : ℕ) → region_of split < length counts → (region : ℕ) → get_or (set counts (region_of split) (get_or counts (region_of split) 0 + 1)) region 0 ≡ get_or counts region 0 + one_in split region
 one_more_in counts split within region = elim (eqb_tells (region_of split) region) [
   | inl here ↦ rw (here.0, ← here.1) (get_or-set_same counts (region_of split) _ 0 within)
@@ -75,7 +75,8 @@ module _ (total : ℕ) (groups regions : List ℕ) (is : IsSummed total groups r
               get_or-set_other groups (region / 64) group in_group 0 apart.1 ∙ is.by_group group within ∙ sym same
         ]
 
-  -- If the total is not 0, some group and some region of it are not 0.
+  -- If the total is not 0, some group has a count that is not 0, and so has some region of this
+  -- group.
   pub some_group : total ≢ 0 → run_sum groups 0 64 ≢ 0
   some_group some none = some (is.in_all ∙ none)
 

@@ -24,13 +24,14 @@ stored n next = record {
   next = next;
 }
 
--- The node in a slot, and then the nodes from its next one on.
+-- The linked node in a slot, followed by the nodes from its next place on. There are none if the
+-- slot has no linked node.
 abbrev pub step : ℕ → Option SlotAt → (Option ℕ → List NodeAt) → List NodeAt
 step place None rest = []
 step place (Some (Out stamp)) rest = []
 step place (Some (Linked n)) rest = seen place n ∷ rest n.next
 
--- The nodes from a place on; the first number is how many at most.
+-- The linked nodes from a place on, at most as many as the first number.
 unfoldable pub walk : ℕ → (ℕ → Option SlotAt) → Option ℕ → List NodeAt
 walk zero at from = []
 walk (suc fuel) at None = []
@@ -51,7 +52,7 @@ abbrev pub slot_stamp : SlotAt → ℕ
 slot_stamp (Linked n) = n.stamp
 slot_stamp (Out stamp) = stamp
 
--- The stamp of the spare that keeps a slot.
+-- The stamp of the spare that a slot is kept for, if it is kept for one.
 abbrev pub out_stamp : Option SlotAt → Option ℕ
 out_stamp None = None
 out_stamp (Some (Linked n)) = None
@@ -93,8 +94,8 @@ pub record HasStamps (slab : Slab SlotAt) (last : ℕ) : Type 0 where
   pub one_place : (p q : ℕ) (s t : SlotAt) → get slab p ≡ Some s → get slab q ≡ Some t
       → slot_stamp s ≡ slot_stamp t → p ≡ q
 
--- The slab and these numbers are the fields of a list. The counts of marked nodes by region are not
--- looked at.
+-- The slab and these numbers meet the invariant of the fields of a list. Of the counts of marked
+-- nodes only the total is looked at, not the counts of the regions.
 pub record IsKept (slab : Slab SlotAt) (head last count marked : ℕ) : Type 0 where
   pub laid_out : IsLaidOut slab head (nodes_in slab head)
   pub stamps : HasStamps slab last
@@ -102,7 +103,7 @@ pub record IsKept (slab : Slab SlotAt) (head last count marked : ℕ) : Type 0 w
   pub counted : count ≡ live_count (nodes_in slab head)
   pub marks : marked ≡ marked_count (nodes_in slab head)
 
--- These are the fields of a list, with the counts of marked nodes by region.
+-- The fields of a list meet their invariant, also the counts of marked nodes of the regions.
 pub record IsWhole (slab : Slab SlotAt) (head last count : ℕ) (marks : TallyAt) : Type 0 where
   pub kept : IsKept slab head last count marks.total
   pub tallied : IsTallied marks (nodes_in slab head)

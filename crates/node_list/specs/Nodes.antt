@@ -128,7 +128,7 @@ abbrev pub is_regular : Kind → Bool
 is_regular Dummy = false
 is_regular Regular = true
 
--- Whether a node counts.
+-- Whether a node counts: it is regular and unmarked.
 abbrev pub is_live : NodeAt → Bool
 is_live n = is_regular n.kind && not n.marked
 

@@ -3,7 +3,7 @@ use Rattle.std.specs.Prelude.{ℕ}
 use Rattle.node_list.specs.declared.node.Node.{Node}
 use Rattle.node_list.specs.Nodes.{NodeAt}
 
--- The node at a place.
+-- The node that is stored at a place, as contracts see it.
 abbrev pub seen : ℕ → Node → NodeAt
 seen place n = record {
   place = place;

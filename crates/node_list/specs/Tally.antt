@@ -17,7 +17,7 @@ region_of split = split / 2 ^ 52
 abbrev pub count_in : TallyAt → ℕ → ℕ
 count_in t region = slice_index_or t.counts region 0
 
--- The sum of a run of counts: its first place, and its length.
+-- The sum of a run of counts, given the place of the first count and the number of counts.
 unfoldable pub run_sum : List ℕ → ℕ → ℕ → ℕ
 run_sum counts from zero = 0
 run_sum counts from (suc more) = run_sum counts from more + slice_index_or counts (from + more) 0
@@ -52,15 +52,15 @@ one_in split region = if region_of split == region then 1 else 0
 abbrev pub is_marked_in : ℕ → NodeAt → Bool
 is_marked_in region n = n.marked && region_of n.at.split == region
 
--- The counts are those of the marked nodes among these.
+-- The count of each region is the number of these nodes that are marked and in the region.
 abbrev pub IsTallied : TallyAt → List NodeAt → Type 0
 IsTallied t nodes = (region : ℕ) → count_in t region ≡ count_where (is_marked_in region) nodes
 
--- No marked one of these nodes has a split key below this.
+-- Each marked node among these has this split key or a higher one.
 abbrev pub AreMarksFrom : ℕ → List NodeAt → Type 0
 AreMarksFrom split nodes = AllByRecursion (λ n. n.marked ≡ true → split ≤ n.at.split) nodes
 
--- The first marked one of these nodes.
+-- The first of these nodes that is marked, if one is.
 unfoldable pub first_marked : List NodeAt → Option NodeAt
 first_marked [] = None
 first_marked (n ∷ rest) = if n.marked then Some n else first_marked rest

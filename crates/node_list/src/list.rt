@@ -75,9 +75,9 @@ impl NodeList {
         NodeList::with_capacity(alloc, first_stamp, 0, false)
     }
 
-    /// A list as `new` makes it, with memory for this many nodes taken at once, so that it need not
-    /// grow before it has more, spares included. If `is_written`, that memory is written, so that
-    /// no later node is the first to touch a page of it.
+    /// A list as `new` makes it, except that it takes memory for this many nodes at once, and need
+    /// not grow until it has more nodes, spares included. If `is_written`, that memory is written,
+    /// so that no later node is the first to touch a page of it.
     ///
     /// # Errors
     ///
@@ -117,13 +117,13 @@ impl NodeList {
         }
     }
 
-    /// Keeps a place for a node, and gives it the stamp after the last one. The spare is filled as
-    /// the dummy of bucket 0.
+    /// Reserves a place for a node, and returns the spare that keeps the place. The spare has the
+    /// stamp after the last one, and is filled as the dummy of bucket 0.
     ///
     /// # Errors
     ///
     /// `Worn` exactly if the last stamp was 2^64 - 2; else `NoMemory` if memory is refused, or all
-    /// 2^32 - 1 places are in use. Either leaves the list unchanged.
+    /// 2^32 - 1 places are in use. Either error leaves the list unchanged.
     ///
     /// # Cost
     ///
@@ -284,8 +284,9 @@ impl NodeList {
         self.marks.total()
     }
 
-    /// The split key at which the marked nodes begin, or `None` exactly if no node is marked. No
-    /// marked node has a split key below it, and that of the first one is less than 2^52 above it.
+    /// A split key at or shortly before the first marked node: no marked node has a lower split
+    /// key, and the split key of the first marked node is less than 2^52 higher. Answers `None`
+    /// exactly if no node is marked.
     ///
     /// # Cost
     ///

@@ -31,9 +31,9 @@ impl Kind {
     }
 }
 
-/// The place of a node. It names that node until the node is unlinked; the stamp tells whether a
-/// node there later is the same. A place is below 2^32 - 1: it takes half a word of each node, and
-/// one number of 32 bits is left to stand for none.
+/// The place of a node. It names the node until the node is unlinked. Later another node may be at
+/// the place; the stamp tells whether it is still the same node. A place is below 2^32 - 1, so that
+/// it takes half a word of each node, and one number of 32 bits is left to stand for none.
 #[derive(Clone, Copy, Debug, PartialEq, Eq)]
 pub struct NodeRef {
     place: u32,
@@ -73,11 +73,12 @@ impl NodeRef {
     }
 }
 
-/// A node: a linked one, unless its place is kept for a spare. It takes four words: the first two
-/// have the sort key, the kind, the mark, whether it is linked, and the place of the next node.
+/// A node. Either it is linked, or its place is kept for a spare (`is_linked`). It takes four
+/// words: the first two have the sort key, the kind, the mark, whether it is linked, and the place
+/// of the next node.
 #[derive(Clone, Copy, Debug)]
 pub struct Node {
-    /// Its position in the order of the list. A regular node has its key there.
+    /// The node's position in the order of the list. The key of a regular node is part of it.
     pub at: SortKey,
     /// A dummy or a regular node.
     pub kind: Kind,

@@ -1,14 +1,15 @@
-//! A node's place or none, in half the memory of an option: each node has one, and a list of
-//! buckets keeps thousands. A contract sees it as the option, so no definition tells the two apart.
-//! Every number of 32 bits is a place or stands for none, so the type needs no invariant.
+//! The place of a node, or none, in half the memory of an option: each node has such a reference,
+//! and a list of buckets keeps thousands. A contract sees the reference as the option, so no
+//! definition tells the two apart. Every number of 32 bits is a place or stands for none, so the
+//! type needs no invariant.
 ghost use Rattle.std.specs.Prelude.{◌≡◌, Some, None};
 
 use crate::node::NodeRef;
 use std::marker::Model;
 use std::mem::size_of;
 
-/// A node or none, in 4 bytes, for those who keep many; an `Option<NodeRef>` takes 8. No node has
-/// the greatest place of 32 bits, which stands for none.
+/// The place of a node, or none, in 4 bytes, for users that keep many; an `Option<NodeRef>` takes
+/// 8. The greatest number of 32 bits is the place of no node, so it stands for none.
 ///
 /// A contract sees it as the option.
 #[derive(Clone, Copy, Debug)]

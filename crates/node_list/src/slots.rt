@@ -68,7 +68,7 @@ impl Slot {
         &self.node
     }
 
-    /// Changes the next of the linked node, and returns the one that it had.
+    /// Replaces the reference to the next node in the linked node, and returns the old reference.
     fn replace_next(&mut self, next: PackedRef) -> PackedRef
         ensures was { (node : Node) → self.old ≡ Linked node → result ≡ node.next }
         ensures now { (node : Node) → self.old ≡ Linked node →
@@ -155,7 +155,7 @@ pub fn set_slot(slab: &mut Slab<Slot>, place: usize, slot: Slot)
     }
 }
 
-/// Changes the next of a linked node, and returns the one that it had.
+/// Replaces the reference to the next node in a linked node, and returns the old reference.
 pub fn replace_next(slab: &mut Slab<Slot>, place: usize, next: PackedRef) -> PackedRef
     requires { (node : Node) × (get slab.old place ≡ Some (Linked node)) }
     ensures was { (node : Node) → get slab.old place ≡ Some (Linked node) → result ≡ node.next }

@@ -17,8 +17,9 @@ use std::mem::size_of;
 /// A place that a list keeps for a node, a stamp that was never used before, and the contents that
 /// the node will have.
 ///
-/// It belongs to the list as long as that place and stamp are out, which `NodeList::link_after` and
-/// `NodeList::give_back` end. A spare that is dropped keeps its place in use.
+/// The spare belongs to the list as long as its place and its stamp are out, until
+/// `NodeList::link_after` or `NodeList::give_back` takes it. If a spare is dropped instead, its
+/// place stays in use.
 #[derive(Debug, Drop)]
 pub struct Spare {
     // The sort key, the kind and the place take two words together.
@@ -43,8 +44,8 @@ impl Model for Spare {
     } };
 }
 
-/// A spare as a list gives it, stored until it is filled: only its place and its stamp, so that it
-/// is small.
+/// A spare that is not filled yet, in a small form to be stored: it has only the spare's place and
+/// stamp.
 #[derive(Debug, Drop)]
 pub struct Unfilled {
     stamp: u64,
@@ -107,7 +108,7 @@ impl Spare {
         }
     }
 
-    /// The node that the spare becomes, with this next one.
+    /// The node that the spare becomes, with `next` behind it.
     pub(crate) fn into_node(self, next: PackedRef) -> Node
         ensures { result ≡ stored (filled self) next }
     {

@@ -40,7 +40,7 @@ fn zeros(alloc: Global, count: usize) -> Result<Vec<u64>, AllocError>
     vec![in alloc; 0; count]
 }
 
-/// The place of the first count other than 0 in the run of 64 that begins at a place.
+/// The place of the first count other than 0 in the run of 64 counts that begins at `from`.
 fn first_of_run(counts: &[u64], from: usize) -> usize
     requires within { from + 64 ≤ length counts.now }
     requires some { run_sum counts.now from 64 ≢ 0 }

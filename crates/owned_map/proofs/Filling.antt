@@ -73,7 +73,7 @@ opened_at s base stands = ap (λ (seat : Seat). seat.phase) (phase_in 0 base Ope
 others : (old new : State) → ((d : ℕ) → d ≢ 0 → own d old.history ≡ []) → IsBeside 0 old new → (d : ℕ) → d ≢ 0 → own d new.history ≡ []
 others old new none beside d apart = beside.only d apart ∙ none d apart
 
--- A new core is the beginning of a filling.
+-- When caller 0 has begun a transaction in a new core, `IsFilling` holds.
 pub begun : (old new : State) (t : ℕ) → old.history ≡ [] → 0 < old.limits.callers → IsLegal (holder_by old.words) old.limits.stripes old.history → Move old (Begin 0) (answers.Began t) new → IsFilling new
 begun old new t blank there legal move = record {
   there = subst (λ (l : Sizes). 0 < l.callers) (sym (ap (λ (s : State). s.limits) move.state)) there;
@@ -90,7 +90,7 @@ lacks_ask state op refusals.NoMemory lack = tt
 lacks_ask state op refusals.StampsUsedUp lack = tt
 lacks_ask state op _ lack = absurd lack
 
--- A step that no test refuses.
+-- A step that no test refuses is refused only if memory or stamps are missing.
 lacked : (state : State) (step : Step) (refusal : Refusal) → refusal_of state step ≡ None → IsAllowed state step (answers.Refused refusal) → MayLack state step refusal
 lacked state step refusal free (inl is) = absurd (let both : None ≡ Some refusal = sym free ∙ is in cc)
 lacked state step refusal free (inr is) = is.1
@@ -104,7 +104,7 @@ begin_free s blank within =
 pub begin_lacks : (old new : State) (refusal : Refusal) → old.history ≡ [] → 0 < old.limits.callers → Move old (Begin 0) (answers.Refused refusal) new → IsLack refusal
 begin_lacks old new refusal blank there move = lacks_begin old refusal (lacked old (Begin 0) refusal (begin_free old blank (within_of old there)) move.allowed)
 
--- An open caller whose number is in range is ready.
+-- An open caller whose number is in range passes the tests of readiness.
 ready_for : (s : State) (rest : Option Refusal) → nat_le s.limits.callers 0 ≡ false → (seat_in s.history 0).phase ≡ Opened
     → cond (nat_le s.limits.callers 0) (Some refusals.NoSuchCaller)
     (cond (is_closed (seat_in s.history 0).phase) (Some refusals.NotOpen)
@@ -117,7 +117,7 @@ ready_for s rest within opened =
     (cond (is_waiting q) (Some refusals.OperationUnfinished) rest)))) opened
     ∙ ap (λ b. cond b (Some refusals.NoSuchCaller) rest) within
 
--- A put of a key that the limits take.
+-- A put of a key that the limits take is refused only if memory or stamps are missing.
 pub put_lacks : (old new : State) (k v : ℕ) (refusal : Refusal) → IsFilling old → is_bad_key old.limits.half k ≡ false
     → Operates old 0 (Put k v) (answers.Refused refusal) new → IsLack refusal
 put_lacks old new k v refusal filling taken event = lacks_ask old (Put k v) refusal (lacked old (Ask 0 (Put k v)) refusal free event.move.allowed)
@@ -125,7 +125,7 @@ put_lacks old new k v refusal filling taken event = lacks_ask old (Put k v) refu
     free : refusal_of old (Ask 0 (Put k v)) ≡ None
     free = ready_for old (cond (is_bad_key old.limits.half k) (Some refusals.BadKey) None) (within_of old filling.there) filling.opened ∙ ap (λ b. cond b (Some refusals.BadKey) None) taken
 
--- No other caller holds a stripe.
+-- No operation is answered `Busy`, since no other caller holds a stripe.
 never_busy : (old new : State) (op : Op) (x : ℕ) → IsFilling old → old.words ≡ false → IsLegal (holder_by old.words) old.limits.stripes old.history → Operates old 0 op (answers.Busy x) new → ⊥
 never_busy old new op x filling ordinary legal event =
     let stripe : ℕ = stripe_of old.limits.stripes (key_of op) in
@@ -145,7 +145,7 @@ never_busy old new op x filling ordinary legal event =
     apart zero is same = false≢true is
     apart (suc n) is same = omega (arith, same)
 
--- A put has no other answer.
+-- A put is answered `Done` or `Refused`.
 pub only_puts : (old new : State) (k v : ℕ) (answer : Answer) → IsFilling old → old.words ≡ false → IsLegal (holder_by old.words) old.limits.stripes old.history
     → ((x : Option ℕ) → answer ≡ answers.Done x → ⊥) → ((refusal : Refusal) → answer ≡ answers.Refused refusal → ⊥) → Operates old 0 (Put k v) answer new → ⊥
 only_puts old new k v (answers.Done x) filling ordinary legal not_done not_refused moves = not_done x refl

@@ -58,7 +58,7 @@ noted op x jobs m right = subst (λ y. taken_back (cond (changes op y) ((key_of 
         ∙ ap (taken_back jobs) (after_unchanged m op (sym (changes-reply m op) ∙ is))
 
 module _ {rule : Holder} (limits : Sizes) (c : ℕ) (base : Map) (h : List Entry) where
-  -- The law of one entry more.
+  -- `Stands` after one more entry of the caller, by the law of this entry.
   pub stands_after : (e : Entry) → caller_of e ≡ c → nat_le limits.callers c ≡ false → (seat : Seat) (log : List (ℕ × Option ℕ)) (committed current : Map) (holder : ℕ → Option ℕ)
       → Next rule limits.stripes h e seat log committed current holder → taken_back log current ≡ base → Stands rule limits c base seat.phase (h ++ e ∷ [])
   stands_after e mine within seat log committed current holder next back = record {

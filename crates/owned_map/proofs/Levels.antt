@@ -60,7 +60,7 @@ module _ {rule : Holder} (limits : Sizes) (c : ℕ) (base : Map) (h : List Entry
   returned_now n stands reached =
       stands_after limits c base h (entry.Returned c n) refl stands.within _ _ _ _ _ (laws.returned limits.stripes h stands.legal c n stands.seat stands.seat_is stands.phase_is reached) stands.back
 
--- A save.
+-- A save leaves the transaction open and the map unchanged.
 saves : (old new : State) (c : ℕ) (base : Map) (n : ℕ) → IsAt c base Opened old → Move old (Save c) (answers.Saved n) new → IsAt c base Opened new × (now new.history ≡ now old.history)
 saves old new c base n stands move =
     let saved = saved_now old.limits c base old.history stands in
@@ -111,7 +111,7 @@ reached_at c n m h seat seat_is leaving shaped =
     tested true s there = refl
     tested false s there = absurd (false≢true there)
 
--- If no test refuses a step, none of those after the tests of readiness does.
+-- If no test refuses a step, neither do the tests after those of readiness.
 pub past : (s : State) (c : ℕ) (rest : Option Refusal) → unready s c rest ≡ None → rest ≡ None
 past s c rest free =
     let q : Phase = (seat_in s.history c).phase in
@@ -123,7 +123,7 @@ past s c rest free =
     let leaving = first_none (is_leaving q) refusals.Leaving waits closed.1 in
     (first_none (is_waiting q) refusals.OperationUnfinished rest leaving.1).1
 
--- A return to a level.
+-- After a return to a level, the transaction is open and can be taken back to the same map.
 returns : (old new : State) (c : ℕ) (base : Map) (n m : ℕ) → IsShaped new.history → IsAt c base Opened old → Returns old c n (answers.Returned m) new → IsAt c base Opened new
 returns old new c base n m shaped stands (same, left, leave, (changes, moves)) =
     let level = first_none (nat_le (length (seat_in old.history c).kept) n) refusals.NoSuchLevel None

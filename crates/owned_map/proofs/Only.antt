@@ -23,7 +23,7 @@ use Rattle.boost_core.specs.Machine.{Move, Moves}
 use Rattle.boost_core.specs.Plain.{Operates, Returns, Aborts, Ends, Leaves, undoing, undone}
 use Rattle.owned_map.specs.Within.{OnlyDid, IsBeside, commits_of, is_grown, IsGrown}
 
--- A step of a caller that does not commit.
+-- Whether a step is no commit.
 abbrev pub is_quiet : Step → Bool
 is_quiet (Commit c) = false
 is_quiet step = true
@@ -32,7 +32,7 @@ pub record IsBy (c : ℕ) (step : Step) : Type 0 where
   pub whose : owner_of step ≡ Some (Caller c)
   pub quiet : is_quiet step ≡ true
 
--- One entry of another caller.
+-- An entry of another caller leaves a caller's own entries unchanged.
 apart_from : (c d : ℕ) (h : List Entry) (e : Entry) → caller_of e ≡ c → d ≢ c → own d (h ++ e ∷ []) ≡ own d h
 apart_from c d h e is apart = own-push_out d h e (ne_eqb (caller_of e) d (λ same. apart (sym same ∙ is)))
 
@@ -50,7 +50,7 @@ entries_apart c d h (Commit e) (answers.Committed p) by apart = apart_from c d h
 entries_apart c d h (Abort e) answers.Leaving by apart = apart_from c d h _ (cc by) apart
 entries_apart c d h step answer by apart = ap (own d) (append-nil h)
 
--- The entries of such a step.
+-- A step that is no commit adds no Committed entry.
 none_committed : (step : Step) (answer : Answer) → is_quiet step ≡ true → commits_of (entries_of step answer) ≡ []
 none_committed (Commit e) (answers.Committed p) quiet = absurd (false≢true quiet)
 none_committed (Begin e) (answers.Began t) quiet = refl
@@ -72,7 +72,7 @@ commits_after h step answer quiet =
 pub same : (c : ℕ) (old new : State) → new.history ≡ old.history → IsBeside c old new
 same c old new is = record { only = λ d apart. ap (own d) is; commits = ap commits_of is }
 
--- One after the other.
+-- `IsBeside` holds of two changes, one after the other, if it holds of each.
 pub after : (c : ℕ) (old between new : State) → IsBeside c old between → IsBeside c between new → IsBeside c old new
 after c old between new first second = record {
   only = λ d apart. second.only d apart ∙ first.only d apart;
@@ -114,7 +114,7 @@ undoing_by : (c changes : ℕ) (steps : List Step) → AllByRecursion (IsBy c) s
 undoing_by c zero steps by = by
 undoing_by c (suc changes) steps by = undoing_by c changes (Seek c ∷ Act c ∷ steps) (seek_by c, (act_by c, by))
 
--- The plain calls.
+-- The plain calls add only entries of their caller, and commit nothing.
 pub operated : (c : ℕ) (old new : State) (op : Op) (answer : Answer) → Operates old c op answer new → IsBeside c old new
 operated c old new op (answers.Done reply) moves = all_moved c old new (Ask c op ∷ Seek c ∷ Act c ∷ []) (answers.Asked ∷ answers.Placed ∷ answers.Done reply ∷ []) (ask_by c op, (seek_by c, (act_by c, tt))) moves
 operated c old new op answers.Asked none = absurd none

@@ -40,11 +40,11 @@ use Rattle.boost_core.proofs.Refused.{first_none}
 abbrev level_map : ℕ → Seat → List (ℕ × Option ℕ) → Map → Map
 level_map n seat log m = taken_back (take (seat.standing - slice_index seat.kept n) log) m
 
--- The first levels of two histories have the same maps.
+-- A caller's levels below this number have the same maps in two histories.
 abbrev SameLevels : ℕ → ℕ → List Entry → List Entry → Type 0
 SameLevels levels c g h = (n : ℕ) → n < levels → map_at c n h ≡ map_at c n g
 
--- A caller's standing in its transaction, by its seat.
+-- The maps and the number of a caller's levels, by the seat that `Stands` names.
 module _ {rule : Holder} {limits : Sizes} {c : ℕ} {base : Map} {q : Phase} (h : List Entry) (stands : Stands rule limits c base q h) where
   the_seat : seat_in h c ≡ stands.seat
   the_seat = ap (λ (o : Option Seat). unwrap_or o closed_seat) stands.seat_is
@@ -58,7 +58,7 @@ module _ {rule : Holder} {limits : Sizes} {c : ℕ} {base : Map} {q : Phase} (h 
   leveled : Leveled stands.seat
   leveled = seat_leveled (own c h) stands.seat stands.seat_is
 
--- One entry more, by its law.
+-- The caller's seat, log and levels after one more entry, by the law of this entry.
 module _ {rule : Holder} {stripes c : ℕ} (h : List Entry) (e : Entry) (mine : caller_of e ≡ c) {seat : Seat} {log : List (ℕ × Option ℕ)} {committed current : Map} {holder : ℕ → Option ℕ} (next : Next rule stripes h e seat log committed current holder) where
   seat_next : seat_in (h ++ e ∷ []) c ≡ seat
   seat_next = ap (λ (o : Option Seat). unwrap_or o closed_seat) (subst (λ d. seat_after (own d (h ++ e ∷ [])) ≡ Some seat) mine next.seat_is)
@@ -235,7 +235,7 @@ keeps_operated old new c op (answers.Busy x) legal event =
 keeps_operated old new c op answers.Asked legal none = absurd none
 keeps_operated old new c op _ legal event = absurd event.move.allowed.1
 
--- A save.
+-- A save sets a savepoint at the present map, above those that the caller had.
 pub is_saved : (old new : State) (c n : ℕ) → IsLegal (holder_by old.words) old.limits.stripes old.history → Move old (Save c) (answers.Saved n) new → IsSaved c n old new
 is_saved old new c n legal move =
     let stands = ready old c _ legal move.allowed.0 in
@@ -247,7 +247,7 @@ is_saved old new c n legal move =
       maps = λ k less. ap (λ (s : State). map_at c k s.history) move.state ∙ is.2 k (subst (λ j. k < j) here less);
     }
 
--- A return.
+-- A caller is going back to a level: this level and all below it still have the same maps.
 record IsOnWay (c n : ℕ) (base : Map) (old new : State) : Type 0 where
   pub stands : IsAt c base (LeavingTo n) new
   pub maps : KeepsLevels (n + 1) c old new

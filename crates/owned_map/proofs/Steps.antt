@@ -29,14 +29,14 @@ use Rattle.owned_map.proofs.Histories.{seat_there, began_now, asked_now, busy_no
 use Rattle.owned_map.proofs.Only as only
 use Rattle.boost_core.proofs.Refused.{closed_is, first_none}
 
--- Facts of a state, moved to an equal one.
+-- `IsAt` of a state also holds of an equal state.
 pub to_state : (c : ℕ) (base : Map) (q : Phase) (s t : State) → t ≡ s → IsAt c base q s → IsAt c base q t
 to_state c base q s t same = subst (IsAt c base q) (sym same)
 
 abbrev now_of : State → Map
 now_of s = now s.history
 
--- Nothing is added.
+-- `IsAt` of a state gives `Stands` of its history with no entry added.
 pub unmoved : (c : ℕ) (base : Map) (q : Phase) (s : State) → IsAt c base q s → Stands (holder_by s.words) s.limits c base q (s.history ++ [])
 unmoved c base q s stands = subst (Stands (holder_by s.words) s.limits c base q) (sym (append-nil s.history)) stands
 
@@ -55,7 +55,7 @@ not_not false is = absurd (false≢true (sym is))
 idle_after : (c : ℕ) (s t : State) → t ≡ s → seat_after (own c s.history) ≡ Some closed_seat → IsIdle c t
 idle_after c s t is closed = subst (IsIdle c) (sym is) (ap (λ (o : Option Seat). is_closed (unwrap_or o closed_seat).phase) closed)
 
--- A caller begins.
+-- A caller that begins has an open transaction on the present map, and the map is unchanged.
 pub begins : (old new : State) (c t : ℕ) → IsLegal (holder_by old.words) old.limits.stripes old.history → Move old (Begin c) (answers.Began t) new
     → IsAt c (now old.history) Opened new × (now new.history ≡ now old.history)
 begins old new c t legal move =
@@ -73,7 +73,7 @@ no_other_begin old new c (answers.Refused refusal) not_begun not_refused move = 
 no_other_begin old new c (answers.Began t) not_begun not_refused move = not_begun t refl
 no_other_begin old new c _ not_begun not_refused move = absurd move.allowed.1
 
--- An operation is asked for and sought: it waits, and the reply is that of the map.
+-- An operation was asked for and its key sought: the operation waits, and the map is unchanged.
 pub record Waits (old between : State) (c : ℕ) (base : Map) (op : Op) : Type 0 where
   pub stands : IsAt c base (Waiting op) between
   pub same : now between.history ≡ now old.history
@@ -88,12 +88,12 @@ waits old between next c base op stands ask seek =
       same = ap now_of seek.move.state ∙ ap now (append-nil between.history) ∙ ap now_of ask.move.state ∙ asked.1;
     }
 
--- The reply is that of the map.
+-- The reply to a waiting operation is the one that the map gives.
 pub replied : (s : State) (c : ℕ) (base : Map) (op : Op) (x : Option ℕ) → IsAt c base (Waiting op) s → IsReply (seat_in s.history c).phase (now s.history) x → x ≡ reply_of (now s.history) op
 replied s c base op x stands reply =
     subst (λ q. IsReply q (now s.history) x) (ap (λ (seat : Seat). seat.phase) (phase_in c base (Waiting op) s stands) ∙ stands.phase_is) reply
 
--- An operation that is done.
+-- An operation that is done has the map's reply and effect, and the transaction is still open.
 pub does : (old new : State) (c : ℕ) (base : Map) (op : Op) (x : Option ℕ) → IsAt c base Opened old → Operates old c op (answers.Done x) new
     → IsAt c base Opened new × HasDone op x old new
 does old new c base op x stands (s1, ask, (s2, seek, (s3, did, last))) =
@@ -150,7 +150,7 @@ leaves_on s c base rest stands free =
     let leaving = first_none _ _ _ closed.1 in
     false≢true (sym leaving.0 ∙ phase_of s c base LeavingToEnd stands is_leaving)
 
--- An operation leaves a transaction that can still be taken back.
+-- After an operation, the transaction can still be taken back.
 went : (old new : State) (c : ℕ) (base : Map) (op : Op) (answer : Answer) → CanAbort c base old → Operates old c op answer new → CanAbort c base new
 went old new c base op (answers.Done x) (inl stands) moves = inl (does old new c base op x stands moves).0
 went old new c base op (answers.Done x) (inr stands) (s1, ask, rest) = absurd (leaves_on old c base _ stands ask.move.allowed.0)
@@ -175,7 +175,7 @@ busy old new c op x legal event =
     let locked = (and_parts (old.words || has_stamp_for old op) _ event.move.allowed.1).1 in
     ap now_of event.move.state ∙ (busy_now old.limits c (based c old) old.history op x (ready old c _ legal event.move.allowed.0) locked).1
 
--- A call that is refused.
+-- If a call is refused, the transaction goes on.
 pub refused : (old new : State) (c : ℕ) (step : Step) (refusal : Refusal) → Move old step (answers.Refused refusal) new → GoesOn c old new
 refused old new c step refusal move = record {
   back = λ base can. kept base can;
@@ -186,7 +186,7 @@ refused old new c step refusal move = record {
     kept base (inl stands) = inl (to_state c base Opened _ new move.state stands)
     kept base (inr stands) = inr (to_state c base LeavingToEnd _ new move.state stands)
 
--- An operation has no other answer.
+-- An operation is answered `Done`, `Busy` or `Refused`.
 pub no_other : (old new : State) (c : ℕ) (op : Op) (answer : Answer) → ((x : Option ℕ) → answer ≡ answers.Done x → ⊥) → ((x : ℕ) → answer ≡ answers.Busy x → ⊥) → ((refusal : Refusal) → answer ≡ answers.Refused refusal → ⊥) → Operates old c op answer new → ⊥
 no_other old new c op (answers.Done x) not_done not_busy not_refused move = not_done x refl
 no_other old new c op (answers.Busy x) not_done not_busy not_refused move = not_busy x refl
@@ -194,7 +194,7 @@ no_other old new c op (answers.Refused refusal) not_done not_busy not_refused mo
 no_other old new c op answers.Asked not_done not_busy not_refused none = none
 no_other old new c op _ not_done not_busy not_refused event = absurd event.move.allowed.1
 
--- A commit leaves the map, and then there is no transaction.
+-- A commit leaves the map unchanged, and the caller then has no transaction.
 pub commits : (old new : State) (c p : ℕ) → IsLegal (holder_by old.words) old.limits.stripes old.history → Move old (Commit c) (answers.Committed p) new → IsCommitted c p old new
 commits old new c p legal move =
     let stands = ready old c _ legal move.allowed.0 in
@@ -220,7 +220,7 @@ one_back old between new c base stands seek act =
     let some : nat_lt 0 sought.seat.standing ≡ true = subst (λ q. has_job (record (sought.seat) { phase = q }) ≡ true) sought.phase_is job in
     to_state c base LeavingToEnd _ new act.state (undone_now between.limits c base between.history sought (ltb-true 0 sought.seat.standing some))
 
--- All changes are taken back, and these steps are left.
+-- After the moves that take all changes back, only the moves of these steps are left.
 backwards : (old new : State) (c : ℕ) (base : Map) (changes : ℕ) (steps : List Step) (others : List Answer) → IsAt c base LeavingToEnd old → Moves old (undoing changes c steps) (undone changes others) new
     → (between : State) × IsAt c base LeavingToEnd between × Moves between steps others new
 backwards old new c base zero steps others stands moves = (old, stands, moves)

@@ -1,4 +1,4 @@
--- No operation asks for a key that the limits refuse, so the map has none.
+-- No operation asks for a key that the limits refuse, so the map has no such key.
 use Rattle.std.proofs.Common.{◌≡◌, ℕ, ◌+◌, Bool, true, false, cond, List, [], ◌∷◌, ◌++◌, map, Option, Some, None, refl, sym, ap, subst, ◌∙◌}
 use Rattle.std.specs.Prelude.{not, ◌&&◌}
 use Rattle.std.specs.List.{filter, fold}
@@ -32,14 +32,14 @@ use Rattle.boost_core.proofs.Refused.{first_none}
 abbrev pub IsWell : State → Type 0
 IsWell s = asks_well s.limits.half s.history ≡ true
 
--- One history behind another.
+-- If two histories ask for no refused key, neither does one followed by the other.
 both : (half : Bool) (g h : List Entry) → asks_well half g ≡ true → asks_well half h ≡ true → asks_well half (g ++ h) ≡ true
 both half [] h first second = second
 both half (e ∷ g) h first second =
     let parts = and_parts (is_well half e) (asks_well half g) first in
     and_from (is_well half e) (asks_well half (g ++ h)) parts.0 (both half g h parts.1 second)
 
--- The entries of a step that is allowed.
+-- The entries of an allowed step ask for no key that is refused.
 asked : (old : State) (c : ℕ) (op : Op) → IsAllowed old (Ask c op) answers.Asked → is_bad_key old.limits.half (key_of op) ≡ false
 asked old c op allowed = (first_none (is_bad_key old.limits.half (key_of op)) refusals.BadKey None (past old c (cond (is_bad_key old.limits.half (key_of op)) (Some refusals.BadKey) None) allowed.0)).0
 
@@ -70,7 +70,7 @@ all_moved old new (step ∷ steps) (answer ∷ given) (between, event, rest) wel
 all_moved old new [] (answer ∷ given) none well = absurd none
 all_moved old new (step ∷ steps) [] none well = absurd none
 
--- The plain calls.
+-- After a plain call, still no entry asks for a key that is refused.
 pub operated : (old new : State) (c : ℕ) (op : Op) (answer : Answer) → Operates old c op answer new → asks_well old.limits.half old.history ≡ true → asks_well new.limits.half new.history ≡ true
 operated old new c op (answers.Done reply) moves well = all_moved old new (Ask c op ∷ Seek c ∷ Act c ∷ []) (answers.Asked ∷ answers.Placed ∷ answers.Done reply ∷ []) moves well
 operated old new c op answers.Asked none well = absurd none

@@ -45,7 +45,7 @@ begun_first old new t none move =
     ap history_of move.state ∙ ap (λ h. h ++ Began 0 t ∷ []) none
     ∙ ap (λ n. Began 0 n ∷ []) (move.allowed.1 ∙ ap (λ h. how_many is_began h + 1) none)
 
--- A put of a new key.
+-- A put of a new key adds its two entries (`put_new`), and inserts the pair into the map.
 pub put_once : (old new : State) (k v : ℕ) (x : Option ℕ) → IsLegal (holder_by old.words) old.limits.stripes old.history → Operates old 0 (Put k v) (answers.Done x) new → get (now old.history) k ≡ None
     → (new.history ≡ old.history ++ put_new (k, v)) × (now new.history ≡ insert (now old.history) k v) × (new.limits ≡ old.limits)
 put_once old new k v x legal (s1, ask, (s2, seek, (s3, did, last))) fresh =
@@ -59,7 +59,7 @@ put_once old new k v x legal (s1, ask, (s2, seek, (s3, did, last))) fresh =
       ap (λ (s : State). s.limits) last ∙ ap (λ (s : State). s.limits) did.move.state ∙ ap (λ (s : State). s.limits) seek.move.state ∙ ap (λ (s : State). s.limits) ask.move.state,
     )
 
--- The commit.
+-- The commit adds one Committed entry, with the next commit number.
 pub committed_first : (old new : State) (p : ℕ) → Move old (Commit 0) (answers.Committed p) new → new.history ≡ old.history ++ Committed 0 (how_many is_commit old.history + 1) ∷ []
 committed_first old new p move = ap history_of move.state ∙ ap (λ n. old.history ++ Committed 0 n ∷ []) move.allowed.1
 
@@ -73,7 +73,7 @@ filled pairs h is =
     ap (λ g. g ++ Committed 0 (how_many is_commit g + 1) ∷ []) is
     ∙ ap (λ n. (Began 0 1 ∷ flat_map put_new pairs) ++ Committed 0 (n + 1) ∷ []) (none_committed pairs)
 
--- A key is not among the pairs before it, since they rise.
+-- The keys of the pairs rise, so a key is not among the pairs before its own.
 below_at : (k j v : ℕ) (front back : List (ℕ × ℕ)) → T (below_all split_cmp j (front ++ (k, v) ∷ back)) → k ≢ j
 below_at k j v [] back below = λ same. subst (λ o. T (is_lt o)) (ap (split_cmp j) same ∙ tied_itself split_cmp_total j) (pair_parts (is_lt (split_cmp j k)) (below_all split_cmp j back) below).0
 below_at k j v (pair ∷ front) back below = below_at k j v front back (pair_parts (is_lt (split_cmp j pair.0)) (below_all split_cmp j (front ++ (k, v) ∷ back)) below).1
@@ -105,7 +105,7 @@ one_more q k v (pair ∷ front) none = elim (cases_eq k pair.0) [
     some_none : {A : Type 0} {x : A} → Some x ≡ None → ⊥
     some_none is = cc is
 
--- The history and the map after this many of the pairs.
+-- The first transaction has put these pairs: its history so far, and the values of the map.
 pub record HasPut (pairs : List (ℕ × ℕ)) (h : List Entry) : Type 0 where
   pub history : h ≡ Began 0 1 ∷ flat_map put_new pairs
   pub values : (q : ℕ) → get (now h) q ≡ value_at q pairs
@@ -125,7 +125,7 @@ put_one k v front h g before fresh noted put = record {
 pub sorted_listed : (m : Map) (pairs front back : List (ℕ × ℕ)) → pairs ≡ ordered m → front ++ back ≡ pairs → IsSortedBySplit (front ++ back)
 sorted_listed m pairs front back is parts = subst IsSortedBySplit (sym (parts ∙ is)) (sorted-ordered m)
 
--- The next of the pairs that were listed.
+-- The next listed pair has a key that the map lacks, and is then put.
 plus_one : (i : ℕ) → i + 1 ≡ suc i
 plus_one i = omega arith
 
@@ -143,15 +143,15 @@ put_at pairs h g i less put fresh noted is =
     subst (λ es. HasPut es g) (sym (ap (λ n. take n pairs) (plus_one i) ∙ take-suc pairs i (0, 0) less))
     (put_one pair.0 pair.1 (take i pairs) h g put fresh noted is)
 
--- All of them.
+-- When no pair is left, all pairs were put.
 pub put_all : (pairs : List (ℕ × ℕ)) (h : List Entry) (i : ℕ) → length pairs ≤ i → HasPut (take i pairs) h → HasPut pairs h
 put_all pairs h i all put = subst (λ es. HasPut es h) (take_all i pairs all) put
 
--- The map that was listed.
+-- When all pairs of a listed map were put, the new map is the listed one.
 pub same_listed : (pairs : List (ℕ × ℕ)) (h : List Entry) → HasPut pairs h → (m : Map) → pairs ≡ ordered m → now h ≡ m
 same_listed pairs h put m is = same_map (now h) m (λ q. put.values q ∙ ap (value_at q) is ∙ value_at-ordered m q)
 
--- No entry is owed exactly if no caller has a transaction.
+-- If no entry is owed, no caller has a transaction; if some entry is owed, some caller has one.
 closed_in : (n : ℕ) (q : Phase) → owed_in n q ≡ 0 → is_closed q ≡ true
 closed_in n Closed is = refl
 closed_in n Opened is = absurd (omega (arith, is))
@@ -206,7 +206,7 @@ some_open s owes =
     let (c, within, some) = some_owes (λ d. owed_by (seat_after (own d s.history))) s.limits.callers 0 owes in
     (c, omega (arith, within), open_by (seat_after (own c s.history)) some)
 
--- A property follows from another if the call is done.
+-- If one property holds when a call answers `Ok`, so does each property that follows from it.
 pub on_ok : {T E P Q : Type 0} (result : Result T E) → (P → Q) → OnOk result P → OnOk result Q
 on_ok (Ok value) follows holds = follows holds
 on_ok (Err e) follows holds = tt

@@ -1,4 +1,4 @@
--- What the calls of one caller's transaction leave, if no other caller takes a step between them.
+-- The effect of the calls of one caller's transaction, if no other caller takes a step in between.
 use Rattle.std.specs.Prelude.{ℕ, ◌+◌, ◌-◌, ◌<◌, ◌≡◌, ◌≢◌, ◌⊎◌, Bool, true, List, [], ◌∷◌, ◌++◌, length, take, slice_index, Option, Some, nat_le, false}
 use Rattle.std.specs.List.{filter}
 use Rattle.txn_words.specs.declared.op.Op.{Op}
@@ -25,7 +25,7 @@ abbrev pub taken_back : List (ℕ × Option ℕ) → Map → Map
 taken_back [] m = m
 taken_back (job ∷ jobs) m = taken_back jobs (set_at m job.0 job.1)
 
--- A caller is in this phase, and with its standing changes taken back the map is this one.
+-- A caller is in this phase, and if its standing changes are taken back, the map is `base`.
 pub record Stands (rule : Holder) (limits : Sizes) (c : ℕ) (base : Map) (phase : Phase)
     (h : List Entry) : Type 0 where
   pub within : nat_le limits.callers c ≡ false
@@ -54,7 +54,7 @@ map_at c level h =
 abbrev pub levels_of : ℕ → List Entry → ℕ
 levels_of c h = length (seat_in h c).kept
 
--- This many first levels of a caller have the same maps as before.
+-- A caller's levels below this number have the same maps as before.
 abbrev pub KeepsLevels : ℕ → ℕ → State → State → Type 0
 KeepsLevels levels c old new =
     (level : ℕ) → level < levels → map_at c level new.history ≡ map_at c level old.history
@@ -100,7 +100,8 @@ pub record GoesOn (c : ℕ) (old new : State) : Type 0 where
   pub back : (base : Map) → CanAbort c base old → CanAbort c base new
   pub beside : IsBeside c old new
 
--- An operation was done: its reply is that of the map, and the map is the one that it makes.
+-- An operation was done: its reply is the one that the old map gives, and the new map is the one
+-- that the operation makes of it.
 pub record HasDone (op : Op) (reply : Option ℕ) (old new : State) : Type 0 where
   pub replied : reply ≡ reply_of (now old.history) op
   pub changed : now new.history ≡ after (now old.history) op

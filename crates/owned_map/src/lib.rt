@@ -32,8 +32,8 @@
 //! The table grows by itself, by at most a bucket with each operation whose key was absent. A
 //! growth that is refused memory initialises no bucket. No contract of this crate says so.
 //!
-//! One definition, `Keeps`, says what every call of a work keeps: it is still the same transaction,
-//! and it went on. A work's proof joins its calls by `keeps_stay` and `keeps_on` of
+//! One definition, `Keeps`, says what every call of a work keeps: the transaction is still the
+//! same, and it went on. A work's proof joins its calls by `keeps_stay` and `keeps_on` of
 //! `proofs/Calls.antt`.
 //!
 //! An operation costs what it costs on the core; if its key was absent, growth adds at most four

@@ -1,8 +1,8 @@
 //! The map: a core, how far its table has grown, and the calls that need both.
 //!
-//! A call of a transaction is made here for a caller, with a contract about states; each call of
-//! `Transaction` makes one of these. `grown` rises only when the bucket of that number was stored,
-//! so every bucket below it is initialised; no contract says so.
+//! Each call of `Transaction` makes a call of `OwnedMap`, which names the caller and has a contract
+//! about states of the core. `grown` is the number of the next bucket to initialise. It rises only
+//! when that bucket was stored, so every bucket below it is initialised; no contract says so.
 ghost use Rattle.std.specs.Prelude.{◌≡◌, ◌==◌, true, false, ℕ, ◌⊎◌, IfOk, IfErr, OnOk, OnErr, Ok, Err};
 ghost use Rattle.txn_words.specs.Map.{count_of};
 ghost use Rattle.txn_trace.specs.Now.{now};
@@ -21,8 +21,8 @@ use map_answers::Stop;
 use std::alloc::Global;
 use txn_trace::{Answer, Limits, Op, Refusal, Reply, Step};
 
-/// Up to this number of initialised buckets there is one for every two keys, so that operations on
-/// a small table walk past few nodes.
+/// A table with up to this number of initialised buckets has one for every two keys, so that
+/// operations on a small table walk past few nodes.
 const FEW_BUCKETS: u64 = 4096;
 
 /// How many keys there are for each initialised bucket of a large table. With fewer, the puts of
@@ -142,7 +142,7 @@ impl OwnedMap {
         }
     }
 
-    /// The plain call of an operation.
+    /// Makes the core's plain call for an operation.
     #[tactic(auto, using(crate::proofs::Taken::operated))]
     pub(crate) fn ask(&mut self, caller: u64, op: Op) -> Answer
         ensures { Operates self.old.core caller op result self.new.core }

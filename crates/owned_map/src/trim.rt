@@ -92,8 +92,8 @@ impl OwnedMap {
         }
     }
 
-    /// Puts a pair of a new key, and grows the table if that is due. The limits take the key, and
-    /// no other caller holds its stripe, so only memory and stamps can be missing.
+    /// Puts a pair whose key is new, and grows the table if that is due. The limits take the key,
+    /// and no other caller holds its stripe, so only memory or stamps can be missing.
     #[tactic(auto, using(crate::proofs::Filling::only_puts))]
     fn put_new(&mut self, key: u64, value: u64) -> Result<(), Refusal>
         requires only { IsFilling self.old.core }

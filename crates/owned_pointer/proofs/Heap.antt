@@ -1,4 +1,4 @@
--- The heap as the allocator of a box, as a call of a method of `Box` gets it. Assumes nothing.
+-- The heap as a box's allocator, in the form that a call of a `Box` method takes. Assumes nothing.
 use mathlib.Core.Path.{refl}
 use mathlib.Core.List.{[], ◌∷◌}
 use mir.Raw.{raw}
@@ -25,6 +25,6 @@ glue = impl ("owned_pointer::Destruct++none::drop" ∷ []) (tcons handle tnil) d
 abbrev pub the_heap : Al
 the_heap = record { row = arg handle no heap.the_row; laws = arg_laws handle no heap.the_row laws.the_row_laws refl; g = ghosts; d = dict; drops = glue }
 
--- A box of the heap, at its element.
+-- A box on the heap, for the type of its element.
 abbrev pub on_heap : (T : RattleType) → Laws T → Bx
 on_heap T L = record { row = T; laws = L; al = the_heap }

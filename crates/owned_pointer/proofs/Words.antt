@@ -1,6 +1,6 @@
 -- The machine value of a struct whose only field is a pointer. Assumes `Logic`.
 --     word                           the value: the struct of the pointer
---     opens_word, makes_word         to own the struct is to own that its value is this one
+--     opens_word, makes_word         to own the struct is to know that its value is `word`
 --     opens_pointer, makes_pointer   to own an owned pointer is to own a heap block with its value
 use Rattle.std.proofs.Common.{◌≡◌, ℕ, List, [], ◌∷◌, ◌++◌, refl, ap, ◌∙◌}
 use seplogic.Ra.Ura.{Ura}
@@ -25,7 +25,7 @@ use Rattle.owned_pointer.specs.contracts.owned_pointer.OwnedPointer as pointer
 abbrev pub word : Ptr → Val
 word p = vstruct (vcons (ptr_val p) vnil)
 
--- The fields of such a struct, from the rest of its type.
+-- The shape of such a struct: the type's own, with a pointer as the only field.
 abbrev alone : Owning → Shape
 alone T = record (shape T) { fields = RawPtr ∷ [] }
 

@@ -12,7 +12,7 @@ use Rattle.std.specs.Bool.{then_some}
 use Rattle.piece_files.specs.Pieces.{piece_at, pieces_from, old_of}
 use Rattle.piece_files.specs.Tokens.{outcome, FindsOld}
 
--- Pieces, and then one at the end.
+-- The pieces with one more at the end, or the first fault of reading them.
 abbrev with_last : {P : Type 0} → Result (List P) FileFault → Result P FileFault → Result (List P) FileFault
 with_last read last = read >>= λ ps. (last >>= λ p. Ok (ps ++ p ∷ []))
 
@@ -35,8 +35,8 @@ pieces-last of part i j (e ∷ ds) d at =
     let later : j ≡ suc i + length ds = omega (arith, at) in
     rw (pieces-last of part (suc i) j ds d later) (first_stays (piece_at of part i e) (pieces_from of part (suc i) ds) (piece_at of part j d))
 
--- The pieces read so far: all elements, or those before the first that is no piece; the first are
--- kept, and all are counted.
+-- The pieces read so far: all elements, or those before the first that is no piece. The first
+-- `most` of these pieces are kept, and all are counted.
 pub record IsRead {P : Type 0} (of : List Data → Option P) (part : Part) (most : ℕ) (are_all : Bool) (pieces : List P) (count : ℕ) (ds : List Data) : Type 0 where
   pub all : List P
   pub found : pieces_from of part 0 ds ≡ outcome part are_all all
@@ -124,13 +124,13 @@ pub nothing_old : {P : Type 0} (of : List Data → Option P) (is_old : P → Boo
 unfolding pieces_from
 nothing_old of is_old part = refl
 
--- After a wrong piece of version 1 no further one counts.
+-- After a piece that is wrong in version 1, no further element changes the result of version 1.
 old_later : {P : Type 0} (of : List Data → Option P) (is_old : P → Bool) (part : Part) (i : ℕ) (ds : List Data) (d : Data) → OldRead of is_old part (Some i) ds → OldRead of is_old part (Some i) (ds ++ d ∷ [])
 old_later of is_old part i ds d h =
     let last = piece_at (old_of is_old of) part (length ds) d in
     pieces-last (old_of is_old of) part 0 (length ds) ds d (omega arith) ∙ ap (λ read. with_last read last) h
 
--- An element that is the same piece in both, or none in both.
+-- The next element is the same piece in both versions, or no piece in either.
 old_same : {P : Type 0} (of : List Data → Option P) (is_old : P → Bool) (part : Part) (first : Option ℕ) (ds : List Data) (d : Data)
     → option_and_then (old_of is_old of) (elements_of d) ≡ option_and_then of (elements_of d) → OldRead of is_old part first ds → OldRead of is_old part first (ds ++ d ∷ [])
 old_same of is_old part (Some i) ds d same h = old_later of is_old part i ds d h
@@ -154,7 +154,7 @@ no_piece_old of is_old part first ds d o none is h =
     let nothing = sym is ∙ none in
     old_same of is_old part first ds d (none_old of is_old (elements_of d) nothing ∙ sym nothing) h
 
--- Once an element was wrong, no further one counts.
+-- After an element that is no piece, no further element changes the result of either version.
 pub drop_piece_old : {P : Type 0} (of : List Data → Option P) (is_old : P → Bool) (part : Part) (most : ℕ) (b : Bool) (pieces : List P) (count : ℕ) (first : Option ℕ) (ds : List Data) (d : Data)
     → b ≡ false → IsRead of part most b pieces count ds → OldRead of is_old part first ds → OldRead of is_old part first (ds ++ d ∷ [])
 drop_piece_old of is_old part most true pieces count first ds d so read h = true≢false (sym so)

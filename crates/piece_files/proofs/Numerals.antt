@@ -1,4 +1,4 @@
--- The number of a text with a sign, of one with none, and of one with digits only.
+-- How `number_of` reads a text with a minus sign, a text without it, and a text of digits only.
 use Rattle.std.proofs.Common.{◌≡◌, ℕ, ◌+◌, ◌-◌, ◌^◌, ◌<◌, ◌≤◌, ◌&&◌, if◌then◌else◌, true, false, ◌==◌, nat_lt, List, [], ◌∷◌, ◌++◌, length, get_or, take, Some, option_map, refl, sym, ap, subst, ◌∙◌, arith}
 use Rattle.std.specs.Prelude.{slice_range}
 use Rattle.std.specs.Str.Parse.{AllDigits, IsNumeral, digits_value}
@@ -31,7 +31,7 @@ nothing_left (x ∷ s) e = absurd (omega (arith, e))
 abbrev digits_alone : List ℕ → Parts
 digits_alone bs = record { whole = bs; point = false; fraction = []; exponent_negative = false; exponent = []; len = length bs }
 
--- A text whose whole part ends at a place, as `scan` cuts it.
+-- The parts into which `scan` cuts a text whose whole part ends at `a`.
 abbrev parts_at : List ℕ → ℕ → Parts
 parts_at bs a =
     let point = get_or bs a 0 == dot in
@@ -63,7 +63,7 @@ parts_alone bs =
 scan_of_digits : (bs : List ℕ) → AllDigits 10 bs → scan bs ≡ digits_alone bs
 scan_of_digits bs ds = scan_is bs ∙ ap (parts_at bs) (scan_end bs ds) ∙ parts_alone bs
 
--- Few digits are a number below 2^64.
+-- The number of at most `k` digits is below 10^k.
 pub few_digits_fit : (bs : List ℕ) (k : ℕ) → AllDigits 10 bs → length bs ≤ k → digits_value 10 bs < 10 ^ k
 few_digits_fit bs k ds few =
     let below = digits_value-lt 10 bs ds in
@@ -82,7 +82,7 @@ number_of-digits bs n numeral small is =
     ap (λ m. Some (Some m)) is ∙ sym (number_of_parts bs numeral.0 (subst (λ m. m < 2 ^ 64) is small))
     ∙ ap (λ p. option_map as_u64 (number_from false p)) (sym (scan_of_digits bs numeral.1))
 
--- One digit more.
+-- Digits followed by one more digit are digits.
 pub digits_more : (ds : List ℕ) (c : ℕ) → AllDigits 10 ds → AllDigits 10 (c ∷ []) → AllDigits 10 (ds ++ c ∷ [])
 digits_more [] c all one = one
 digits_more (d ∷ ds) c all one = (all.0, digits_more ds c all.1 one)

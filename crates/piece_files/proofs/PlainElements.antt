@@ -111,7 +111,7 @@ pub optional_all_plain : (k : ℕ) (ds : List Data) (r : Option ℕ) → optiona
 unfolding optional_of
 optional_all_plain k ds r e = let a = bound (optional_at ds) _ r e in optional_first k ds a.0 a.1 (none_left k a.0.1 (tested _ _ a.2))
 
--- ---- and so what has other elements is none
+-- ---- and so a list with other elements is no piece
 
 pub unless : {P : Type 0} (o : Option P) (b : Bool) → ((p : P) → o ≡ Some p → b ≡ true) → b ≡ false → o ≡ None
 unless None b f e = refl

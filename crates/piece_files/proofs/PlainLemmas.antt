@@ -279,7 +279,7 @@ pub taken_to_bracket : (depth : ℕ) (start bytes rest behind : List ℕ) (ds : 
 taken_to_bracket depth start bytes rest behind ds d taken is h =
     subst (λ fs. Begin depth start fs (tokens_at after_value behind)) (append-nil (ds ++ d ∷ [])) (one_taken depth start bytes rest ds d [] (tokens_at after_value behind) taken is (closed depth rest behind h))
 
--- Of elements that are kept as plain values.
+-- The same lemmas for elements that are kept as plain values.
 its_data : (kept vs : List Plain) (v : Plain) → kept ≡ vs ++ v ∷ [] → map data_of vs ++ data_of v ∷ [] ≡ map data_of kept
 its_data kept vs v is = sym (ap (map data_of) is ∙ map-append data_of vs (v ∷ []))
 

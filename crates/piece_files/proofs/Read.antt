@@ -1,4 +1,4 @@
--- The facts about bytes that reading them as JSON tells.
+-- The result of `json_of` for bytes that `read` takes, that it does not take, or that are too long.
 use Rattle.std.proofs.Common.{◌≡◌, ℕ, ◌<◌, ◌≤◌, nat_le, Bool, true, false, cond, List, length, Option, None, Err, refl, sym, ap, arith}
 use Rattle.std.specs.Str.{IsUtf8, is_utf8}
 use Rattle.std.proofs.lemmas.Str.{is_utf8-from_IsUtf8, IsUtf8-from_is_utf8}
@@ -18,7 +18,7 @@ pub json_of-long : (bytes : List ℕ) → max_bytes < length bytes → json_of b
 unfolding json_of
 json_of-long bytes more = let long : nat_le (length bytes) max_bytes ≡ false = grind (arith, nat_tests, more) in rw long refl
 
--- The outcome by what is read, if the bytes are text.
+-- The result is `NotJson` if the bytes are no text, or if they are text and nothing is read.
 chosen : (is_text : Bool) (found : Option Data) → (is_text ≡ true → found ≡ None) → cond is_text (or_fault NotJson found) (Err NotJson) ≡ Err NotJson
 chosen true found none = ap (or_fault NotJson) (none refl)
 chosen false found none = refl

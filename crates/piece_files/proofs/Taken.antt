@@ -1,4 +1,4 @@
--- The findings in members, after one member more.
+-- How the findings in an object's members (`AreFound`) change with one more member.
 use Rattle.std.proofs.Common.{◌≡◌, ℕ, zero, suc, ◌+◌, ◌<◌, ◌≤◌, nat_lt, cond, List, [], ◌∷◌, length, map, replicate, get_or, Bool, true, false, ◌&&◌, not, bytes_eq, true≢false, Option, Some, None, option_and_then, refl, sym, ap, subst, ◌∙◌, arith}
 use Rattle.std.proofs.Math.ListN.{set}
 use Rattle.std.specs.List.{list_all, position, prefix_len}
@@ -30,7 +30,7 @@ apart_back a b e = is_false (bytes_eq b a) (λ same. true≢false (sym ((bytes_e
 pub is_apart : (key name other : List ℕ) → key ≡ name → bytes_eq name other ≡ false → bytes_eq key other ≡ false
 is_apart key name other same e = ap (λ k. bytes_eq k other) same ∙ e
 
--- No name of these is the key.
+-- Whether none of the names is the key.
 abbrev pub is_none : List ℕ → List (List ℕ) → Bool
 is_none key names = list_all (λ other. not (bytes_eq key other)) names
 
@@ -178,6 +178,6 @@ no_numbers [] (suc k) e = absurd (omega (arith, e))
 no_numbers (name ∷ names) zero e = absurd (omega (arith, e))
 no_numbers (name ∷ names) (suc k) e = ap (λ (rest : List (Option ℕ)). None ∷ rest) (no_numbers names k (omega (arith, e)))
 
--- Of no members nothing is found.
+-- In an object without members nothing is found.
 pub nothing_found : {P : Type 0} (kind : FileKind P) (k : ℕ) → length kind.numbers ≡ k → AreFound kind None (replicate k None) None no_members
 nothing_found kind k e = record { the_version = refl; the_numbers = no_numbers kind.numbers k e; the_pieces = refl }

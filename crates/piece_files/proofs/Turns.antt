@@ -1,4 +1,5 @@
--- The loops over the elements of an array and the members of an object, a turn at a time, as data.
+-- The loops over the elements of an array and the members of an object, a turn at a time, with the
+-- values converted to `Data`.
 use Rattle.std.proofs.Common.{◌≡◌, ℕ, zero, suc, ◌-◌, ◌<◌, ◌≤◌, List, length, Option, Some, None, option_map, refl, ap, ◌∙◌, arith}
 use Rattle.json.specs.Token.{Token}
 use Rattle.json.specs.Json as json
@@ -9,7 +10,7 @@ use Rattle.serde_json.specs.Read.{of_json, of_items, of_members, converted}
 
 -- ---- what is converted
 
--- With the tokens that are left.
+-- A value, if there is one, paired with the tokens that are left.
 abbrev with_rest : {B : Type 0} → List Token → Option B → Option (B × List Token)
 with_rest rest x = option_map (λ b. (b, rest)) x
 

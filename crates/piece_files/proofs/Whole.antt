@@ -1,4 +1,4 @@
--- A file's numbers and pieces by what was found of its members.
+-- A file's contents, or its first fault, by the findings in its members (`AreFound`).
 use Rattle.std.proofs.Common.{◌≡◌, ℕ, zero, suc, ◌<◌, ◌≤◌, List, [], ◌∷◌, ◌++◌, length, map, take, get_or, Bool, true, false, ◌&&◌, nat_le, cond, Option, Some, None, option_map, option_and_then, Result, Ok, Err, refl, sym, ap, subst, ◌∙◌, arith}
 use Rattle.std.specs.Option.{ok_or}
 use Rattle.std.specs.Result.{IsErrAnd}
@@ -18,7 +18,7 @@ use Rattle.piece_files.specs.Json.{number_named}
 use Rattle.piece_files.specs.Members.{AreFound, ArePiecesIn, FindsIn, last_number, members_within}
 use Rattle.piece_files.specs.Pieces.{pieces_from, pieces_member, old_of, in_version}
 
--- ---- all of some numbers
+-- ---- the numbers, if none is missing
 
 pub all_but_one : (numbers : List (Option ℕ)) (i : ℕ) → i < length numbers → get_or numbers i None ≡ None → all_of numbers ≡ None
 all_but_one [] i lt e = absurd (omega (arith, lt))
@@ -49,7 +49,7 @@ pub gives_fault : {X Y : Type 0} (seen : X → Y) (r : Result X FileFault) (faul
 gives_fault seen (Ok x) fault wanted and h = absurd and
 gives_fault seen (Err e) fault wanted and h = subst (λ f. Fails f wanted) (sym and) h
 
--- A member that is missing.
+-- A fault of `ok_or o Member` means that the member is missing.
 missing : {A : Type 0} (o : Option A) (fault : FileFault) → Err fault ≡ ok_or o Member → (o ≡ None) × (fault ≡ Member)
 missing None fault e = (refl, cc)
 missing (Some x) fault e = absurd (grind (arith, e))

@@ -3,7 +3,7 @@ use Rattle.std.specs.Prelude.{ℕ, List, [], ◌∷◌, length, ◌==◌, Option
 use Rattle.serde_json.specs.Data.{Data, Items, no_items, item}
 use Rattle.serde_json.specs.Find.{as_null, as_number, as_str, as_array, as_u64}
 
--- Go on with what is there.
+-- Go on with the value in an option, if there is one.
 infixl 10 ◌>>=◌
 abbrev pub ◌>>=◌ : {A B : Type 0} → Option A → (A → Option B) → Option B
 (Some x) >>= f = f x
@@ -43,7 +43,7 @@ one_of ds = do
 unfoldable pub end_of : List Data → Option ⊤
 end_of ds = if length ds == 0 then Some tt else None
 
--- Null as none, and a number as itself.
+-- Null is read as `None`, and a number as itself.
 abbrev pub optional : Data → Option (Option ℕ)
 optional d = if is_some (as_null d) then Some None else option_map (λ n. Some n) (number_of d)
 

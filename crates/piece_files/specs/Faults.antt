@@ -34,7 +34,7 @@ Fails Member wanted = wanted ≡ Err Member
 Fails (Piece part i) wanted = wanted ≡ Err (Piece part i)
 Fails Limit wanted = wanted ≡ Err Limit
 
--- The answer of a reader, as it is seen, is that of the file, unless memory was refused.
+-- A reader's answer, as `seen` shows it, is the one that the file has, unless memory was refused.
 abbrev pub Gives : {X Y : Type 0} → (X → Y) → Result X FileFault → Result Y FileFault → Type 0
 Gives seen (Ok x) wanted = wanted ≡ Ok (seen x)
 Gives seen (Err e) wanted = Fails e wanted

@@ -11,8 +11,8 @@ use Rattle.piece_files.specs.Json.{json_of, number_named}
 use Rattle.piece_files.specs.Pieces.{pieces_member, old_of, in_version}
 
 -- A kind of file: the names of its numbers, in the order in which `contents` gives them, the name
--- of its pieces, what a piece is, whether version 1 has it too, what a fault calls one, and how
--- many there may be.
+-- of its pieces, what a piece is, whether version 1 has this piece too, what a fault calls a piece,
+-- and how many pieces there may be.
 pub record FileKind (P : Type 0) : Type 0 where
   pub numbers : List (List ℕ)
   pub pieces : List ℕ
@@ -48,8 +48,8 @@ abbrev pub is_version : ℕ → Bool
 is_version v = nat_le 1 v && nat_le v max_version
 
 -- The version, the numbers and the pieces, by what the members have: `old` has the pieces as
--- version 1 has them, and `new` as all others do. The three are tested in this order, and then
--- whether the version is read and there are no more than `most` pieces.
+-- version 1 has them, and `new` as all other versions have them. The three are tested in this
+-- order, and then whether the version is read and there are no more than `most` pieces.
 unfoldable pub contents_from : {P : Type 0} → ℕ → Option ℕ → Option (List ℕ)
     → Result (List P) FileFault → Result (List P) FileFault
     → Result (ℕ × List ℕ × List P) FileFault

@@ -25,7 +25,7 @@ members_within (object ms) = ms
 abbrev pub last_number : Members → List ℕ → Option ℕ
 last_number ms name = option_and_then number_of (get_member name ms)
 
--- The pieces that were read of a value; None if the value is no array.
+-- The pieces that were read of a value, or `None` if the value is no array.
 abbrev pub ArePiecesOf : {P : Type 0} → (List Data → Option P) → (P → Bool) → Part → ℕ
     → Option (Pieces P) → Data → Type 0
 ArePiecesOf of is_old part most None d = elements_of d ≡ None
@@ -59,7 +59,8 @@ pub record AreFound {P : Type 0} (kind : FileKind P) (n : Option ℕ) (numbers :
   pub the_pieces :
       ArePiecesIn kind.of kind.is_old kind.part kind.most pieces (get_member kind.pieces ms)
 
--- The finding in the member of pieces has these pieces, by version 1 and by version 2.
+-- By the finding in the member of pieces, `old` has the pieces as version 1 has them, and `new` as
+-- version 2 has them.
 abbrev pub FindsIn : {P : Type 0} → Part → ℕ → Option (Pieces P)
     → Result (List P) FileFault → Result (List P) FileFault → Type 0
 FindsIn part most None old new = (old ≡ Err Member) × (new ≡ Err Member)

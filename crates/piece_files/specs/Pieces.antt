@@ -8,7 +8,8 @@ use Rattle.piece_files.specs.Faults.{◌>>=◌, or_fault}
 use Rattle.piece_files.specs.Elements.{elements_of}
 use Rattle.piece_files.specs.Json.{array_member}
 
--- The piece at an index, by the elements that pieces of its kind have.
+-- The piece that a value at this index is, or the fault of this index. `of` says which piece has
+-- the value's elements.
 abbrev pub piece_at : {P : Type 0} → (List Data → Option P) → Part → ℕ → Data → Result P FileFault
 piece_at of part i d = or_fault (Piece part i) (option_and_then of (elements_of d))
 
@@ -25,7 +26,7 @@ pieces_from of part i (d ∷ ds) = do
 abbrev pub old_of : {P : Type 0} → (P → Bool) → (List Data → Option P) → List Data → Option P
 old_of is_old of ds = option_and_then (λ p. if is_old p then Some p else None) (of ds)
 
--- The value for a file of this version: version 1 has its own, and all others have the new one.
+-- The value for a file of this version: the old value for version 1, the new one for all others.
 abbrev pub in_version : {A : Type 0} → ℕ → A → A → A
 in_version version old new = if version == 1 then old else new
 

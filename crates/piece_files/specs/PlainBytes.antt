@@ -66,13 +66,13 @@ IsKey bytes name rest =
 
 -- ---- elements and members
 
--- The tokens are the elements that are left of an array, and behind its bracket the others.
+-- The tokens are the elements that are left of an array, its bracket, and then the tokens `others`.
 abbrev pub AreLeft : ℕ → List Token → List Data → List Token → Type 0
 AreLeft depth ts ds others =
     (n : ℕ) → length ts ≤ n
     → converted of_items (items (value depth) n ts) ≡ Some (items_from ds, others)
 
--- The bytes are the elements that are left of an array, wherever an element may begin.
+-- Wherever an element may begin, the bytes are the elements that are left of an array.
 abbrev pub Begin : ℕ → List ℕ → List Data → List Token → Type 0
 Begin depth bytes ds others =
     (place : Place) → may_begin place ≡ true → AreLeft depth (tokens_at place bytes) ds others

@@ -12,15 +12,16 @@ use Rattle.std.specs.Prelude.{Result, Ok, Err}
 use Rattle.piece_files.specs.declared.file_fault.FileFault.{FileFault}
 use Rattle.piece_files.specs.declared.file_fault.FileFault.TheVariants.{Piece}
 
--- A value, with arrays and objects nested no deeper than the number.
+-- The value that tokens begin with, if its arrays and objects nest at most `depth` levels deep, and
+-- the tokens after it.
 abbrev pub value_at : ℕ → List Token → Option (Data × List Token)
 value_at depth ts = converted of_json (value depth ts)
 
--- The elements of an array, whose bracket was taken.
+-- The elements of an array whose opening bracket was taken, and the tokens after the array.
 abbrev pub items_at : ℕ → List Token → Option (Items × List Token)
 items_at depth ts = converted of_items (items (value depth) (length ts) ts)
 
--- The members of an object, whose brace was taken.
+-- The members of an object whose opening brace was taken, and the tokens after the object.
 abbrev pub members_at : ℕ → List Token → Option (Members × List Token)
 members_at depth ts =
     converted (λ ms. of_members ms no_members) (members (value depth) (length ts) ts)
@@ -40,29 +41,30 @@ is_plain (string s) = true
 is_plain (array ds) = false
 is_plain (object ms) = false
 
--- No more elements than the number, and all of them plain.
+-- Whether there are at most `n` elements, and all of them are plain.
 unfoldable pub are_plain : ℕ → List Data → Bool
 are_plain n [] = true
 are_plain zero (d ∷ ds) = false
 are_plain (suc n) (d ∷ ds) = is_plain d && are_plain n ds
 
--- A value, if it is plain.
+-- The plain value `v` is the element `d`, or there is no plain value and `d` is not plain.
 abbrev pub IsPlain : Option Plain → Data → Type 0
 IsPlain (Some v) d = (data_of v ≡ d) × (is_plain d ≡ true)
 IsPlain None d = is_plain d ≡ false
 
--- Whether the elements are no more than the number and all plain; if so, the values are the
--- elements.
+-- The Boolean says whether there are at most `most` elements, all of them plain. If so, the values
+-- `vs` are the elements.
 abbrev pub AreElements : ℕ → Bool → List Plain → List Data → Type 0
 AreElements most true vs ds = (map data_of vs ≡ ds) × (are_plain most ds ≡ true)
 AreElements most false vs ds = are_plain most ds ≡ false
 
--- The items that a list is.
+-- The elements of a list, as `Items`.
 abbrev pub items_from : List Data → Items
 items_from [] = no_items
 items_from (d ∷ ds) = item d (items_from ds)
 
--- Pieces that were read, all of them or those before the first that is wrong.
+-- The result of reading pieces: the pieces if all are right, else the fault of the first wrong one.
+-- `pieces` are all pieces, or those before the wrong one.
 abbrev pub outcome : {P : Type 0} → Part → Bool → List P → Result (List P) FileFault
 outcome part true pieces = Ok pieces
 outcome part false pieces = Err (Piece part (length pieces))
@@ -74,13 +76,14 @@ Finds {P} part most pieces count are_all wanted =
     (all : List P) × (wanted ≡ outcome part are_all all) × (count ≡ length all)
     × (pieces ≡ take most all)
 
--- Version 1 finds the same, or the first piece that only version 2 has is wrong there.
+-- Version 1 gives the same result as version 2 or, if piece `i` is the first that only version 2
+-- has, the fault of piece `i`.
 abbrev pub FindsOld : {P : Type 0} → Part → Option ℕ
     → Result (List P) FileFault → Result (List P) FileFault → Type 0
 FindsOld part None old new = old ≡ new
 FindsOld part (Some i) old new = old ≡ Err (Piece part i)
 
--- The findings of both versions: those of version 2, and those of version 1.
+-- The pieces found, with the result in version 2 (`new`) and in version 1 (`old`).
 abbrev pub FindsBoth : {P : Type 0} → Part → ℕ → Pieces P
     → Result (List P) FileFault → Result (List P) FileFault → Type 0
 FindsBoth part most p old new =

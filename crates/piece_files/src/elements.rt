@@ -9,8 +9,8 @@ ghost use Rattle.piece_files.specs.Elements.{optional_of};
 
 use crate::plain::Plain;
 
-/// The first element, which is a whole number below 2^64, and the elements after it. None if there
-/// is no element, or the first is no such number.
+/// The first element, which is a whole number below 2^64, and the elements after it. Answers `None`
+/// if there is no element, or the first is no such number.
 ///
 /// # Cost
 ///
@@ -27,8 +27,8 @@ pub fn number_in<'v, 'a>(values: &'v [Plain<'a>]) -> Option<(u64, &'v [Plain<'a>
     }
 }
 
-/// The first element, which is a text, and the elements after it. None if there is no element,
-/// or the first is no text.
+/// The first element, which is a text, and the elements after it. Answers `None` if there is no
+/// element, or the first is no text.
 ///
 /// # Cost
 ///
@@ -45,8 +45,8 @@ pub fn word_in<'v, 'a>(values: &'v [Plain<'a>]) -> Option<(&'a str, &'v [Plain<'
     }
 }
 
-/// The one element, which is a whole number below 2^64. None if there is no element, another
-/// one, or more than one.
+/// The only element, which is a whole number below 2^64. Answers `None` if there is not exactly one
+/// element, or it is no such number.
 ///
 /// # Cost
 ///
@@ -59,7 +59,7 @@ pub fn one_in(values: &[Plain<'_>]) -> Option<u64>
     if rest.is_empty() { Some(number) } else { None }
 }
 
-/// `Some` if there is no element, else None.
+/// Answers `Some` if there is no element, else `None`.
 ///
 /// # Cost
 ///
@@ -72,7 +72,7 @@ pub fn end_in(values: &[Plain<'_>]) -> Option<()>
 }
 
 /// The first element, which is a whole number below 2^64, or `null`, which is read as `None`; and
-/// the elements after it. None if there is no element, or the first is another.
+/// the elements after it. Answers `None` if there is no element, or the first is another value.
 ///
 /// # Cost
 ///
@@ -92,8 +92,8 @@ pub fn leading_optional_in<'v, 'a>(
     }
 }
 
-/// The one element: a whole number below 2^64, or `null`, which is `Some(None)`. None if there is
-/// no element, another one, or more than one.
+/// The only element: a whole number below 2^64, or `null`, which is `Some(None)`. Answers `None` if
+/// there is not exactly one element, or it is another value.
 ///
 /// # Cost
 ///
@@ -106,8 +106,8 @@ pub fn optional_in(values: &[Plain<'_>]) -> Option<Option<u64>>
     if rest.is_empty() { Some(value) } else { None }
 }
 
-/// The two elements, which are whole numbers below 2^64, in their order. None if the elements are
-/// not exactly two such numbers.
+/// The two elements, which are whole numbers below 2^64, in their order. Answers `None` if the
+/// elements are not exactly two such numbers.
 ///
 /// # Cost
 ///

@@ -66,7 +66,7 @@ fn pieces_found<K: PieceKind>(
     }
 }
 
-/// The version, the numbers and the pieces by what was found of the members.
+/// The version, the numbers and the pieces, as they were found in the members.
 fn contents_found<K: PieceKind, const N: usize>(
     found: Found<K::Piece, N>,
 ) -> Result<(u64, [u64; N], Vec<K::Piece>), FileFault>

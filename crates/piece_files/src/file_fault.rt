@@ -21,7 +21,7 @@ pub enum FileFault {
     /// 22: the file is too long, or a number in it, the number of its pieces or the length of a
     /// piece is out of range.
     Limit,
-    /// 14: memory was refused. It says nothing about the file.
+    /// 14: memory was refused. This fault says nothing about the file.
     NoMemory,
 }
 

@@ -6,16 +6,16 @@
 //!
 //! The model is a function of the bytes, `contents` of `specs/Files.antt`: the value that they are
 //! (`json_of`), the numbers in its members, and the pieces of an array or the first that is wrong
-//! (`pieces_from`). Inside, a reader is the tokens that are left, and `specs/Tokens.antt` says what
-//! they begin with. What bytes, tokens and numbers mean as JSON is what `json` and `serde_json`
-//! say.
+//! (`pieces_from`). Inside, the model of a reader is the tokens that are left, and
+//! `specs/Tokens.antt` says what they begin with. `json` and `serde_json` define what bytes, tokens
+//! and numbers mean as JSON.
 //!
 //! A file in plain form, as most are written, is read straight from its bytes. Plain form has no
 //! escapes, numbers of at most 19 digits, an array of at least one piece, only pieces that the kind
 //! has and no more than it keeps, plain values in the other members, and white space wherever JSON
 //! allows it. A file in any other form is read from its start by the reader of JSON, which makes an
 //! index of the text as it goes, and takes scratch memory of the text's length (`members.rt`).
-//! `specs/PlainBytes.antt` says what tokens bytes in plain form are.
+//! `specs/PlainBytes.antt` says which tokens the reader of JSON makes of bytes in plain form.
 //!
 //! Promised: `read_file` computes `contents`, or says that memory was refused. A text is read once,
 //! or twice if it has no plain form, in time proportional to its length. What is passed over is

@@ -38,7 +38,7 @@ pub(crate) struct Names<'a> {
     pub(crate) pieces: &'a str,
 }
 
-/// The findings in a file's members. Of two with one name the last counts.
+/// The findings in a file's members. Of two members with one name the last counts.
 #[derive(Drop)]
 pub(crate) struct Found<P, const N: usize> {
     pub(crate) version: Option<u64>,
@@ -60,7 +60,8 @@ pub(crate) fn nothing_found<P, const N: usize>() -> Found<P, N>
     }
 }
 
-/// The number that begins with this token, which was taken: none if the value is another.
+/// The number that begins with this token, which was taken. Answers `None` if the value is no whole
+/// number below 2^64.
 fn number_member(
     token: Token<'_>,
     reader: &mut Reader<'_>,
@@ -78,8 +79,8 @@ fn number_member(
     }
 }
 
-/// The pieces of the array that begins with this token, which was taken: none if the value is
-/// another.
+/// The pieces of the array that begins with this token, which was taken. Answers `None` if the
+/// value is no array.
 fn pieces_member<K: PieceKind>(
     alloc: Global,
     token: Token<'_>,

@@ -1,6 +1,6 @@
-//! The number that a number's text in JSON is, if it is a whole number below 2^64. Texts of up to
-//! 19 digits, nearly all of a file, are read by one short loop, the others by `fast_float`, which
-//! only this module uses. Time is in proportion to the text; no memory is taken.
+//! The value of a number's text in JSON, if it is a whole number below 2^64. Texts of up to 19
+//! digits, as nearly all in a file are, are read by one short loop, the others by `fast_float`,
+//! which only this module uses. Time is in proportion to the text; no memory is taken.
 
 ghost use Rattle.std.specs.Prelude.{◌≡◌, false, option_map, IfSome};
 ghost use Rattle.std.specs.Prelude as prelude;
@@ -14,8 +14,8 @@ use fast_float::Numeral;
 /// The most digits with which a number is always below 2^64.
 const FEW: usize = 19;
 
-/// The number that a text of few digits and nothing else is. None of any other text, which may be a
-/// number all the same.
+/// The value of a text of 1 to `FEW` digits and nothing else. Answers `None` for any other text,
+/// which may still be a number.
 #[inline(always)]
 fn few_digits_in(bytes: &[u8]) -> Option<u64>
     ensures { IfSome result (λ number.
@@ -34,7 +34,8 @@ fn few_digits_in(bytes: &[u8]) -> Option<u64>
     Some(number)
 }
 
-/// `Some(None)` if a number that is no whole number below 2^64 is in range of a float, else `None`.
+/// For a number that is no whole number below 2^64: `Some(None)` if it is in range of a float, else
+/// `None`.
 #[cold]
 #[inline(never)]
 fn float_in(is_negative: bool, bytes: &[u8]) -> Option<Option<u64>>
@@ -72,8 +73,8 @@ fn negative_in(bytes: &[u8]) -> Option<Option<u64>>
     float_in(true, bytes)
 }
 
-/// The number that a number's text is: `None` if it is out of range of a float, `Some(None)` if it
-/// has a sign, a fraction or an exponent, or is 2^64 or more.
+/// The value of a number's text: `None` if it is out of range of a float, `Some(None)` if it has a
+/// sign, a fraction or an exponent, or is 2^64 or more.
 #[inline(always)]
 pub(crate) fn number_in_text(text: &str) -> Option<Option<u64>>
     ensures { result ≡ option_map as_u64 (number_of text.now) }

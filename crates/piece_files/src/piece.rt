@@ -1,6 +1,6 @@
 //! The pieces of an array, read one after the other: one loop for all kinds of pieces, and the
 //! trait by which a kind says what its pieces are. `plain_pieces` leaves to this loop each array
-//! that has a fault. Past the limit pieces are counted and not kept.
+//! that has a fault. Pieces past the limit are counted, but not kept.
 
 ghost use Rattle.std.specs.Prelude.{◌≡◌, ℕ, ◌+◌, ◌^◌, ◌∷◌, ◌<◌, ◌≤◌, List, length, Bool, true, Option, Some, None, Err, MatchResult, IfOk, IfSome, OnErr, OnOk, drop, option_and_then};
 ghost use Rattle.json.specs.Token.{Token as SpecToken};
@@ -58,9 +58,9 @@ pub trait PieceKind {
     fn most() -> usize
         ensures { result ≡ most };
 
-    /// The piece with the elements that follow, after the bracket that opens it, or none if no
-    /// piece of this kind has them in version 2. The reader is then behind the bracket that closes
-    /// it.
+    /// The piece with the elements that follow, after the bracket that opens their array. Answers
+    /// `None` if no piece of this kind has these elements in version 2. Either way the reader is
+    /// then behind the bracket that closes the array.
     ///
     /// # Errors
     ///
@@ -83,10 +83,10 @@ pub trait PieceKind {
         ensures memory { result ≡ Err NoMemory → takes_memory ≡ true }
         ensures shorter { OnOk result (length reader.new < length reader.old) };
 
-    /// The piece with the elements at a place of a text in plain form, after the bracket that opens
-    /// it. The place is then behind the bracket that closes it. None if no piece is there, or the
-    /// elements have no plain form: the place is then anywhere, and `read` decides. A kind may
-    /// always answer none.
+    /// The piece with the elements at the place `at` of a text, after the bracket that opens their
+    /// array; `at` moves behind the bracket that closes the array. Answers `None` if no piece is
+    /// there, or the elements have no plain form: `at` is then anywhere, and `read` decides. A kind
+    /// may always answer `None`.
     ///
     /// # Errors
     ///
@@ -110,7 +110,7 @@ pub trait PieceKind {
         ensures memory { OnErr result (takes_memory ≡ true) };
 }
 
-/// The pieces that an array begins with, up to its first element that is none.
+/// The pieces that an array begins with, up to its first element that is no piece.
 #[derive(Drop)]
 pub struct Pieces<P> {
     /// The first of them, as many as the kind keeps.

@@ -27,7 +27,7 @@ pub enum Plain<'a> {
 }
 
 impl Plain<'_> {
-    /// The number that it is: none if it is another value.
+    /// The number, or `None` if the value is no number.
     pub(crate) fn number(self) -> Option<u64>
         ensures { result ≡ number_of (data_of self.entry) }
     {
@@ -38,7 +38,8 @@ impl Plain<'_> {
     }
 }
 
-/// The value that begins with this token, which was taken: none if it is not plain.
+/// The value that begins with this token, which was taken. Answers `None` if the value is not
+/// plain.
 #[inline(always)]
 pub(crate) fn plain_value<'a>(
     token: Token<'a>,

@@ -13,8 +13,8 @@ use crate::plain::Plain;
 use crate::plain_bytes::{after_bracket, after_comma, after_open, is_over, plain_at};
 use arrayvec::ArrayVec;
 
-/// Takes the elements of an array, from the place of the first on, into `elements`, in place of
-/// what is there. Answers where the array ends. None if there is no element, there are more than
+/// Takes the elements of an array, whose first is at `start`, into `elements`, in place of what is
+/// there. Answers where the array ends, or `None` if there is no element, there are more than
 /// `MOST`, or the array has no plain form: then `elements` has some of them.
 ///
 /// # Cost

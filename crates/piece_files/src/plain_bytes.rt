@@ -146,7 +146,7 @@ fn plain_len(bytes: &[u8]) -> usize
     len
 }
 
-/// The number that digits at the front are, and how many they are, at most 19.
+/// The value of the digits at the front, and how many they are. At most 19 of them are read.
 #[inline(always)]
 fn digits_in(bytes: &[u8]) -> (u64, usize)
     ensures few { result.1 ≤ length bytes.now }
@@ -162,8 +162,8 @@ fn digits_in(bytes: &[u8]) -> (u64, usize)
     (number, len)
 }
 
-/// The number that the first digits at a place are, at most 19, and their end. None if there is no
-/// digit, or a 0 stands before another one.
+/// The value of the digits at a place, of which at most 19 are read, and the place behind them.
+/// Answers `None` if there is no digit, or the first of several digits is 0.
 #[inline(always)]
 fn number_at(bytes: &[u8], at: usize) -> Option<(u64, usize)>
     requires { at ≤ length bytes.now }
@@ -217,7 +217,7 @@ fn text_at(text: &str, at: usize) -> Option<(&str, usize)>
 }
 
 /// The plain value at a place, and its end. The caller tests whether the bytes from there on may
-/// follow a value: of `1.5` this is 1.
+/// follow a value: for `1.5` the value is 1, and `.5` may not follow it.
 #[inline(always)]
 pub(crate) fn plain_at(text: &str, at: usize) -> Option<(Plain<'_>, usize)>
     requires { at ≤ length text.now }

@@ -17,8 +17,8 @@ use crate::plain_bytes::{
 use crate::plain_pieces::pieces_at;
 use std::alloc::{AllocError, Global};
 
-/// The array of pieces at the place `at`, which moves behind the array. None if no array in plain
-/// form is there.
+/// The array of pieces at the place `at`, which moves behind the array. Answers `None` if no array
+/// in plain form is there.
 fn array_at<K: PieceKind>(
     alloc: Global,
     text: &str,
@@ -81,7 +81,8 @@ fn take_plain_member<K: PieceKind, const N: usize>(
     Ok(true)
 }
 
-/// The findings in the members of the object that a text is. None if the text has no plain form.
+/// The findings in the members of the object that a text is. Answers `None` if the text has no
+/// plain form.
 pub(crate) fn plain_members_in<K: PieceKind, const N: usize>(
     alloc: Global,
     text: &str,

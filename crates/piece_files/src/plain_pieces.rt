@@ -17,8 +17,8 @@ use std::alloc::{AllocError, Global};
 /// room again and again costs more than to read some pieces.
 const FIRST_ROOM: usize = 16;
 
-/// The piece at the place `at`, which moves behind the piece. None if no piece in plain form is
-/// there.
+/// The piece at the place `at`, which moves behind the piece. Answers `None` if no piece in plain
+/// form is there.
 #[inline(always)]
 fn piece_at<K: PieceKind>(
     alloc: Global,
@@ -43,9 +43,9 @@ fn piece_at<K: PieceKind>(
     K::read_plain(alloc, text, at, depth - 1)
 }
 
-/// The pieces of an array, whose first is at the place `at`; `at` moves behind the array. None if
-/// there is no piece, there are more than the kind keeps, an element is no piece, or the array has
-/// no plain form: the place is then anywhere.
+/// The pieces of an array, whose first is at the place `at`; `at` moves behind the array. Answers
+/// `None` if there is no piece, there are more than the kind keeps, an element is no piece, or the
+/// array has no plain form: `at` is then anywhere.
 ///
 /// # Errors
 ///

@@ -1,6 +1,6 @@
-//! The reasons why reading tokens stops early: no JSON, or no memory. They are apart from
-//! `FileFault`, since inside the loops over tokens there are no others; `?` makes them of the
-//! errors of the reader and the allocator. `members` says them in the words of a file.
+//! The reasons why reading tokens stops early: no JSON, or no memory. They have a type beside
+//! `FileFault`, since the loops over tokens stop early for no other reason. `?` makes a `Stop` of
+//! an error of the reader or the allocator, and `members` turns a `Stop` into a `FileFault`.
 ghost use Rattle.std.specs.Prelude.{◌≡◌};
 ghost use Rattle.piece_files.specs.declared.stop.Stop.TheVariants.{NotJson, NoMemory};
 

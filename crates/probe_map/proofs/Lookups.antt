@@ -45,13 +45,13 @@ found_under Empty slots later key same = same
 found_under (Removed k) slots later key same = same
 found_under (Full k v) slots later key same = ap (cond (nat_eq key k) (Some v)) same
 
--- A slot was written that has another key before and after.
+-- A write to a slot does not change the value of a key that the slot has neither before nor after.
 pub found_set : (slots : List Slot) (key i : ℕ) (slot : Slot) → key_at slots i ≢ Some key → key_in slot ≢ Some key → found (set slots i slot) key ≡ found slots key
 found_set [] key i slot was now = refl
 found_set (first ∷ slots) key zero slot was now = found_behind slot slots key now ∙ sym (found_behind first slots key was)
 found_set (first ∷ slots) key (suc i) slot was now = found_under first slots (set slots i slot) key (found_set slots key i slot was now)
 
--- As many pairs as slots with a value.
+-- There are as many pairs as slots with a value.
 pub length-pairs_of : (slots : List Slot) → length (pairs_of slots) ≡ count_by is_full slots
 length-pairs_of [] = refl
 length-pairs_of (Empty ∷ slots) = length-pairs_of slots ∙ sym (sum_by-cons (λ s. cond (is_full s) 1 0) Empty slots ∙ omega arith)
@@ -90,7 +90,7 @@ pub pairs_of-replicate : (n : ℕ) → pairs_of (replicate n Empty) ≡ []
 pairs_of-replicate zero = refl
 pairs_of-replicate (suc n) = pairs_of-replicate n
 
--- The pairs from a place on, and that of a full slot just before it, are no more than all pairs.
+-- The pairs from `left` on, and the pair of the full slot before `left`, are at most all pairs.
 pub pairs_more : (slots : List Slot) (i left : ℕ) (d : Slot) (k v : ℕ) → i + 1 ≡ left → left ≤ length slots → get_or slots i d ≡ Full k v
     → length (pairs_of (drop left slots)) + 1 ≤ length (pairs_of slots)
 pairs_more slots i left d k v next within is =

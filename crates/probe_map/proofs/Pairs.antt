@@ -25,13 +25,14 @@ same_eqb a b = elim (cases_eq a b) [
   | inr other ↦ ne_eqb a b other ∙ sym (ne_eqb b a (λ e. other (sym e)))
 ]
 
--- If one key has another value, and each other key the same, that key was set.
+-- If `fs` gives `key` the value `value`, and each other key the value that `es` gives it, then the
+-- map of `fs` is the map of `es` with `key` set to `value`.
 pub set_lookups : (es fs : List Pair) (key : ℕ) (value : Option ℕ) → ((q : ℕ) → lookup (nat_eq q) fs ≡ cond (nat_eq key q) value (lookup (nat_eq q) es)) → map_of fs ≡ set_at (map_of es) key value
 set_lookups es fs key value sets = same_map (map_of fs) (set_at (map_of es) key value) (λ q.
     get-map_of fs q ∙ sets q ∙ ap (λ b. cond b value (lookup (nat_eq q) es)) (same_eqb key q)
     ∙ ap (cond (q == key) value) (sym (get-map_of es q)) ∙ sym (get-set_at (map_of es) key value q))
 
--- A key that none of the pairs has.
+-- The map of pairs has no value at a key that none of the pairs has.
 none_there : (key : ℕ) (pairs : List Pair) → AllByRecursion (λ other. nat_eq key other ≡ false) (keys_of pairs) → get (map_of pairs) key ≡ None
 none_there key [] others = refl
 none_there key (pair ∷ pairs) others = get-insert (map_of pairs) pair.0 pair.1 key ∙ ap (λ b. cond b (Some pair.1) (get (map_of pairs) key)) others.0 ∙ none_there key pairs others.1

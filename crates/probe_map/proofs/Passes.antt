@@ -7,7 +7,7 @@ use Rattle.probe_map.specs.declared.slot.Slot.TheVariants.{Empty}
 use Rattle.probe_map.specs.Probes.{LeadsTo, stops}
 use Rattle.probe_map.specs.Slots.{StopsAt, key_at, key_in}
 
--- The probe goes on over a slot, and over each below a limit.
+-- `passes`: the probe for `key` goes on over slot `j`. `passes_below`: over each slot below `n`.
 abbrev passes : List Slot → ℕ → ℕ → Type 0
 passes slots key j = stops (key_at slots j) key ≡ false
 

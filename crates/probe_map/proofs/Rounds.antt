@@ -1,5 +1,6 @@
--- Consequences of where the probes stop: a key is at one place, and at none if its probe stops at
--- an empty place; and the probes of all others go on as before if a key is put there.
+-- Consequences of each key being where its probe stops. A key is at no more than one place, and at
+-- none if its probe stops at an empty place. If a key is put where its probe stops, each other key
+-- is still where its own probe stops.
 use Rattle.std.proofs.Common.{◌≡◌, ◌≢◌, ℕ, ◌<◌, ◌≤◌, ◌⊎◌, true, false, Option, Some, None, inl, inr, ⊎_elim, arith, refl, sym, ap, subst, ◌∙◌, eq-eqb}
 use Rattle.std.proofs.lemmas.Bool.{cases_eq, cases_lt, eqb-true, false≢true}
 use Rattle.probe_map.specs.Probes.{IsBefore, IsProbed, LeadsTo, stops}
@@ -32,7 +33,7 @@ pub stopped : (o : Option ℕ) (key : ℕ) → stops o key ≡ true → (o ≡ N
 stopped None key is = inl refl
 stopped (Some other) key is = inr (ap Some (eqb-true other key is))
 
--- A key is at one place.
+-- A key is at no more than one place.
 pub unique : (keys : ℕ → Option ℕ) (count : ℕ) (home : ℕ → ℕ) (key i j : ℕ) → IsProbed keys count home → i < count → j < count
     → keys i ≡ Some key → keys j ≡ Some key → i ≡ j
 unique keys count home key i j probed li lj at_i at_j = ⊎_elim (λ (e : i ≡ j). e)
@@ -51,14 +52,14 @@ absent keys count home key i m probed li lm none leads at_m = ⊎_elim
     (λ (b : IsBefore (home key) m i). false≢true (sym (leads m lm b) ∙ stops_some (keys m) key at_m))
     (either (home key) i m other)) (cases_eq i m)
 
--- No place has the key but the one at which its probe stops.
+-- No place has the key, except the place at which its probe stops.
 pub no_other : (keys : ℕ → Option ℕ) (count : ℕ) (home : ℕ → ℕ) (key i : ℕ) → IsProbed keys count home → i < count
     → stops (keys i) key ≡ true → LeadsTo keys count (home key) key i → (m : ℕ) → m < count → m ≢ i → keys m ≢ Some key
 no_other keys count home key i probed li stop leads m lm other at_m = ⊎_elim
     (λ (none : keys i ≡ None). absent keys count home key i m probed li lm none leads at_m)
     (λ (here : keys i ≡ Some key). other (unique keys count home key m i probed lm li at_m here)) (stopped (keys i) key stop)
 
--- A key is put at the place at which its probe stops: each key is still where its probe stops.
+-- If a key is put at the place at which its probe stops, each key is still where its probe stops.
 pub put_there : (keys later : ℕ → Option ℕ) (count : ℕ) (home : ℕ → ℕ) (key i : ℕ) → IsProbed keys count home → i < count
     → stops (keys i) key ≡ true → LeadsTo keys count (home key) key i
     → later i ≡ Some key → ((j : ℕ) → j ≢ i → later j ≡ keys j) → IsProbed later count home

@@ -18,7 +18,7 @@ use Rattle.probe_map.proofs.Lookups.{distinct, found, found_at, found_nowhere, f
 use Rattle.probe_map.proofs.Pairs.{count_map_of, get-map_of, rows_map_of, set_lookups}
 use Rattle.probe_map.proofs.Rounds.{no_other, put_there, stopped, stops_some, unique}
 
--- One for true.
+-- 1 for `true`, 0 for `false`.
 abbrev tally : Bool → ℕ
 tally b = cond b 1 0
 
@@ -60,7 +60,7 @@ key_at-set_here slots place slot lt = ap key_in (get_or-set_same slots place slo
 key_at-set_other : (slots : List Slot) (place : ℕ) (slot : Slot) (j : ℕ) → j ≢ place → key_at (set slots place slot) j ≡ key_at slots j
 key_at-set_other slots place slot j ne = ap key_in (get_or-set_other slots place j slot Empty ne)
 
--- The key has the new slot's value, and all other keys what they had.
+-- After the write the key has the new slot's value, and each other key has the value that it had.
 pub content_set : (slots : List Slot) (room len shift key place : ℕ) (slot : Slot) → IsTable slots room len shift → StopsAt slots (begins slots shift key) key place
     → key_in slot ≡ Some key → content (set slots place slot) ≡ set_at (content slots) key (value_in slot)
 content_set slots room len shift key place slot table at is = set_lookups (pairs_of slots) (pairs_of later) key (value_in slot) (λ q. ⊎_elim
@@ -87,7 +87,8 @@ content_set slots room len shift key place slot table at is = set_lookups (pairs
     was q ne there = ⊎_elim (λ (none : key_at slots place ≡ None). let both : None ≡ Some q = sym none ∙ there in absurd (cc))
         (λ (same : key_at slots place ≡ Some key). ne (ap num (sym same ∙ there))) (stopped (key_at slots place) key at.stops)
 
--- The slots are sound still, if room and len count what was written.
+-- After the write the slots are still sound, if the new numbers of usable slots and of values,
+-- `fewer` and `more`, count the new slot instead of the old one.
 pub table_set : (slots : List Slot) (room len shift key place : ℕ) (slot : Slot) (fewer more : ℕ) → IsTable slots room len shift → StopsAt slots (begins slots shift key) key place
     → key_in slot ≡ Some key → fewer + tally (is_empty (slot_at slots place)) ≤ room
     → more + tally (is_full (slot_at slots place)) ≡ len + tally (is_full slot)
@@ -109,13 +110,13 @@ table_set slots room len shift key place slot fewer more table at is less counts
     not_empty (Removed k) h = refl
     not_empty (Full k v) h = refl
 
--- A key without a value is taken out: nothing changes.
+-- To take out a key that has no value changes nothing.
 pub removed_none : (m : Map) (key : ℕ) → get m key ≡ None → m ≡ set_at m key None
 removed_none m key none = same_map m (set_at m key None) (λ q. ⊎_elim
     (λ (e : q ≡ key). ap (get m) e ∙ none ∙ sym (get-set_at m key None q ∙ ap (λ b. cond b None (get m q)) (eq-eqb q key e)))
     (λ (ne : q ≢ key). sym (get-set_at m key None q ∙ ap (λ b. cond b None (get m q)) (ne_eqb q key ne))) (cases_eq q key))
 
--- A probe stops at an empty slot.
+-- A slot at which a probe does not stop is not empty.
 in_use : (slot : Slot) (key : ℕ) → stops (key_in slot) key ≡ false → is_empty slot ≡ false
 in_use Empty key goes = absurd (false≢true (sym goes))
 in_use (Removed k) key goes = refl
@@ -168,7 +169,7 @@ one_of Empty = refl
 one_of (Removed k) = refl
 one_of (Full k v) = refl
 
--- A key was put.
+-- The slots are sound after a key was put.
 pub table_put : (slots : List Slot) (room len shift key value place : ℕ) (slot : Slot) (used added : ℕ) → IsTable slots room len shift → StopsAt slots (begins slots shift key) key place
     → slot ≡ get_or slots place slot → 0 < room → used ≡ bool_byte (is_empty slot) → added ≡ bool_byte (not (is_some (value_in slot)))
     → IsTable (set slots place (Full key value)) (room - used) (len + added) shift
@@ -180,7 +181,7 @@ table_put slots room len shift key value place slot used added table at read som
     let o = one_of (slot_at slots place) in
     table_set slots room len shift key place (Full key value) (room - used) (len + added) table at refl (omega arith) (omega arith)
 
--- A key with a value was removed.
+-- The slots are sound after a key with a value was removed.
 pub table_remove : (slots : List Slot) (room len shift key place : ℕ) (slot : Slot) (k v : ℕ) → IsTable slots room len shift → StopsAt slots (begins slots shift key) key place
     → slot ≡ get_or slots place slot → slot ≡ Full k v → IsTable (set slots place (Removed key)) room (len - 1) shift
 table_remove slots room len shift key place slot k v table at read full_is =

@@ -2,8 +2,8 @@
 -- of the places are a function, so that nothing here depends on how they are stored.
 use Rattle.std.specs.Prelude.{◌≡◌, ℕ, ◌==◌, ◌<◌, ◌≤◌, ◌⊎◌, Bool, true, false, Option, Some, None}
 
--- Whether a probe for `key` stops at a place, by the key that the place has: it has none, so it is
--- empty, or it has `key`.
+-- Whether a probe for `key` stops at a place, by the key that the place has. It stops if the place
+-- is empty, which means that it has no key, or if the place has `key`.
 abbrev pub stops : Option ℕ → ℕ → Bool
 stops None key = true
 stops (Some other) key = other == key

@@ -33,7 +33,7 @@ slot_at slots i = slice_index_or slots i Empty
 abbrev pub key_at : List Slot → ℕ → Option ℕ
 key_at slots i = key_in (slot_at slots i)
 
--- The keys that have values, with them.
+-- The keys that have values, each with its value.
 abbrev pub pairs_of : List Slot → List (ℕ × ℕ)
 pairs_of [] = []
 pairs_of (Empty ∷ slots) = pairs_of slots
@@ -60,6 +60,7 @@ pub record IsTable (slots : List Slot) (room len shift : ℕ) : Type 0 where
   pub room_is : room ≤ count_by is_empty slots
   pub len_is : len ≡ count_by is_full slots
 
--- The most slots that may be in use, so that probes stay short.
+-- The greatest number of slots that may be in use in an array of `count` slots. This limit keeps
+-- probes short.
 abbrev pub most_used : ℕ → ℕ
 most_used count = count - count / 8

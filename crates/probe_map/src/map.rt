@@ -1,6 +1,7 @@
 //! The public type: the slots, with the numbers that say how many more may be used and how many
 //! have a value. `probe.rt` only finds slots; the methods here fill, count and replace them.
-//! Invariant: each key is where its probe stops, and no more slots may be used than are empty.
+//! Invariant: each key is where its probe stops, and there are at least as many empty slots as may
+//! still be used.
 ghost use Rattle.std.specs.Prelude.{◌≡◌, ℕ, ◌+◌, ◌<◌, ◌≤◌, Option, IfOk, OnOk, OnErr, IfSome, length};
 ghost use Rattle.std.specs.List.Sorted.{IsPermutation};
 ghost use Rattle.txn_words.specs.Map.{count_of, empty, get, set_at};
@@ -25,8 +26,8 @@ const FEW: usize = 1024;
 /// # Cost
 ///
 /// A map takes no memory until room is made, by `with_capacity` or `reserve`. A new array has at
-/// least 4 slots, each of 24 bytes, and at most 4 for each key that is there or reserved, or 8 if
-/// these are fewer than 1,024. It shrinks only when it is rebuilt.
+/// least 4 slots, each of 24 bytes. For each key that is there or reserved it has at most 4 slots,
+/// or at most 8 if there are fewer than 1,024 of these keys. It shrinks only when it is rebuilt.
 #[derive(Drop)]
 pub struct ProbeMap {
     slots: Vec<Slot>,
@@ -51,8 +52,8 @@ impl Model for ProbeMap {
     ghost invariant = { λ m. IsTable m.slots.items m.room m.len m.shift };
 }
 
-/// The number of slots of an array with room for these keys: the keys leave at least an eighth of
-/// the slots empty.
+/// The number of slots of an array with room for this number of keys. The keys leave at least an
+/// eighth of the slots empty.
 fn count_for(keys: usize) -> Option<usize>
     ensures { IfSome result (λ count. keys ≤ most_used count) }
 {
@@ -92,7 +93,7 @@ fn put_all(map: &mut ProbeMap, slots: &[Slot])
     }
 }
 
-/// The keys that have values, with them.
+/// The keys that have values, each with its value.
 fn list(alloc: Global, slots: &[Slot], len: usize) -> Result<Vec<(u64, u64)>, AllocError>
     ensures { IfOk result (λ pairs. pairs.items ≡ pairs_of slots.now) }
 {

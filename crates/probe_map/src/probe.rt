@@ -7,8 +7,8 @@ ghost use Rattle.probe_map.specs.Slots.{StopsAt, home, key_at};
 
 use crate::slot::Slot;
 
-/// 2^64 divided by the golden ratio: the high bits of a product with it are spread well, also for
-/// keys in a row.
+/// 2^64 divided by the golden ratio: the high bits of a key's product with it are spread well, also
+/// for consecutive keys.
 const SPREAD: u64 = 0x9E37_79B9_7F4A_7C15;
 
 /// The place where the probe for a key begins.

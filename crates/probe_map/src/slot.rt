@@ -1,7 +1,7 @@
 //! A slot of the array: 24 bytes, so that a cache line has two or three of them. Probes read its
 //! key, and the map its value. A probe goes on over the slot of any other key, a removed one too,
-//! so a removal need not move other slots. That a slot keeps its key until the array is replaced is
-//! how the map works, and no contract promises it.
+//! so a removal need not move other slots. A slot keeps its key until the array is replaced; no
+//! contract promises this.
 ghost use Rattle.std.specs.Prelude.{◌≡◌};
 ghost use Rattle.probe_map.specs.Probes.{stops};
 ghost use Rattle.probe_map.specs.Slots.{is_empty, key_in, value_in};

@@ -12,7 +12,7 @@ use Rattle.clap.specs.Matches.{subcommand_name_of}
 use Rattle.clap.specs.Words.{App, HasKind, IsAmong, Row, Text, fault_of, found_of, is_simple, is_simple_and_free, kind_of, rows_of, subcommand_of, subcommand_rows_of}
 use Rattle.std.specs.Box.{box_value}
 
--- A parse that fails, and not for memory, has a kind of error that the words may give.
+-- If a parse fails, and not for lack of memory, its error is of a kind that the words may give.
 pub fails_by : (line app : App) (words : List Text) (error : Error) → is_simple_and_free line ≡ true → app ≡ line → (is_simple_and_free app ≡ true → HasKind (fault_of app words) error) → (kind_of error ≡ OutOfMemory → ⊥)
     → IsAmong (kind_of error) (fault_of line words)
 fails_by line app words error free same fails other = elim (fails (ap is_simple_and_free same ∙ free)) [
@@ -39,12 +39,13 @@ paired name_of rows_in (Some b) name rows named is =
     let r : rows ≡ rows_in b = cc is in
     ap₂ (λ (x : Text) (y : List Row). Some (x, y)) (sym n) (sym r)
 
--- A command's name and rows that were found one by one were found together.
+-- If the name and the rows of a command are found one by one, both are found together as a pair.
 pub together : (matches : ArgMatches) (name : Text) (rows : List Row) → Some name ≡ subcommand_name_of matches → Some rows ≡ option_map (λ (p : Text × List Row). p.1) (subcommand_rows_of matches)
     → subcommand_rows_of matches ≡ Some (name, rows)
 together matches = paired (λ b. (out-SubCommand (box_value b)).name.now) (λ b. rows_of (found_of (out-SubCommand (box_value b)).matches)) (out-ArgMatches matches).subcommand
 
--- The answer for a call that was looked for: the call, or that the words are none.
+-- The answer is the call that was found. If none was found, it is the usage error, and the words
+-- ask for no call.
 pub answered : {C A E : Type 0} (Asks : Option A → Type 0) (asked_of : C → A) (memory usage : E) (looked : Option C) (answer : Result C E) → answer ≡ ok_or looked usage → Asks (option_map asked_of looked)
     → IfOk answer (λ call. Asks (Some (asked_of call))) × IfErr answer (λ reason. (reason ≡ memory) ⊎ ((reason ≡ usage) × Asks None))
 answered Asks asked_of memory usage (Some call) answer is asks = rw is (asks, tt)

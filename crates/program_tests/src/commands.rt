@@ -32,7 +32,7 @@ const LEGAL: &str =
 
 const LEGAL_LINE: &str = "legal 1 commits 0 open\n";
 
-/// The transaction with a reply that no one put.
+/// The history `LEGAL` with a reply that no one put.
 const ILLEGAL: &str =
     "{\"version\":1,\"stripes\":8,\"entries\":[[\"began\",0,1],[\"asked\",0,\"put\",1,10],\
     [\"did\",0,7],[\"committed\",0,1]]}";
@@ -243,8 +243,8 @@ fn mix_two(alloc: Global, seed: u64) -> Result<Narrow, Fail> {
     Ok(output)
 }
 
-/// Calls of `mix`, and the seed that the engine gets, which its history shows. The whole seed
-/// counts, its high half and its low half.
+/// Calls of `mix`, each with the seed that the engine gets: the call prints the engine's history
+/// for that seed. Both the high half and the low half of a seed count.
 const SEEDS: &[(&str, u64)] = &[
     ("boostmap mix --seed 7 two.json", 7),
     ("boostmap mix two.json --seed 7", 7),
@@ -281,7 +281,8 @@ fn seeds_that_differ_in_one_half(rt: HostRuntime) -> Result<(), Fail> {
     Ok(())
 }
 
-/// The error of reading the words or of opening the file, and the result of either.
+/// Each row has an error, then standard error and the status if reading the words fails with it,
+/// then standard error if opening the file fails with it.
 const REFUSED: &[(ErrorKind, (&str, u8), &str)] = &[
     (ErrorKind::OutOfMemory, ("no memory\n", 4), "no memory\n"),
     (ErrorKind::InvalidData, (USAGE, 2), "read failed\n"),

@@ -140,7 +140,8 @@ pub struct Ended {
     pub is_told: bool,
 }
 
-/// Compares standard output and standard error, which took everything, and the status.
+/// Compares standard output, standard error and the status, and checks that standard error took the
+/// whole message.
 pub fn compare_ended(rt: &impl Abort, ended: &Ended, wanted: (&str, &str, u8), row: &str) {
     let (output, errors, status) = wanted;
     assert_eq!(rt; ended.output.text(), output, "{row}");

@@ -43,7 +43,8 @@ struct Files {
     status: u8,
 }
 
-/// Runs the engine of a command. Answers whether all is well: it is unless a history is illegal.
+/// Runs the engine of a command. If there is no fault, answers `false` if `check` finds the history
+/// illegal, and else `true`.
 fn run_engine<T: Threads + Wait + Sync, R: Read>(
     rt: &T,
     alloc: Global,

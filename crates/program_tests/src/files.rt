@@ -76,7 +76,8 @@ fn compare_files(rt: &impl Abort, alloc: Global, files: Files) -> Result<(), Fai
     Ok(())
 }
 
-/// The first fault of each kind of file: length, JSON, members, pieces, and then limits.
+/// The first fault of files of each kind. Faults come in this order: length, JSON, members, pieces,
+/// limits.
 #[test]
 fn faults_of_files(rt: HostRuntime) -> Result<(), Fail> {
     for table in [steps::FILES, scripts::FILES, histories::FILES] {
@@ -87,9 +88,9 @@ fn faults_of_files(rt: HostRuntime) -> Result<(), Fail> {
     Ok(())
 }
 
-/// A file that grows: its kind, its frame, what fills the gap `#` of the frame, and its fault. The
-/// gap has the first text this number of times, then the second text, and then the third as often
-/// as the first.
+/// A file that grows: its kind, its frame, a number, three texts, and its fault. The gap `#` of the
+/// frame is filled with the first text this number of times, then with the second text once, and
+/// then with the third text this number of times.
 type Grown = (
     Kind,
     &'static str,
@@ -103,8 +104,8 @@ const NOT_JSON: Option<FileFault> = Some(FileFault::NotJson);
 const WRONG_STEP: Option<FileFault> = Some(FileFault::Piece(Part::Step, 0));
 
 /// Values nested in up to 127 levels, and in more: the object of the file is one level, and the
-/// array of its steps another. Then up to 10,000 scripts or actions, and more: too many are found
-/// only after a wrong script behind them.
+/// array of its steps another. Then up to 10,000 scripts or actions, and more. If a wrong script is
+/// behind too many scripts or actions, the fault is the wrong script.
 const GROWN: &[Grown] = &[
     (Kind::Steps, "#", 200, ["[", "", "]"], NOT_JSON),
     (Kind::Steps, BEYOND_STEPS, 125, ["[", "0", "]"], None),
@@ -171,7 +172,7 @@ fn add_often(text: &mut String, count: usize, added: &str) -> Result<(), AllocEr
     Ok(())
 }
 
-/// Adds this number of times the first text, then the second, and then as many times the third.
+/// Adds the first text this number of times, the second once, and the third this number of times.
 fn grow(text: &mut String, count: usize, texts: [&str; 3]) -> Result<(), AllocError> {
     add_often(text, count, texts[0])?;
     text.push_str(texts[1])?;
@@ -233,7 +234,7 @@ fn compare_cut(rt: &impl Abort, alloc: Global, bytes: &[u8]) -> Result<(), Fail>
     Ok(())
 }
 
-/// A file that ends too early, or has a byte that is not in any text.
+/// A file that ends too early, or has a byte that is not in any text, is no JSON.
 #[test]
 fn cut_files(rt: HostRuntime) -> Result<(), Fail> {
     let bytes = FIRST_COMMIT.as_bytes();

@@ -16,7 +16,8 @@ use std::alloc::{AllocError, Global};
 use std::process::Abort;
 use std::test::Fail;
 
-/// Points, two numbers each; a file may have three. Version 1 has none whose second number is 0.
+/// Points of two numbers each. A file has at most three points. Version 1 has no points whose
+/// second number is 0.
 struct PointKind;
 
 impl PieceKind for PointKind {
@@ -75,8 +76,8 @@ impl PieceKind for PointKind {
     }
 }
 
-/// Similar drawings of width 7: some points fill the gap `#` of the frame, and each version the gap
-/// `@`.
+/// Similar drawings of width 7, one for each of the versions. The points fill the gap `#` of the
+/// frame, and the version fills the gap `@`.
 #[derive(Clone, Copy)]
 struct Drawings {
     frame: &'static str,
@@ -100,9 +101,9 @@ fn drawing_in(alloc: Global, text: &str) -> Result<(u64, Vec<(u64, u64)>), FileF
 /// A drawing with gaps for its points and its version.
 const IN_VERSION: &str = r#"{"points":#,"version":@,"width":7}"#;
 
-/// Drawings, and the content or the fault of each. By the last rows, a piece that only version 2
-/// has is wrong in version 1, even behind more points than the three that are kept; in any other
-/// version it is right.
+/// Drawings, and the content or the fault of each. The last rows have points that only version 2
+/// has. In version 1 such a point is wrong, even behind more points than the three that are kept.
+/// In any other version it is no wrong piece.
 const DRAWINGS: &[Drawings] = &[
     Drawings {
         frame: r#"{"version":1,"width":7,"points":[]}"#,
@@ -432,7 +433,8 @@ fn contents_of_drawings(rt: HostRuntime) -> Result<(), Fail> {
 /// The text and the number with which elements begin, and the number of elements behind them.
 type Leading = Option<(&'static str, u64, usize)>;
 
-/// The elements as one number, as two, as one that may be null, and as none, if they are that.
+/// The elements read in four ways: as one number, as two numbers, as one number or null, and as no
+/// elements. A reading that does not fit the elements is `None`.
 type Shapes = (
     Option<u64>,
     Option<(u64, u64)>,
@@ -440,7 +442,7 @@ type Shapes = (
     Option<()>,
 );
 
-/// The elements behind those that `Leading` names, as shapes.
+/// The leading elements of each array, and the shapes of the elements behind them.
 const ELEMENTS: &[(Leading, Shapes)] = &[
     (Some(("put", 1, 2)), (None, None, None, None)),
     (None, (None, Some((8, 9)), None, None)),
@@ -471,7 +473,7 @@ fn begin(reader: &mut Reader<'_>) -> bool {
     matches!(reader.next(), Some(Token::BeginArray))
 }
 
-/// Compares the elements of the next array, if they are plain and no more than four.
+/// Compares the elements of the next array, which must be plain, and at most four.
 fn compare_next(rt: &impl Abort, reader: &mut Reader<'_>, leading: Leading, shapes: Shapes) {
     let mut elements = ArrayVec::<Plain<'_>, 4>::new();
     assert!(rt; begin(reader));
@@ -532,7 +534,7 @@ fn compare_points(rt: &impl Abort, alloc: Global, reader: &mut Reader<'_>) -> Re
     Ok(())
 }
 
-/// A value that is skipped, and the pieces of the array behind it.
+/// Skips the first value of an array, and compares the points of the array behind it.
 fn compare_row(rt: &impl Abort, alloc: Global, reader: &mut Reader<'_>) -> Result<(), Fail> {
     assert!(rt; begin(reader));
     pass(reader)?;
@@ -546,7 +548,8 @@ fn values_in_a_row(rt: HostRuntime) -> Result<(), Fail> {
     compare_row(&rt, rt.alloc(), &mut reader)
 }
 
-/// Texts behind an opening bracket, and the end of an array of at most two plain elements.
+/// Texts behind an opening bracket, each with the place behind the array's closing bracket. It is
+/// `None` if the text is not the rest of an array of one or two plain elements.
 const PLAIN: &[(&str, Option<usize>)] = &[
     ("1,2],3", Some(4)),
     ("null]", Some(5)),

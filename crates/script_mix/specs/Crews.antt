@@ -38,9 +38,9 @@ pub record Goes (scripts : List (List Action)) (tries : ℕ) (old new : State)
 
 -- A core of the limits asked for, whose stripes are not words. The workers took turns on it as they
 -- were drawn, until none had a step or a script left, or 2^64 - 1 turns were taken. In the core's
--- history each worker's committed transactions play its scripts, with rising numbers. The outcomes
--- of each worker's scripts are true of the history; those of scripts that did not begin are not
--- told.
+-- history each worker's committed transactions play its scripts, with rising numbers. For each
+-- worker there is a list of outcomes, of its scripts from the first on, that is true of the
+-- history; scripts that did not begin have no outcome in it.
 pub record IsMixed (work : Work) (seed : ℕ) (state : State) : Type 0 where
   pub limits : state.limits ≡ work.sizes
   pub words : state.words ≡ false

@@ -70,7 +70,8 @@ pub record TakesDrawn (scripts : List (List Action)) (tries : ℕ) (old : Mixing
   pub turn : TakesTurn scripts tries old.core before new.core after
   pub crew : new.crew ≡ slice_set old.crew number after
 
--- Turn after turn, with the numbers of the workers that were drawn, the last one first.
+-- Workers were drawn and took turns, one after another. The list has the numbers of these workers,
+-- the last worker first.
 abbrev pub TakeDrawn : List (List Action) → ℕ → Mixing → List ℕ → Mixing → Type 0
 TakeDrawn scripts tries first [] last = last ≡ first
 TakeDrawn scripts tries first (number ∷ numbers) last =

@@ -1,6 +1,6 @@
-//! The workers by rising numbers, and the numbers of those that are live: two lists, which the run
-//! makes once. It removes the number of a worker that has no step left, so a draw needs only the
-//! length of the list of numbers: it takes constant time and no memory.
+//! Two lists, which the run makes once: the workers by rising numbers, and the numbers of the live
+//! workers. The run removes the number of a worker that has no step left. So a draw needs only the
+//! length of the list of numbers, and takes constant time and no memory.
 ghost use Rattle.std.specs.Prelude.{◌≡◌, ℕ, ◌<◌, ◌%◌, IfOk, IfSome, None, [], length};
 ghost use Rattle.rand_pcg.specs.Pcg.{pcg32};
 ghost use Rattle.script_mix.specs.Turns.{first_crew, live_from};

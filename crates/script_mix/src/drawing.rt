@@ -1,6 +1,6 @@
-//! The draw of a place among the live workers. Nothing else uses the generator, so that the turns
-//! of a seed depend only on `Pcg32`: each draw takes one word. It is apart, and public, so that a
-//! test can draw the turns of a run by itself.
+//! The draw of a place among the live workers. Nothing else uses the generator, and each draw takes
+//! one word, so the turns of a seed depend only on `Pcg32`. `draw` is public and in a module apart,
+//! so that a test can draw the turns of a run by itself.
 ghost use Rattle.std.specs.Prelude.{◌≡◌, ◌<◌, ◌%◌};
 ghost use Rattle.rand_pcg.specs.Pcg.{pcg32};
 

@@ -1,6 +1,6 @@
-//! A core whose stripes are not words, as a type: a worker's turn may then ask without a claim.
-//! The type's invariant says that they are not, so the loops over turns need not carry this. Each
-//! method is one call of the core, at its cost, or moves the core.
+//! The type of a core whose stripes are not words. On such a core a worker's turn may ask without a
+//! claim. The type's invariant says that the stripes are not words, so the loops over turns need
+//! not carry this fact. Each method is one call of the core, at its cost, or moves the core.
 ghost use Rattle.std.specs.Prelude.{◌≡◌, false, IfOk};
 ghost use Rattle.boost_core.specs.Machine.{start};
 

@@ -1,4 +1,5 @@
--- How far the worker's numbers go after a commit or an abort, counted or not.
+-- The worker's positions `next` and `turn` after a commit or an abort, whether it is counted or
+-- not.
 use Rattle.std.proofs.Common.{◌≡◌, ℕ, ◌+◌, ◌%◌, ◌<◌, ◌≤◌, ◌⊎◌, List, length, set, Some, refl, sym, ap, ◌∙◌, inl, inr, arith}
 use Rattle.std.specs.Prelude.{slice_get}
 use Rattle.std.proofs.Math.Nat.{add-mod_right}

@@ -34,7 +34,8 @@ get-set_other (y ∷ ys) zero (suc j) x apart = refl
 get-set_other (y ∷ ys) (suc i) zero x apart = refl
 get-set_other (y ∷ ys) (suc i) (suc j) x apart = get-set_other ys i j x (λ e. apart (ap suc e))
 
--- The scripts with a known outcome are before the worker's position.
+-- If the outcome of script `n` is a commit or an abort, the script is before the worker's position
+-- `next` or `turn`, and the outcome's entry is among the first `fed` entries.
 abbrev pub IsPast : ℕ → ℕ → ℕ → ℕ → Outcome → Type 0
 IsPast next turn fed n (Committed place entry) = (n < next) × (entry < fed)
 IsPast next turn fed n (Aborted entry) = (n < turn) × (entry < fed)
@@ -57,7 +58,7 @@ pub record Known (w : ℕ) (scripts : List (List Action)) (h : List Entry) (c ne
   pub past : (n : ℕ) (o : Outcome) → n % w ≡ c → slice_get os n ≡ Some o → IsPast next turn fed n o
   pub ordered : (n m : ℕ) (o later : Outcome) → n < m → n % w ≡ c → m % w ≡ c → slice_get os n ≡ Some o → slice_get os m ≡ Some later → AreInOrder o later
 
--- `Known` of outcomes that are equal at the caller's scripts.
+-- `Known` also holds of outcomes that are equal at the caller's scripts, and of later positions.
 pub known_on : (w : ℕ) (scripts : List (List Action)) (h : List Entry) (c next turn fed next' turn' fed' : ℕ) (os os' : List Outcome)
     → ((n : ℕ) → n % w ≡ c → slice_get os' n ≡ slice_get os n) → next ≤ next' → turn ≤ turn' → fed ≤ fed'
     → Known w scripts h c next turn fed os → Known w scripts h c next' turn' fed' os'
@@ -293,7 +294,7 @@ module _ (w : ℕ) (scripts : List (List Action)) (h : List Entry) (c fed : ℕ)
         place_of : (p q : ℕ) → entries.Committed c p ≡ entries.Committed c q → p ≡ q
         place_of p q is = ap place_in is
 
-    -- A commit that plays no script from there on.
+    -- The transaction that commits plays none of the caller's scripts from `next` on.
     lost_follows : (place : ℕ) → e ≡ entries.Committed c place → (number : ℕ) → IsFirstPlayed w scripts new.part.items old.next number → length scripts ≤ number → os' ≡ os → Follows w scripts h c (fed + 1) os' new
     lost_follows place ends number first past same = record {
       part = part_is;
@@ -308,7 +309,7 @@ module _ (w : ℕ) (scripts : List (List Action)) (h : List Entry) (c fed : ℕ)
           absurd (omega arith);
     }
 
--- The next entry of the caller.
+-- `Follows` still holds after the caller's next entry.
 pub own_follows : (w : ℕ) (scripts : List (List Action)) (h : List Entry) (c fed : ℕ) (e : Entry) (os os' : List Outcome) (old new : Way) → slice_get h fed ≡ Some e → caller_of e ≡ c
     → length os ≡ length scripts → Goes w scripts e fed old new os os' → Follows w scripts h c fed os old → Follows w scripts h c (fed + 1) os' new
 own_follows w scripts h c fed (entries.Committed d place) os os' old new at mine sized goes f =

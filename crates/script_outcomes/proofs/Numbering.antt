@@ -1,4 +1,4 @@
--- The transaction that is called committed plays the script, by its number.
+-- A script that is called committed is played by a committed transaction, which has a number.
 use Rattle.std.proofs.Common.{◌≡◌, ℕ, ◌+◌, true, List, [], ◌∷◌, ◌++◌, take, drop, Some, refl, sym, ap, subst, ◌∙◌, not, append-nil}
 use Rattle.std.specs.Prelude.{slice_get}
 use Rattle.std.specs.List.{fold}
@@ -20,7 +20,7 @@ use Rattle.txn_trace.proofs.Running.{has_txn}
 use Rattle.txn_trace.proofs.Playing.{last_part}
 use Rattle.script_outcomes.specs.Outcomes.{grown, last_of, Commits}
 
--- A caller's entries from its last Began on are the last of its parts.
+-- The entries `part` are those of a caller's newest part, without those that take changes back.
 abbrev Matches : List Entry → List (List Entry) → Type 0
 Matches part [] = Unit {0}
 Matches part (p ∷ ps) = part ≡ without_undone p

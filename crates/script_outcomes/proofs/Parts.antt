@@ -1,4 +1,4 @@
--- The entries of one action, and those of a script from it on.
+-- The entries of a script's first action, and those of the rest of the script.
 use Rattle.std.proofs.Common.{◌≡◌, ℕ, ◌<◌, List, [], ◌∷◌, drop, length, get_or, Some, None, refl, subst, sym}
 use Rattle.txn_words.specs.declared.action.Action.{Action}
 use Rattle.txn_words.specs.declared.action.Action.TheVariants as actions

@@ -107,7 +107,7 @@ told_push c g e shape owners shaped told = quiet c g e owners shaped refl told
 told : (c : ℕ) (h : List Entry) → IsShaped h → Told c h
 told c = by_entries (Told c) (told_push c) (record { parts_are = refl; all_ended = tt })
 
--- ---- what they play
+-- ---- the scripts that the committed transactions play
 
 in_order : (callers : ℕ) (scripts : List (List Action)) (c : ℕ) (h : List Entry) (low high : ℕ) (ts : List ℕ) → PlayRising callers scripts c h low high ts → PlayInOrder callers scripts c low (entries_of h ts)
 in_order callers scripts c h low high [] rising = tt

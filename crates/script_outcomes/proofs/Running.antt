@@ -93,7 +93,7 @@ pub goes_same : (w w' : ℕ) (ss ss' : List (List Action)) (e : Entry) (k : ℕ)
 goes_same w w' ss ss' e k old new os os' now a b d goes =
     subst (λ x. Goes x ss e k old new os now) a (subst (λ x. Goes w' x e k old new os now) b (subst (λ x. Goes w' ss' e k old new x now) d goes))
 
--- A slice of a whole list was written.
+-- A list that is overwritten by a list of the same length becomes that list.
 pub whole_written : (os now : List Outcome) (len : ℕ) → length now ≡ length os → len ≡ length os → take len (now ++ drop (length now) os) ≡ now
 whole_written os now len same is =
     ap (λ more. take len (now ++ more)) (drop_all (length now) os (omega (arith, same))) ∙ ap (take len) (append-nil now) ∙ take_all len now (omega (arith, same, is))

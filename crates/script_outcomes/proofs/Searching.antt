@@ -8,7 +8,8 @@ use Rattle.txn_words.specs.declared.entry.Entry.{Entry}
 use Rattle.txn_trace.specs.Plays.{IsPlayed}
 use Rattle.script_outcomes.proofs.Strides.{stride}
 
--- One script more is not played.
+-- If the transaction plays no script before `number`, and not the one at `number`, it plays none
+-- before `number + w`.
 pub not_played : (w : ℕ) (scripts : List (List Action)) (part : List Entry) (low number : ℕ) (here d : List Action) (read : List Entry) → here ≡ get_or scripts number d → read ≡ part
     → number % w ≡ low % w → (IsPlayed here read → ⊥)
     → ((n : ℕ) (script : List Action) → low ≤ n → n < number → n % w ≡ low % w → slice_get scripts n ≡ Some script → IsPlayed script part → ⊥)
@@ -21,11 +22,11 @@ not_played w scripts part low number here d read is same mine not before n scrip
   | inr (inr late) ↦ let far = stride w number n (mine ∙ sym its) late in absurd (omega arith)
 ]
 
--- Past the scripts there is none.
+-- No script has a number past the end of the list.
 pub past_all : (scripts : List (List Action)) (number : ℕ) (script : List Action) → length scripts ≤ number → slice_get scripts number ≡ Some script → ⊥
 past_all scripts number script past there = let inside = slice_get_within scripts number script there in omega arith
 
--- The script that is read there is the one.
+-- If the script that was read at `number` is played, so is the script of this number.
 pub plays_there : (scripts : List (List Action)) (part : List Entry) (number : ℕ) (here d : List Action) (read : List Entry) → here ≡ get_or scripts number d → read ≡ part → IsPlayed here read
     → (script : List Action) → slice_get scripts number ≡ Some script → IsPlayed script part
 plays_there scripts part number here d read is same played script there =

@@ -1,4 +1,5 @@
--- Before the first entry.
+-- The facts about each worker hold before the first entry; after the last entry they give the
+-- outcomes.
 use Rattle.std.proofs.Common.{◌≡◌, ◌≢◌, ℕ, zero, suc, ◌+◌, ◌%◌, ◌<◌, ◌≤◌, ◌⊎◌, List, [], ◌∷◌, ◌++◌, length, take, drop, Some, None, Option, refl, sym, ap, subst, ◌∙◌, inl, inr, arith}
 use Rattle.std.specs.Prelude.{slice_get}
 use Rattle.std.proofs.Math.Nat.{mod-eq_of_lt, mod-le}
@@ -13,7 +14,7 @@ use Rattle.script_outcomes.specs.Outcomes.{HasCome, AreInOrder, PlayInOrder, Are
 use Rattle.script_outcomes.specs.Ways.{AreFresh, AreNone}
 use Rattle.script_outcomes.proofs.Following.{IsPast, Known, Follows, AllFollow, the_one}
 
--- An element of a list to which one was added is that one, or one of the list.
+-- An element of a list to which `x` was added is `x`, at the end, or an element of the old list.
 pub read_push : {X : Type 0} (xs : List X) (x y : X) (n : ℕ) → slice_get (xs ++ x ∷ []) n ≡ Some y → ((n ≡ length xs) × (y ≡ x)) ⊎ (slice_get xs n ≡ Some y)
 read_push [] x y zero there = inl (refl, sym (ap (the_one x) there))
 read_push [] x y (suc n) there = absurd (cc (there))

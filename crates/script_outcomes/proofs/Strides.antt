@@ -1,10 +1,11 @@
--- Numbers with one remainder are at least the modulus apart.
+-- Different numbers with the same remainder are at least the modulus apart.
 use Rattle.std.proofs.Common.{◌≡◌, ℕ, suc, ◌+◌, ◌*◌, ◌/◌, ◌%◌, ◌<◌, ◌≤◌, inl, inr, arith}
 use Rattle.std.proofs.Math.Nat.{suc-mul, mul-le-mul_right}
 use Rattle.std.proofs.lemmas.Nat.{div-add-mod'}
 use Rattle.std.proofs.lemmas.Bool.{cases_lt}
 
--- The greater of two such numbers is above the other by the modulus at least.
+-- If `a` and `b` have the same remainder modulo `w`, the greater number is at least `w` above the
+-- other.
 pub stride : (w a b : ℕ) → a % w ≡ b % w → a < b → a + w ≤ b
 stride w a b same less =
     let one : a / w * w + a % w ≡ a = div-add-mod' a w in

@@ -39,14 +39,15 @@ HasCome c script h (Committed place entry) = Commits c script place entry h
 HasCome c script h (Aborted entry) = Aborts c script entry h
 HasCome c script h GivenUp = Unit {0}
 
--- Two commits, or two aborts, of an earlier and a later script are in this order.
+-- If the outcomes of an earlier and of a later script are two commits, or two aborts, the entry of
+-- the earlier script's outcome is the earlier one.
 abbrev pub AreInOrder : Outcome → Outcome → Type 0
 AreInOrder (Committed place entry) (Committed later_place later) = entry < later
 AreInOrder (Aborted entry) (Aborted later) = entry < later
 AreInOrder outcome other = Unit {0}
 
--- The caller's transactions that commit, each as its entries; the first one has these entries
--- already.
+-- The caller's transactions that commit in a history, each as its entries. The transaction that the
+-- caller is in before the history has the entries `part` already.
 abbrev pub committed_from : ℕ → List Entry → List Entry → List (List Entry)
 committed_from c part [] = []
 committed_from c part (e ∷ h) =
@@ -67,7 +68,8 @@ PlayInOrder callers scripts c low (part ∷ parts) =
     (n : ℕ) × (script : List Action) × (low ≤ n) × IsScriptOf callers scripts c n script
     × IsPlayed script part × PlayInOrder callers scripts c (suc n) parts
 
--- Each of the caller's commits among the first entries is that of one of the caller's scripts.
+-- Each Committed entry of the caller among the first `fed` entries is counted: one of the caller's
+-- scripts has the outcome with its place and index.
 abbrev pub AreCounted : ℕ → ℕ → ℕ → List Entry → List Outcome → Type 0
 AreCounted callers c fed h outcomes =
     (entry place : ℕ) → entry < fed → slice_get h entry ≡ Some (entries.Committed c place)

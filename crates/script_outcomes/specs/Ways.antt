@@ -28,14 +28,14 @@ abbrev pub IsLeft : List Entry → Type 0
 IsLeft (Leave c None ∷ entries.Aborted d ∷ []) = Unit {0}
 IsLeft es = ⊥
 
--- A comparison says that a transaction aborts itself only if this holds.
+-- A comparison answers `Itself` only if `P` holds.
 abbrev pub SaysItself : Fit → Type 0 → Type 0
 SaysItself Itself P = P
 SaysItself Refused P = Unit {0}
 SaysItself Other P = Unit {0}
 
--- The number is one of the numbers that are `workers` apart, from `low` on; it is the first at
--- which there is a script that the transaction plays, or past all scripts.
+-- Of the numbers `low`, `low + workers` and so on, this is the first whose script the transaction
+-- plays; or it is past all scripts, and the transaction plays no script at the numbers before it.
 pub record IsFirstPlayed (workers : ℕ) (scripts : List (List Action)) (part : List Entry)
     (low number : ℕ) : Type 0 where
   pub from : low ≤ number
@@ -45,8 +45,8 @@ pub record IsFirstPlayed (workers : ℕ) (scripts : List (List Action)) (part : 
   pub plays : (script : List Action) → slice_get scripts number ≡ Some script
       → IsPlayed script part
 
--- The number is one of the numbers that are `workers` apart, from `low` on; and if the transaction
--- has reached an abort, it is that of the script with this number.
+-- The number is one of `low`, `low + workers` and so on. If the transaction has reached an abort,
+-- this is the abort of the script with the number.
 pub record IsFirstLeft (workers : ℕ) (scripts : List (List Action)) (part : List Entry)
     (low number : ℕ) (reached : Bool) : Type 0 where
   pub from : low ≤ number
@@ -54,8 +54,8 @@ pub record IsFirstLeft (workers : ℕ) (scripts : List (List Action)) (part : Li
   pub reaches : (script : List Action) → reached ≡ true → slice_get scripts number ≡ Some script
       → AbortsItself script part
 
--- There are workers, and an outcome for each script; `next` and `turn` are of one worker, and
--- `next` is no later.
+-- There are workers, and an outcome for each script. The positions `next` and `turn` are numbers of
+-- one worker, and `next` is not after `turn`.
 pub record MayCount (workers : ℕ) (scripts : List (List Action)) (way : Way)
     (outcomes : List Outcome) : Type 0 where
   pub some : 0 < workers
@@ -63,7 +63,8 @@ pub record MayCount (workers : ℕ) (scripts : List (List Action)) (way : Way)
   pub order : way.next ≤ way.turn
   pub mine : way.next % workers ≡ way.turn % workers
 
--- The worker goes on: its numbers do not fall, and stay those of the worker.
+-- The worker goes on: `next` and `turn` do not fall, they stay numbers of this worker, and `next`
+-- is not after `turn`.
 pub record GoesOn (workers : ℕ) (old new : Way) : Type 0 where
   pub next : old.next ≤ new.next
   pub turn : old.turn ≤ new.turn
@@ -71,15 +72,16 @@ pub record GoesOn (workers : ℕ) (old new : Way) : Type 0 where
   pub next_mine : new.next % workers ≡ old.next % workers
   pub turn_mine : new.turn % workers ≡ old.turn % workers
 
--- The transaction is counted for this script, after which the worker goes on.
+-- The transaction is counted for the script of this number, and the worker goes on to a position
+-- `low` after it.
 pub record Counts (scripts : List (List Action)) (outcome : Outcome) (number low : ℕ)
     (outcomes outcomes' : List Outcome) : Type 0 where
   pub within : number < length scripts
   pub counted : outcomes' ≡ slice_set outcomes number outcome
   pub passed : number < low
 
--- A commit is counted for the first script from `next` on that the transaction plays; or no script
--- from there on is played.
+-- A commit is counted for the worker's first script from `next` on that the transaction plays, or
+-- for none if it plays none of these scripts.
 pub record Commits (workers : ℕ) (scripts : List (List Action)) (place entry : ℕ) (old new : Way)
     (outcomes outcomes' : List Outcome) : Type 0 where
   pub part : new.part.items ≡ old.part.items
@@ -104,7 +106,8 @@ pub record Aborts (workers : ℕ) (scripts : List (List Action)) (entry : ℕ) (
       → AbortsItself script old.part.items))
       ⊎ (outcomes' ≡ outcomes)
 
--- The change of the outcomes by an entry with this index, if the transaction is this part after it.
+-- The effect of the entry with this index on the outcomes. After the entry, the transaction has the
+-- entries `part`.
 abbrev pub CountsAt : ℕ → List (List Action) → Entry → ℕ → List Entry → Way → Way
     → List Outcome → List Outcome → Type 0
 CountsAt workers scripts (entries.Committed c place) entry part old new outcomes outcomes' =

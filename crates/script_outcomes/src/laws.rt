@@ -12,9 +12,9 @@ ghost use Rattle.txn_words.specs.declared.entry.Entry.TheVariants as entries;
 ghost use Rattle.script_outcomes.specs.declared.outcome.Outcome.{Outcome};
 ghost use Rattle.script_outcomes.specs.Outcomes.{AreCounted, AreOutcomes, Commits};
 
-/// In a history of the right shape, as each legal one is, a script that is called committed is
-/// played by a committed transaction (`Plays` of `txn_trace`): the one whose last entry is the
-/// Committed of the script's caller and place.
+/// In a history of the right shape, which each legal history has, a script that is called committed
+/// is played by a committed transaction (`Plays` of `txn_trace`). The last entry of this
+/// transaction is the Committed with the script's caller and the outcome's place.
 ///
 /// The contract is the law.
 ///
@@ -29,8 +29,9 @@ pub fn committed_plays()
 {}
 
 /// If each caller's committed transactions play its scripts in order (`PlayScripts` of
-/// `txn_trace`), as they do in a history that `mix` prints, every commit is that of a script that
-/// is called committed, with its place and the index of its entry.
+/// `txn_trace`), as they do in a history that `mix` prints, every commit is counted: for each
+/// Committed entry, one of the caller's scripts has the outcome committed, with the place and the
+/// index of this entry.
 ///
 /// The contract is the law.
 ///

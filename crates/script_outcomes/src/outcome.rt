@@ -1,5 +1,5 @@
-//! The outcome of a script, and its text. A run over a history writes one for each script, so a
-//! text is one line without its line feed. It is the only type that users of the crate see; it
+//! The outcome of a script, and its text: one line, without the line feed. A run over a history
+//! writes one outcome for each script. `Outcome` is the only type that users of the crate see. It
 //! names an entry by its index, so it is plain data and may outlast the history.
 
 use std::fmt;

@@ -131,8 +131,9 @@ impl Way {
         }
     }
 
-    /// The transaction has left to its end: the first script that it was an attempt at is over, and
-    /// the transaction is counted for it if it reached the script's abort.
+    /// The transaction was aborted after a Leave to its end. The first script from `turn` on at
+    /// which it was an attempt is over. If the transaction reached this script's abort, it is
+    /// counted for the script.
     fn leave(&mut self, work: &Work<'_>, entry: u64, outcomes: &mut [Outcome])
         requires may { MayCount work.now.workers work.now.scripts.now self.old outcomes.old }
         ensures { Aborts work.now.workers work.now.scripts.now entry self.old self.new

@@ -30,7 +30,7 @@ call_for (actions.Back n) = calls.Back n
 call_for (actions.Help k) = calls.Help k
 call_for actions.Abort = calls.Abort
 
--- The commit follows the last action.
+-- The call of an action, or the commit if there is no action left.
 abbrev pub call_of : Option Action → Call
 call_of (Some action) = call_for action
 call_of None = calls.Commit

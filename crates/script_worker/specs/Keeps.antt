@@ -9,9 +9,9 @@ use Rattle.script_worker.specs.Attempts.{call_at}
 use Rattle.script_worker.specs.Chunks.{heard_at, IsChunk}
 use Rattle.script_worker.specs.Workers.{Standing}
 
--- The worker is at this script, which is one of its scripts: its entries are the accounts of its
--- scripts before this one, then those of the calls of this one that have ended, and then those of
--- the present call.
+-- The worker is at the task's script, which is one of the worker's scripts. The worker's entries
+-- are first the accounts of its earlier scripts, then the entries of the calls of this script that
+-- have ended, and then the entries of the present call.
 pub record KeepsTask (tries workers : ℕ) (scripts : List (List Action)) (w : ℕ) (task : Task)
     (seen : List Entry) : Type 0 where
   pub outcomes : List Outcome

@@ -68,7 +68,7 @@ settled scripts tries w limits None = None
 settled scripts tries w limits (Some task) =
     settled_in scripts tries w limits task (end_of task.drive)
 
--- How a script is over, if it is.
+-- How the script is over, if this progress ends it.
 abbrev pub finish_of : Progress → Option Finish
 finish_of (Next attempt) = None
 finish_of (Over finish) = Some finish
@@ -144,8 +144,8 @@ IsReadyTask task = is_some (task_step task) ≡ is_some task
 abbrev pub IsReady : Standing → Type 0
 IsReady worker = IsReadyTask worker.task
 
--- A turn takes the worker's next step; a second step is the one after `placed`. Only a worker with
--- no script left takes none.
+-- The first step of a turn is the worker's next step. A second step is the worker's next step after
+-- the answer `Placed`. Only a worker with no script left has no turn.
 abbrev pub IsTurnBy : Standing → Option Turn → Type 0
 IsTurnBy worker None = worker.task ≡ None
 IsTurnBy worker (Some (One step)) = step_by worker ≡ Some step

@@ -28,8 +28,9 @@ pub struct Attempt {
     pub stage: Stage,
 }
 
-/// How a script is over, by the rules of its attempts. The outcome of a script, as `thread_runs`
-/// tells it, also has the transaction, its commit number and the replies, if it is committed.
+/// The finish of a script: it says how the script ended, by the rules of its attempts. The outcome
+/// that `thread_runs` tells of a committed script also has the transaction, its commit number and
+/// the replies.
 #[derive(Clone, Copy, Debug, PartialEq, Eq)]
 pub enum Finish {
     /// Its transaction is committed.

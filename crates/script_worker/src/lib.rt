@@ -15,12 +15,12 @@
 //! Proved: the code follows these, and the worker keeps to its scripts (`specs/Keeps.antt`): the
 //! entries that it added to the history are the accounts of its scripts, one after the other
 //! (`specs/Accounts.antt`), and then those of the present script so far. The account of a committed
-//! script ends with a transaction that plays it, and that of any other commits nothing. So in a
-//! legal history the outcomes of a worker's scripts are true, and its committed transactions play
-//! its scripts, with rising numbers: `script_mix` and `thread_runs` both conclude this. A worker
-//! with a script left has a step to take: that is the invariant of its type. Calls take constant
-//! time and no memory unless they say otherwise; the search of a helper's next bucket takes up to
-//! 32 rounds.
+//! script ends with a transaction that plays it, and the account of any other script commits
+//! nothing. So in a legal history the outcomes of a worker's scripts are true, and its committed
+//! transactions play its scripts, with rising numbers: `script_mix` and `thread_runs` both conclude
+//! this. A worker with a script left has a step to take: that is the invariant of its type. Calls
+//! take constant time and no memory unless they say otherwise; the search of a helper's next bucket
+//! takes up to 32 rounds.
 #![tactic(auto)]
 
 mod attempt;

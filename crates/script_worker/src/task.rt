@@ -42,8 +42,8 @@ impl Task {
     }
 }
 
-/// Moves on to the next call, if the call of the worker's task has ended. Answers how its script
-/// is over, if it is.
+/// Moves on to the next call if the call of the worker's task has ended. Answers how the task's
+/// script is over, if the end of the call ended it.
 fn settle(
     task: &mut Option<Task>,
     worker: usize,

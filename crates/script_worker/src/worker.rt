@@ -142,13 +142,13 @@ impl Worker {
         finish
     }
 
-    /// Tells the worker the answer to the step that the turn named; of a turn of two steps, the
-    /// answer to each step taken. Pass the same scripts and tries to each call: a script that found
-    /// a stripe held is attempted again up to `tries` times. Answers how the worker's script is
-    /// over, if this answer ended it.
+    /// Tells the worker the answer to a step that its turn named. For a turn of two steps, call
+    /// `told` after each step that was taken. Pass the same scripts and tries each time: a script
+    /// that found a stripe held is attempted again up to `tries` times. Answers how the worker's
+    /// script is over, if this answer ended it.
     ///
-    /// If the call has ended, the worker is at its next call when `told` returns, of the same
-    /// script or of the next, or has no script left.
+    /// If the answer ended the worker's call, `told` moves the worker on to its next call, of the
+    /// same script or of its next one; or no script is left.
     ///
     /// # Cost
     ///

@@ -9,7 +9,7 @@ use Rattle.txn_words.specs.Map.{Map, empty, get, insert, remove}
 use Rattle.txn_words.proofs.Maps.{get-insert, get-remove}
 use Rattle.serial_check.specs.declared.footprint.Cell.{Cell}
 
--- A map with this at a key, a value or none.
+-- The map with this value at a key, or without the key if the value is None.
 abbrev with_need : Map → ℕ → Option ℕ → Map
 with_need m k None = remove m k
 with_need m k (Some v) = insert m k v

@@ -40,14 +40,14 @@ pub record Keeps (h : List Entry) (commits : Commits) : Type 0 where
 abbrev pub Stays : Commits → Commits → Type 0
 Stays old new = (h : List Entry) → Keeps h old → Keeps h new
 
--- After a history: the answer says whether an entry commits no transaction or one with right
--- replies; if so, the new commits keep one more entry.
+-- The answer after a history says whether the entry is right: it commits no transaction, or one
+-- with right replies. If it is right, the new commits keep the history with this entry.
 pub record JudgesAt (h : List Entry) (e : Entry) (right : Bool) (new : Commits) : Type 0 where
   pub right_is : commits_right h e ≡ right
   pub keeps : right ≡ true → Keeps (h ++ e ∷ []) new
 
--- The entry, if its shape is right, is judged as `JudgesAt` says after each history that the
--- callers have entered and the old commits keep.
+-- After each history that the callers have entered and the old commits keep, an entry of the right
+-- shape is judged as `JudgesAt` says.
 abbrev pub Judges : Entry → Callers → Commits → Bool → Commits → Type 0
 Judges e callers old right new =
     (h : List Entry) → HaveEntered h callers → Keeps h old → is_shaped h e ≡ true
@@ -68,6 +68,7 @@ IsTorn h t = (m : Map) → alone m (of t h) ≡ None
 abbrev pub RunsSomewhere : List Entry → ℕ → Type 0
 RunsSomewhere h t = (m : Map) × IsSome (alone m (of t h))
 
--- A transaction has the replies of running alone on the committed map, or on no map at all.
+-- A transaction has the replies of running alone on the committed map, or no map gives it all of
+-- its replies.
 abbrev pub FitsOrTorn : List Entry → ℕ → Type 0
 FitsOrTorn h t = IsSome (alone (serial h) (of t h)) ⊎ IsTorn h t

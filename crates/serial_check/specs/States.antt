@@ -8,18 +8,19 @@ use Rattle.serial_check.specs.declared.state.State.{State}
 use Rattle.serial_check.specs.Serializable.{IsSerializable, broken}
 use Rattle.serial_check.specs.Commits.{Keeps}
 
--- The entries are a serializable history; the callers and the commits are those after it.
+-- The entries are a serializable history, and the state has the callers and the commits that this
+-- history leaves.
 pub record Tells (h : List Entry) (state : State) : Type 0 where
   pub serializable : IsSerializable h
   pub entered : HaveEntered h state.callers
   pub keeps : Keeps h state.commits
 
--- The new state fits each history that the old one fits.
+-- The new state tells each history that the old one tells.
 abbrev pub Stays : State → State → Type 0
 Stays old new = (h : List Entry) → Tells h old → Tells h new
 
--- After a history the entry breaks the rule that is named; if none is, the state tells one more
--- entry.
+-- If a rule is named, the entry breaks this rule after the history. If none is named, the state
+-- tells the history with the entry added.
 abbrev pub Judged : List Entry → Entry → Option Rule → State → Type 0
 Judged h e None new = Tells (h ++ e ∷ []) new
 Judged h e (Some rule) new = broken h e ≡ Some (number_of rule)

@@ -62,12 +62,12 @@ impl Checker {
     ///
     /// # Cost
     ///
-    /// For a Did or an Undone, time in proportion to the logarithm of the number of keys that its
-    /// transaction asked for; for a Committed, for each of these keys, to the logarithm of the
-    /// number of keys in the map; for an Aborted, to the number of keys asked for. Otherwise
-    /// constant time. All times are amortized, since an entry may drop changes and savepoints.
-    /// Takes memory for a Did, even if it is no change, for a Saved, and at a Committed for new
-    /// keys. After the first bad entry constant time, and no memory.
+    /// A Did or an Undone costs the logarithm of the number of keys that its transaction asked for.
+    /// A Committed costs, for each of these keys, the logarithm of the number of keys in the map.
+    /// An Aborted costs a step for each of these keys. Any other entry takes constant time. All
+    /// times are amortized, since an entry may drop changes and savepoints. A Did takes memory,
+    /// even if it is no change; so do a Saved, and a Committed for new keys. After the first bad
+    /// entry a call takes constant time and no memory.
     pub fn feed(&mut self, entry: &Entry) -> Result<(), AllocError>
         requires { caller_of entry.now < 64 }
         ensures ok { OnOk result ((h : List Entry) →
@@ -131,8 +131,8 @@ impl Checker {
     /// reason. The caller is below 64; nothing is said if an entry is bad, or if the caller has no
     /// open transaction.
     ///
-    /// `None` if the transaction could commit; or if its replies contradict one another, so that it
-    /// could commit on no map.
+    /// Answers `None` if the transaction could commit, or if its replies contradict one another, so
+    /// that it could commit on no map.
     ///
     /// # Cost
     ///

@@ -54,7 +54,8 @@ impl Commits {
         })
     }
 
-    /// Takes in an entry of right shape, or answers that it commits a wrong reply.
+    /// Takes in an entry of the right shape and answers `true`; or answers `false` if the entry
+    /// commits a transaction with a wrong reply.
     pub(crate) fn take_in(&mut self, callers: &Callers, entry: &Entry) -> Result<bool, AllocError>
         requires { caller_of entry.now < 64 }
         ensures ok { IfOk result (λ right. Judges entry.now callers.now self.old right self.new) }
@@ -78,8 +79,9 @@ impl Commits {
         Ok(true)
     }
 
-    /// Commits the caller's transaction, if it has the replies of running alone on the map: the map
-    /// then has the values that it leaves, and its footprint is empty.
+    /// Commits the caller's transaction if it has the replies of running alone on the map, and
+    /// answers whether it has them. After a commit the map has the values that the transaction
+    /// leaves, and the caller's footprint is empty.
     fn commit(&mut self, caller: u64) -> Result<bool, AllocError>
         requires { caller < 64 }
         ensures ok { IfOk result (λ right. (callers : Callers) (number : ℕ) →
@@ -96,8 +98,8 @@ impl Commits {
     }
 
     /// A key at which the caller's transaction got a first reply that the committed map does not
-    /// give. `None` if there is no such key, or if the transaction's replies fit no map. A look-up
-    /// for each key.
+    /// give. Answers `None` if there is no such key, or if the transaction's replies fit no map.
+    /// Takes a look-up for each key.
     pub(crate) fn misread(&self, caller: u64) -> Option<Misread>
         requires { caller < 64 }
         ensures some { (h : List Entry) (t : ℕ) → Keeps h self.now → txn_in h caller ≡ Some t →

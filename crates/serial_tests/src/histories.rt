@@ -65,7 +65,8 @@ const WRONG_BUT_ABORTED: [Entry; 8] = [
     Entry::Did(1, Some(7)),
 ];
 
-/// A value that was not committed when it was read, but is when its reader commits.
+/// A transaction reads a value that is not committed yet. When the transaction commits, the value
+/// is committed.
 const RIGHT_LATER: [Entry; 8] = [
     Entry::Began(0, 1),
     Entry::Began(1, 2),
@@ -168,7 +169,7 @@ fn judge(rt: &impl Abort, alloc: Global, row: &Row) -> Result<(), AllocError> {
     Ok(())
 }
 
-/// Feeds a checker one entry, and again if memory is refused once.
+/// Feeds a checker one entry. If memory is refused, tries once more.
 fn feed(rt: &impl Abort, checker: &mut Checker, entry: &Entry) -> Result<(), AllocError> {
     assert!(rt; entry.caller() < 64);
     match checker.feed(entry) {
@@ -177,8 +178,8 @@ fn feed(rt: &impl Abort, checker: &mut Checker, entry: &Entry) -> Result<(), All
     }
 }
 
-/// Checks the verdict on each beginning of the history, by a checker that is fed entry by entry:
-/// legal up to the first bad entry, and from there on that entry.
+/// Feeds a checker the history entry by entry, and checks its verdict after each: legal before the
+/// first bad entry, and from that entry on the row's verdict.
 fn feed_each(rt: &impl Abort, alloc: Global, row: &Row) -> Result<(), AllocError> {
     match checker_again(alloc) {
         Ok(mut checker) => feed_to(rt, &mut checker, row.0, row.2),
@@ -186,7 +187,7 @@ fn feed_each(rt: &impl Abort, alloc: Global, row: &Row) -> Result<(), AllocError
     }
 }
 
-/// A checker, asked for once more if memory is refused.
+/// Makes a checker. If memory is refused, tries once more.
 fn checker_again(alloc: Global) -> Result<Checker, AllocError> {
     match Checker::new(alloc) {
         Ok(checker) => Ok(checker),
@@ -212,8 +213,8 @@ fn feed_to(
     Ok(())
 }
 
-/// Whether a verdict is right after the entry of a place, if the last verdict is `wanted`: legal up
-/// to the first bad entry, and from there on that entry.
+/// Whether `found` is right after the entry at `place`, if the verdict on the whole history is
+/// `wanted`: `found` is legal before the first bad entry, and from that entry on it is `wanted`.
 fn may_be(found: Verdict, place: usize, wanted: Verdict) -> bool {
     match wanted {
         Verdict::Illegal { entry, .. } if entry <= place as u64 => found == wanted,

@@ -54,7 +54,8 @@ const SAVEPOINT: Row = (
     "committed 1 entry 15, aborted entry 21, committed 2 entry 23",
 );
 
-/// A script that is refused has the entries of an abort, and the next one aborts itself.
+/// A script that is refused has the entries of an abort. The last action of the next script is an
+/// abort.
 const REFUSED: Row = (
     r#"{"version":1,"workers":1,"stripes":8,"buckets":8,"tries":3,
         "scripts":[[["put",1,1],["back",7]],[["put",1,1],["abort"]]]}"#,
@@ -75,8 +76,8 @@ const ALIKE: Row = (
     "committed 1 entry 3, given up, committed 2 entry 7",
 );
 
-/// A transaction of the other caller, one of a caller that is no worker, and one that puts another
-/// value.
+/// No transaction plays a script of its caller: one plays the other worker's script, one is of a
+/// caller that is no worker, and one puts another value.
 const OF_OTHERS: Row = (
     r#"{"version":1,"workers":2,"stripes":8,"buckets":8,"tries":3,
         "scripts":[[["put",1,10]],[["put",2,20]]]}"#,
@@ -86,7 +87,7 @@ const OF_OTHERS: Row = (
     "given up, given up",
 );
 
-/// A history that ends in a transaction.
+/// A history that ends within a transaction.
 const OPEN: Row = (
     r#"{"version":1,"workers":1,"stripes":8,"buckets":8,"tries":3,"scripts":[[["put",1,10]],[]]}"#,
     r#"{"version":1,"stripes":8,"entries":[["began",0,1],["asked",0,"put",1,10],["did",0,null]]}"#,

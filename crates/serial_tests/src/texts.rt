@@ -93,7 +93,7 @@ fn lacks_memory() -> Result<(), Stop> {
     Ok(())
 }
 
-/// The error of a call, as any error.
+/// The error of a call as an `anyhow` error.
 fn stopped(outcome: Result<(), Stop>) -> Result<()> {
     outcome?;
     Ok(())

@@ -17,7 +17,8 @@ use Rattle.shared_transactions.specs.Keeps.{Keeps}
 use Rattle.shared_transactions.specs.Within.{GoesOn, HoldsWithin, is_quiet}
 use Rattle.shared_transactions.proofs.Within.{Adds, BeginsNone, adds, adds_undoing, append_none, undone_none, same_txn, not_broken, steady_after, goes_on, holds_open}
 
--- A call that passed goes on if its entries neither commit nor begin a transaction.
+-- `GoesOn` after a call that passed, if its entries neither commit nor begin a transaction and
+-- leave nothing unfinished, and `HoldsWithin` holds after the call.
 passed_on : {S : Type 0} (k : Token S) (call : Call) (l : Token S) (es : List Entry) → l.seen ≡ k.seen ++ es → Adds es → BeginsNone es → HoldsWithin l → Passed k call l → GoesOn k l
 passed_on k call l es seen which none holds passed = record {
   since = λ base since. adds base k l es since passed.whose seen which;
@@ -27,7 +28,7 @@ passed_on k call l es seen which none holds passed = record {
   holds = λ _. holds;
 }
 
--- A call that stopped goes on, if it neither begins nor commits.
+-- `GoesOn` after a call that stopped, if the call neither begins nor commits.
 stopped_on : {S : Type 0} (words : S → List ℕ) (k : Token S) (call : Call) (stop : Stop) (l : Token S) → is_quiet call ≡ true → Stopped words k call stop l → GoesOn k l
 stopped_on words k call (stops.Busy holder) l inner stopped = goes_on words k call (ends.Busy holder) l inner stopped
 stopped_on words k call (stops.Refused refusal) l inner stopped = goes_on words k call (ends.Refused refusal) l inner stopped

@@ -45,7 +45,7 @@ puts_push c (first ∷ pairs) es pair reply (r, rest, is, are) = (
 pub put_none : {S : Type 0} (k : Token S) → HasPut [] k k
 put_none k = record { puts = []; are = refl; seen = sym (append-nil k.seen) }
 
--- A put after the puts of `pairs` adds its pair to them.
+-- A token that has put `pairs`, and then puts one more pair, has put `pairs` followed by this pair.
 pub put_one : {S : Type 0} (pairs : List (ℕ × ℕ)) (pair : ℕ × ℕ) (reply : Option ℕ) (base k l : Token S) → HasPut pairs base k → k.number ≡ base.number
     → l.seen ≡ k.seen ++ Asked k.number (Put pair.0 pair.1) ∷ Did k.number reply ∷ [] → HasPut (pairs ++ pair ∷ []) base l
 put_one pairs pair reply base k l put whose seen = record {

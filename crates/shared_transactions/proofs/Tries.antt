@@ -8,12 +8,13 @@ use Rattle.core_tokens.specs.Tokens.{Token}
 use Rattle.shared_transactions.specs.Within.{GoesOn, IsBegun, IsTakenBack, IsUndone}
 use Rattle.shared_transactions.specs.Tries.{is_busy_stop, is_busy, IsWhy, Fails, BusyTries, HasTried, GivesUp}
 
--- A busy result is an error.
+-- A busy result is an error, so what is known of an error (`OnErr`) holds.
 pub if_busy : {R P : Type 0} (result : Result R Stop) → is_busy result ≡ true → OnErr result P → P
 if_busy (Ok value) busy held = absurd (false≢true busy)
 if_busy (Err stop) busy held = held
 
--- A run after tries that found a stripe held.
+-- If the result is `Ok`, its run began with the token `base`, after the tries that found a stripe
+-- held.
 pub run_after : {V X S : Type 0} (did : V → X → X → Type 0) (run : V → Token S → X → X → Type 0) (tries over : Token S → Type 0) (base : Token S) (result : Result V Stop) → tries base
     → IfOk result (λ r. (t : X) × (u : X) × did r t u × over base × run r base t u) → IfOk result (λ r. (b : Token S) × (t : X) × (u : X) × did r t u × tries b × over b × run r b t u)
 run_after did run tries over base (Ok value) tried (t, u, worked, is_over, ran) = (base, t, u, worked, tried, is_over, ran)
@@ -31,12 +32,13 @@ module _ {S X T : Type 0} (work : X → Result T Stop → X → Type 0) (me : X 
   one_more n old between new (Ok value) busy tries failed = absurd (false≢true busy)
   one_more n old between new (Err stop) busy tries failed = busy_more n old between new stop busy tries failed
 
-  -- A try that failed after its begin.
+  -- A try fails if it began, the work or the commit failed, and the transaction was taken back.
   pub failed_try : (old new : Token S) (txn : ℕ) (t u : X) (answer : Result T Stop) (stop : Stop) → IsBegun old txn (me t) → work t answer u → IsWhy answer stop (me u) new → GoesOn (me t) (me u) → IsTakenBack (me u) new → Fails work me stop old new
   failed_try old new txn t u answer stop began worked why goes_on back =
       inl (record { begun = t; left = u; txn = txn; answer = answer; began = began; worked = worked; why = why; goes_on = goes_on; back = back })
 
-  -- At most `most` tries have been made so far.
+  -- `HasTried` after `n` busy tries, if `n` is at most `most` and all tries together are undone
+  -- (`IsUndone`).
   pub tried : (most n : ℕ) (old new : Token S) → n ≤ most → BusyTries work me n old new → IsUndone old new → HasTried work me most old new
   tried most n old new within tries undone = record { busy = n; within = within; tries = tries; undone = undone }
 

@@ -52,7 +52,7 @@ none_stays (e ∷ es) = none_stays es
 seat_append : (xs ys : List Entry) → seat_after (xs ++ ys) ≡ fold (λ seat e. option_and_then (λ (s : Seat). row s s.phase e) seat) (seat_after xs) ys
 seat_append xs ys = fold-append (λ seat e. option_and_then (λ (s : Seat). row s s.phase e) seat) (Some closed_seat) xs ys
 
--- If all entries have rows, those of a beginning have rows too.
+-- If all entries of a list have rows, those of a beginning of the list have rows too.
 rows_before : (xs ys : List Entry) → is_some (seat_after (xs ++ ys)) ≡ true → is_some (seat_after xs) ≡ true
 rows_before xs ys there = at (seat_after xs) (sym (ap is_some (seat_append xs ys)) ∙ there)
   where
@@ -165,7 +165,8 @@ adds_undoing c k opening closing first last ends = record {
   steady = λ xs. ap (λ es. is_steady (seat_after es)) (sym (append_assoc xs (opening ∷ undone_by c k) (closing ∷ []))) ∙ steady_after (xs ++ (opening ∷ undone_by c k)) closing ends;
 }
 
--- A token that sees no more keeps `IsSince`; `grows` has the case of added entries.
+-- A token that has seen no more entries keeps `IsSince`. For a token that has seen more, see
+-- `grows`.
 stays : {S : Type 0} (base k l : Token S) → IsSince base k → IsSameCaller k l → l.seen ≡ k.seen → (l.broken ≡ false → k.broken ≡ false) → IsSince base l
 stays base k l since whose same sound = record {
   whose = record { number = whose.number ∙ since.whose.number; limits = whose.limits ∙ since.whose.limits };
@@ -214,8 +215,8 @@ abbrev is_refused : End → Bool
 is_refused (ends.Refused r) = true
 is_refused outcome = false
 
--- A call that is not refused, and neither begins nor commits, adds nothing or entries as `Adds`
--- has them.
+-- A call that is not refused, and neither begins nor commits, adds no entries, or entries of which
+-- `Adds` holds.
 made_adds : (c : ℕ) (call : Call) (outcome : End) (es : List Entry) → is_quiet call ≡ true → is_refused outcome ≡ false → IsMade c call outcome es → (es ≡ []) ⊎ Adds es
 made_adds c calls.Begin outcome es inner sound is = absurd (false≢true inner)
 made_adds c calls.Commit outcome es inner sound is = absurd (false≢true inner)
@@ -283,7 +284,7 @@ over_committed xs c p = ap is_over (seat_append xs (entries.Committed c p ∷ []
 over_commit : {S : Type 0} (k l : Token S) (c p : ℕ) → l.seen ≡ k.seen ++ entries.Committed c p ∷ [] → IsOver l
 over_commit k l c p is = λ sound. ap (λ es. is_over (seat_after es)) is ∙ over_committed k.seen c p
 
--- A call that failed leaves the token to the same caller.
+-- The token after a call that failed is of the same caller.
 whose_failed : {S : Type 0} (k : Token S) (call : Call) (r : Refusal) (l : Token S) → Failed k call r l → IsSameCaller k l
 whose_failed k call OutOfStep l fell = fell.whose
 whose_failed k call r l found = found.whose
@@ -409,7 +410,7 @@ row_open phase standing kept (entries.Busy c op x) ends = absurd ends
 row_open phase standing kept (entries.Committed c p) ends = absurd ends
 row_open phase standing kept (entries.Aborted c) ends = absurd ends
 
--- A token may hold stripes if a transaction is open after its last entry.
+-- `HoldsWithin` holds of a token if a transaction is open after the token's last entry.
 pub holds_open : {S : Type 0} (l : Token S) (xs : List Entry) (e : Entry) → ends_open e → l.seen ≡ xs ++ e ∷ [] → HoldsWithin l
 holds_open l xs e ends seen =
     λ sound idle. absurd (false≢true (sym (ap (λ es. is_idle (seat_after es)) seen ∙ ap is_idle (seat_append xs (e ∷ [])) ∙ at (seat_after xs)) ∙ idle))
@@ -464,8 +465,8 @@ op_open k op free = at k.broken (seat_after k.seen) free
     at false None is = refl
     at false (Some s) is = seated s s.phase is
 
--- A call that its token let pass and that was then refused leaves the claims unchanged, unless it
--- is an operation.
+-- If no claim changes when a call is made ready, none has changed if the call is refused after
+-- that.
 same_claims : {S : Type 0} (k : Token S) (call : Call) (r : Refusal) (l : Token S) → ((c d : Claimed) → Readies c call d → d ≡ c) → TriedNothing k r l ⊎ WentOn k call (ends.Refused r) l → l.claims ≡ k.claims
 same_claims k call r l readied (inl (memory, same)) = same
 same_claims k call r l readied (inr went) = went.claims ∙ readied k.claims went.ready.claims went.readied
@@ -487,7 +488,7 @@ holds_ended words k call (ends.Answered a) l inner did = holds_ran words k call 
 holds_ended words k call (ends.Busy x) l inner did = holds_ran words k call (ends.Busy x) l inner refl did
 holds_ended words k call ends.Helped l inner did = holds_ran words k call ends.Helped l inner refl did
 
--- A call that neither begins nor commits goes on, however it ends.
+-- `GoesOn` after a call that neither begins nor commits, however the call ends.
 pub goes_on : {S : Type 0} (words : S → List ℕ) (k : Token S) (call : Call) (outcome : End) (l : Token S) → is_quiet call ≡ true → Ended words k call outcome l → GoesOn k l
 goes_on words k call outcome l inner ended = record {
   since = λ base since. since_ended words base k call outcome l since inner ended;
@@ -534,7 +535,7 @@ taken_back_by words k outcome l ended = record {
       holds_ended words k calls.Abort outcome l refl ended holds sound (idle_of (seat_after l.seen) (over_ended words base k outcome l since ended sound) rows);
 }
 
--- A refused call goes on, whichever call it is.
+-- `GoesOn` after any call that was refused.
 refused_on : {S : Type 0} (k : Token S) (call : Call) (r : Refusal) (l : Token S) → WasRefused k call r l → GoesOn k l
 refused_on k call r l refused = record {
   since = λ base since. since_refused base k call r l since refused;
@@ -559,7 +560,7 @@ not_committed words k result stop l m is leaves back =
           given = λ base since holds. back.given base (on.since base since) (on.holds holds);
         }
 
--- A refused commit and the abort after it, with the refusal's cause.
+-- `IsNotCommitted` after a refused commit and the abort that follows it.
 pub commit_refused : {S T : Type 0} (words : S → List ℕ) (k : Token S) (result : Result T Stop) (stop : Stop) (l m : Token S) → result ≡ Err stop → LeavesBy words k calls.Commit result l → IsTakenBack l m → IsNotCommitted stop k m
 commit_refused words k result stop l m is leaves back = record {
   left = l;
@@ -571,7 +572,7 @@ commit_refused words k result stop l m is leaves back = record {
     after (stops.Busy x) did = absurd did.made
     after (stops.Refused r) refused = refused
 
--- A commit that passed.
+-- `IsCommitted` after a commit that passed.
 pub committed : {S : Type 0} (k l : Token S) (txn place : ℕ) → txn ≡ last_txn k.seen → l.seen ≡ k.seen ++ entries.Committed k.number place ∷ [] → l.claims ≡ given_back k.claims → Passed k calls.Commit l → IsCommitted txn place k l
 committed k l txn place txn_is seen claims passed = record {
   numbered = txn_is;

@@ -19,7 +19,7 @@ use Rattle.core_tokens.specs.Tokens.{Token, AreCounted}
 use Rattle.locked_map.specs.Closes.{IsOwn}
 use Rattle.shared_transactions.specs.Works.{IsNew, AreIn, AreNumbered, IsClosedBy, AreDone}
 
--- The number of entries of the callers below a number.
+-- The number of entries that the callers with numbers below a bound have in a history.
 abbrev together : ℕ → List Entry → ℕ
 together zero h = 0
 together (suc n) h = together n h + length (own n h)
@@ -133,8 +133,8 @@ get_right (x ∷ xs) ys i =
     let next : suc (length xs) + i ≡ suc (length xs + i) = omega arith in
     ap (slice_get (x ∷ xs ++ ys)) next ∙ get_right xs ys i
 
--- Works that were seated and are done, each with its caller, are done on the closed map. Their
--- callers are the first of those that worked.
+-- `AreDone` on a closed map, if each work was seated with a caller and done by it. The map was
+-- closed with these callers first, and `others` after them.
 pub are_done : {S J D W T : Type 0} (work_of : J → W) (me_of : D → Token S) (outcome_of : D → T) (promises : W → T → Token S → Type 0) (limits : Sizes) (works : List W) (seated : List J) (done : List D) (others : List (Token S)) (core : State) (callers : ℕ)
     → length works + length others ≡ callers → callers ≤ limits.callers → map work_of seated ≡ works → length done ≡ length seated
     → ((i : ℕ) (s : J) (d : D) → slice_get seated i ≡ Some s → slice_get done i ≡ Some d → promises (work_of s) (outcome_of d) (me_of d))

@@ -49,7 +49,7 @@ pub record IsRefilledIn (h : List Entry) (number : ℕ) (pairs : List (ℕ × �
   pub refilled : IsRefilled pairs me
   pub own : IsOwn h me
 
--- After `k` the first of these pairs were put, and the put of the next one stopped.
+-- After `k` the first `put` pairs of `pairs` were put, and the put of the next pair stopped.
 pub record StopsPutting {S : Type 0} (words : S → List ℕ) (pairs : List (ℕ × ℕ)) (k : Token S)
     (stop : Stop) (l : Token S) : Type 0 where
   pub put : ℕ
@@ -73,7 +73,7 @@ pub record StopsCommitting {S : Type 0} (pairs : List (ℕ × ℕ)) (k : Token S
   pub put : HasPut pairs k done
   pub refused : IsNotCommitted stop done l
 
--- The transaction that puts these pairs began, and a put or its commit stopped.
+-- The transaction that puts these pairs was begun, and then a put or the commit stopped.
 pub record StopsWithin {S : Type 0} (words : S → List ℕ) (pairs : List (ℕ × ℕ)) (k : Token S)
     (stop : Stop) (l : Token S) : Type 0 where
   pub begun : Token S
@@ -81,7 +81,7 @@ pub record StopsWithin {S : Type 0} (words : S → List ℕ) (pairs : List (ℕ 
   pub began : IsBegun k txn begun
   pub why : IsPutBack words pairs begun stop l ⊎ StopsCommitting pairs begun stop l
 
--- Putting these pairs in one transaction stopped: its begin was refused, or a put or its commit
+-- Putting these pairs in one transaction stopped: the begin was refused, or a put or the commit
 -- stopped.
 abbrev pub StopsRefilling : {S : Type 0} → (S → List ℕ) → List (ℕ × ℕ) → Token S → Stop → Token S
     → Type 0
@@ -95,13 +95,13 @@ abbrev pub IsNotRefilled : {S : Type 0} → (S → List ℕ) → List (ℕ × �
 IsNotRefilled words pairs k stop l =
     ((stop ≡ Refused NoMemory) × (l ≡ k)) ⊎ StopsRefilling words pairs k stop l
 
--- A refusal of memory, or of a map that did not close.
+-- The stop is a refusal: of memory, or because the map does not close.
 pub record IsUnclosedBy (stop : Stop) : Type 0 where
   pub refusal : Refusal
   pub is : stop ≡ Refused refusal
   pub why : IsUnclosed refusal
 
--- The caller `number` of a new map of these limits, which had done nothing before, did not put
+-- On a new map of these limits the caller `number`, which had done nothing before, did not put
 -- these pairs.
 pub record IsUnrefilled {S : Type 0} (words : S → List ℕ) (limits : Sizes) (number : ℕ)
     (pairs : List (ℕ × ℕ)) (stop : Stop) : Type 0 where

@@ -1,5 +1,5 @@
--- The causes for which a call of a transaction stops, which are those of the map's call, and the
--- token that it leaves.
+-- The causes for which a call of a transaction stops, and the token that the call leaves. The
+-- causes are those of the map's call.
 use Rattle.std.specs.Prelude.{ℕ, ◌≡◌, ◌⊎◌, List, None}
 use Rattle.map_answers.specs.declared.stop.Stop.{Stop}
 use Rattle.map_answers.specs.declared.stop.Stop.TheVariants as stops

@@ -14,7 +14,8 @@ use Rattle.core_tokens.specs.Claims.{Claimed, given_back}
 use Rattle.core_tokens.specs.Noted.{last_txn}
 use Rattle.core_tokens.specs.Tokens.{Token, IsSameCaller, is_over}
 
--- Whether nothing is unfinished: no transaction is open, or one that can go on.
+-- Whether nothing is unfinished: no transaction is open, or one is open with no operation, return
+-- or abort under way.
 abbrev pub is_steady_in : Phase → Bool
 is_steady_in Closed = true
 is_steady_in Opened = true

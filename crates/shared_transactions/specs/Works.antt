@@ -60,14 +60,14 @@ pub record AreDone {S W T : Type 0} (promises : W → T → Token S → Type 0) 
       → slice_get outcomes i ≡ Some outcome → IsDoneIn promises core.history i work outcome
   pub only : All (λ e. caller_of e < callers) core.history
 
--- The refusals of a map that was not closed: of memory, or because the map does not close.
+-- The refusals if there is no closed map: memory was refused, or the map does not close.
 abbrev pub IsUnclosed : Refusal → Type 0
 IsUnclosed NoMemory = Unit {0}
 IsUnclosed OutOfStep = Unit {0}
 IsUnclosed refusal = ⊥
 
--- Why works that need `needed` callers have no outcomes on a map with `callers` callers: exactly if
--- it has too few, `CallersMissing`; else the map was not made or not closed.
+-- The refusals if works that need `needed` callers have no outcomes on a map with `callers`
+-- callers: `CallersMissing` exactly if the map has too few callers, else those of `IsUnclosed`.
 abbrev pub IsUnrun : ℕ → ℕ → Refusal → Type 0
 IsUnrun callers needed CallersMissing = callers < needed
 IsUnrun callers needed refusal = (needed ≤ callers) × IsUnclosed refusal

@@ -43,7 +43,7 @@ pub trait Attempts {
         ensures same_token { (me self.new).ghost_name ≡ (me self.old).ghost_name }
         ensures back { IsTakenBack (me self.old).now (me self.new).now };
 
-    /// Waits after the try with number `round`, from 0, for as long as `retry` says.
+    /// Waits after the try with number `round`, counted from 0, for as long as `retry` says.
     fn wait(&self, retry: Retry, round: u64);
 }
 
@@ -86,8 +86,8 @@ fn found_busy<T>(outcome: &Result<T, Stop>) -> bool
 }
 
 /// Runs the work in a transaction and commits it. If another caller held a stripe, waits and begins
-/// again, as often and as long as `retry` says. The work may therefore run several times, with all
-/// that it does besides the calls of its transaction. `it` is a `Transaction`, and the work's
+/// again, as often and as long as `retry` says. So the work may run several times, and what it does
+/// besides the calls of its transaction is done each time. `it` is a `Transaction`, and the work's
 /// parameter is written with that type.
 ///
 /// # Errors

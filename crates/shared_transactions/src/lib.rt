@@ -30,9 +30,9 @@
 //! ```
 //!
 //! The model is the caller's token: the entries that its calls have added to the history. Promised:
-//! - If `transact` answers `Ok`, the token's last entries are one transaction: the begin of a token
-//!   that had none, one run of the work, and the commit. The receipt has that transaction's numbers
-//!   (`IsRun`).
+//! - If `transact` answers `Ok`, no transaction was open before, and the token's last entries are
+//!   one transaction: the begin, one run of the work, and the commit. The receipt has that
+//!   transaction's numbers (`IsRun`).
 //! - If it answers `Err`, no transaction is open if none was before, and no added entry commits
 //!   (`IsUndone`). A drop leaves no transaction open and commits nothing (`IsTakenBack`).
 //! - Each try before the last began one transaction, ran the work, which found a stripe held, and
@@ -49,8 +49,8 @@
 //! - Each work in a thread keeps its promise (`Work::promises`), about a token with exactly the
 //!   entries that its caller has in the history of the closed map. Work `i` has caller `i`. The
 //!   history is legal, and has no entries but those of these callers (`AreDone`).
-//! - Of a broken token it is not promised that no transaction is open, nor, if one of its entries
-//!   has no row, that nothing was committed.
+//! - Two things are not promised of a broken token: that no transaction is open; and that nothing
+//!   was committed, if one of its entries has no row.
 //!
 //! What a map holds is known when it is closed, as `locked_map` says, and not after a call, since
 //! other callers may take steps at once. No clause is about time: none says that a call returns, or

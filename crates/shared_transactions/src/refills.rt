@@ -26,8 +26,8 @@ use undo_log::Side;
 /// that has done nothing yet. The core, whose history is legal, is unchanged, and may be dropped
 /// afterwards.
 ///
-/// With the core of a closed map, and before other callers work, this trims a map of threads;
-/// `run_works_from` calls it so.
+/// Called with the core of a closed map, before other callers of the new map work, this trims the
+/// history of a map of threads. `run_works_from` calls it in this way.
 ///
 /// # Errors
 ///

@@ -66,7 +66,7 @@ impl Retry {
         self.times
     }
 
-    /// Waits after the try with number `round`, from 0.
+    /// Waits after the try with number `round`, counted from 0.
     pub(crate) fn wait<R: Wait>(self, rt: &R, round: u64) {
         if round < YIELDING || self.longest == 0 {
             for _ in 0..1u64 << round.min(YIELDING - 1) {

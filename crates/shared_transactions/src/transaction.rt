@@ -162,8 +162,8 @@ impl<'a, L: Ledger, R: Wait> Transaction<'a, L, R> {
     }
 
     /// Puts a value at a key if the key has the expected value, or, if none is expected, if the key
-    /// is absent. Answers the value before: the new one was put exactly if that is the expected
-    /// one.
+    /// is absent. Answers the value before. The new value was put exactly if the value before is
+    /// the expected one.
     ///
     /// # Errors
     ///

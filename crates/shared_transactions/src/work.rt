@@ -398,9 +398,9 @@ fn alone<L: Ledger>(
     Ok(callers)
 }
 
-/// Does each work in its own thread, with the caller of a pass, from the first pass on. Closes the
-/// map with these callers, with those in `used`, whose numbers follow theirs, and with those that
-/// did nothing.
+/// Does each work in its own thread, with a caller made from a pass, beginning with the first pass.
+/// Then closes the map with these callers, the callers in `used`, whose numbers follow, and the
+/// callers of all other passes, which did nothing.
 ///
 /// # Errors
 ///

@@ -5,8 +5,8 @@ use Rattle.undo_log.specs.Sides.{IsSameSide, IsBackAt}
 use Rattle.map_answers.specs.declared.stop.Stop.{Stop}
 use Rattle.map_answers.specs.declared.stop.Stop.TheVariants.{Busy}
 
--- A call was not done. Busy: the transaction is aborted, and the value has the words that it had
--- when the transaction began. Refused: the value is unchanged.
+-- A call was not done. If it was busy, the transaction is aborted, and the value has the words that
+-- it had when the transaction began. If it was refused, the value is unchanged.
 abbrev pub HasStopped : {S : Type 0} → (S → List ℕ) → Leveled S → Leveled S → Stop → Type 0
 HasStopped words a b (Busy holder) = IsBackAt words 0 a b
 HasStopped words a b stop = IsSameSide a b

@@ -1,7 +1,8 @@
 //! A caller beside its side value. Each call on the map is made on the caller, and then the side
-//! value follows the answer. To follow takes no memory but what the jobs' runs take, since `save`
+//! value follows the answer. Following takes only the memory that the jobs' runs take, since `save`
 //! makes room for a level before it calls the caller. Invariant: in a transaction the side value
-//! has a level for its beginning and for each savepoint, else one.
+//! has a level for the beginning and one for each savepoint; outside a transaction it has one
+//! level.
 ghost use Rattle.std.specs.Prelude.{◌≡◌, ℕ, ◌+◌, ◌≤◌, ◌<◌, ◌%◌, ◌^◌, true, false, [], ◌∷◌, IfOk, IfErr, OnOk, OnErr, Some, None, length, if◌then◌else◌};
 ghost use mathlib.Core.List.{IsPrefix};
 ghost use Rattle.txn_words.specs.declared.entry.Entry.TheVariants.{Began, Asked, Did, Saved, Leave, Returned, Committed, Aborted};
@@ -103,8 +104,8 @@ impl<S: Side> SidedCaller<S> {
         self.side.change(change, job)
     }
 
-    /// Begins a transaction. The side value that there is now becomes level 0; what was changed
-    /// before stays.
+    /// Begins a transaction. Level 0 of the side value is its value now, so changes made before
+    /// `begin` are never taken back.
     ///
     /// # Errors
     ///
@@ -159,7 +160,7 @@ impl<S: Side> SidedCaller<S> {
     ///
     /// # Errors
     ///
-    /// Those of `Caller::put`; the side value as in `get`.
+    /// Those of `Caller::put`, with the same effect on the side value as in `get`.
     ///
     /// # Cost
     ///
@@ -183,7 +184,7 @@ impl<S: Side> SidedCaller<S> {
     ///
     /// # Errors
     ///
-    /// Those of `Caller::take`; the side value as in `get`.
+    /// Those of `Caller::take`, with the same effect on the side value as in `get`.
     ///
     /// # Cost
     ///
@@ -209,7 +210,7 @@ impl<S: Side> SidedCaller<S> {
     ///
     /// # Errors
     ///
-    /// Those of `Caller::put_if`; the side value as in `get`.
+    /// Those of `Caller::put_if`, with the same effect on the side value as in `get`.
     ///
     /// # Cost
     ///
@@ -325,8 +326,8 @@ impl<S: Side> SidedCaller<S> {
         Ok(place)
     }
 
-    /// Takes all changes of the transaction back, the side value's too, ends it, and gives its
-    /// stripes back.
+    /// Takes back all changes of the transaction, also those of the side value; then ends the
+    /// transaction and gives its stripes back.
     ///
     /// # Errors
     ///

@@ -1,5 +1,5 @@
--- Parents and ancestors of buckets: an ancestor has some of the bucket's lowest bits and no other,
--- so its dummy precedes the bucket's.
+-- Parents and ancestors of buckets. An ancestor of a bucket consists of the bucket's lowest bits,
+-- up to some position; so its dummy precedes the bucket's, unless they are the same bucket.
 use Prim.Native.Nat.{zero, suc}
 use Rattle.std.proofs.Common.{◌≡◌, ◌≢◌, ℕ, ◌+◌, ◌*◌, ◌-◌, ◌/◌, ◌%◌, ◌^◌, ◌<◌, ◌≤◌, refl, sym, ◌∙◌, ap, arith, pow-suc, div-add-mod', add-mul, inl, inr}
 use Rattle.std.proofs.lemmas.Bool.{cases_lt}
@@ -106,7 +106,8 @@ ancestor_before_key ancestor key exponent small is =
     let low : ancestor ≡ key % 2 ^ twice.0 = is.reached ∙ lowest.2 ∙ twice.2 in
     rw low (lowest_before_key twice.0 key (omega (arith, twice.1)))
 
--- No dummy of a word's lowest bits, or of an ancestor of these, is behind the word.
+-- If a bucket is the lowest bits of a word, its dummy and those of its ancestors are not behind the
+-- split key that is the word in reverse.
 pub ancestor_not_behind : (ancestor word exponent : ℕ) → exponent ≤ 32 → word < 2 ^ 64 → IsAncestor ancestor (word % 2 ^ exponent) → reversed ancestor ≤ reversed word
 ancestor_not_behind ancestor word exponent small fits is =
     let within = mod_below word (2 ^ exponent) (pow_pos exponent) in
@@ -119,7 +120,7 @@ ancestor_not_behind ancestor word exponent small fits is =
       | inr longer ↦ let lower = lowest_before twice.0 word (omega (arith, twice.1)) fits longer in rw low (omega (arith, lower))
     ]
 
--- If `a` units are at most `b` units and a rest below one unit, `a` is at most `b`.
+-- If `a` units are at most `b` units plus a rest below one unit, then `a` is at most `b`.
 whole_not_above : (a b unit rest : ℕ) → rest < unit → a * unit ≤ b * unit + rest → a ≤ b
 whole_not_above a b unit rest part below =
     elim (cases_lt b a) [
@@ -129,8 +130,8 @@ whole_not_above a b unit rest part below =
       | inr within ↦ within
     ]
 
--- Of all numbers of `exponent` bits whose reversal is not above the word's, the word's lowest bits
--- have the highest.
+-- Among the numbers of `exponent` bits whose reversal is not above the word's reversal, the one
+-- with the highest reversal is the word's lowest `exponent` bits.
 pub lowest_is_last : (other word exponent : ℕ) → exponent ≤ 64 → other < 2 ^ exponent → reversed other ≤ reversed word → reversed other ≤ reversed (word % 2 ^ exponent)
 unfolding reversed
 lowest_is_last other word exponent small short below =

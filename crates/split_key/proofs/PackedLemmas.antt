@@ -1,4 +1,4 @@
--- A sort key by its fields: the bytes of its split key, and the half of its key.
+-- A sort key by its fields: the bytes of its split key, and whether its key is in the upper half.
 use Prim.Native.Nat.{zero, suc}
 use Rattle.std.proofs.Common.{◌≡◌, ◌≢◌, ℕ, ◌+◌, ◌/◌, ◌%◌, ◌^◌, ◌<◌, inl, inr, Bool, true, false, refl, sym, ◌∙◌, ap, ap₂, arith, ◌==◌, ◌&&◌, not, nat_lt, nat_le, List, length, slice_index_or}
 use Rattle.std.proofs.Math.Bool.{beq}
@@ -34,7 +34,7 @@ bytes_are_small : (word place : ℕ) → slice_index_or (bytes_of word) place 0 
 unfolding bytes_of
 bytes_are_small word place = bytes_small 0 8 word place
 
--- The bytes of a word are packed, if only an odd word is of the upper half.
+-- The bytes of a word are packed if the word is odd whenever `is_upper` is true.
 packed : (word : ℕ) (is_upper : Bool) → word < 2 ^ 64 → (is_upper ≡ true → word % 2 ≡ 1) → IsPacked (bytes_of word) is_upper
 packed word is_upper fits odd = record {
   width = bytes_width word;
@@ -43,7 +43,7 @@ packed word is_upper fits odd = record {
 }
 
 -- ---- the sort keys that are made
--- The key that a split key and its half tell.
+-- The split key of a key, together with the half that the key is in, gives the key back.
 key_told : (key : ℕ) (is_upper : Bool) → key < 2 ^ 64 → is_upper ≡ nat_le (2 ^ 63) key → reversed (split key) ≡ key % 2 ^ 63 + 2 ^ 63 → key_in (split key) is_upper ≡ key
 key_told key true fits is again = elim (leb_tells (2 ^ 63) key) [
   | inl over ↦ omega (arith, key_in_regular (split key) true (split_odd key), again, over.1, fits)
@@ -93,7 +93,8 @@ halves_same true false is = absurd (true-false (sym is))
 halves_same true true is = refl
 
 -- ---- a sort key by its fields
--- The sort key has these fields.
+-- The bytes give the split key of the sort key, and with the half they give its key. The split key
+-- is odd if the key is in the upper half.
 pub record HasParts (at : SortKey) (bytes : List ℕ) (is_upper : Bool) : Type 0 where
   pub split : word_of bytes ≡ at.split
   pub key : key_in at.split is_upper ≡ at.key
@@ -108,7 +109,8 @@ parts_of at bytes is_upper is packed =
       odd = λ upper. ap (λ split. split % 2) (sym split_is) ∙ packed.upper upper;
     }
 
--- Of two keys with one split key that of the upper half is the greater one.
+-- If two keys have the same split key, the first is below the second exactly if only the second is
+-- in the upper half.
 upper_before : (at k l : ℕ) (is_upper others : Bool) → key_in at is_upper ≡ k → key_in at others ≡ l → (is_upper ≡ true → at % 2 ≡ 1) → (others ≡ true → at % 2 ≡ 1) → nat_lt k l ≡ (not is_upper && others)
 upper_before at k l false false k_is l_is odd others_odd = above_test k l (omega (arith, k_is, l_is))
 upper_before at k l false true k_is l_is odd others_odd =

@@ -33,7 +33,7 @@ unfolding reversed_low
 reversed_low_of_zero zero = refl
 reversed_low_of_zero (suc width) = omega (arith, reversed_low_of_zero width)
 
--- The reversal of two parts: the low part of the word is the high part of the reversal.
+-- A word in two parts, reversed: the reversal of the low part is the high part of the result.
 pub reversed_low_append : (j k high low word : ℕ) → low < 2 ^ j → word ≡ high * 2 ^ j + low → reversed_low (j + k) word ≡ reversed_low j low * 2 ^ k + reversed_low k high
 unfolding reversed_low
 reversed_low_append zero k high low word within is =
@@ -151,7 +151,8 @@ split_odd key =
 pub reversed_even : (bucket : ℕ) → bucket < 2 ^ 63 → reversed bucket % 2 ≡ 0
 reversed_even bucket fits = omega (arith, bit_at_lowest (reversed bucket), bit_at-reversed bucket 0 (omega arith))
 
--- If a word has a 1 above its lowest `j` bits, these precede the word.
+-- If a word has a 1 above its lowest `j` bits, the reversal of these bits is below the reversal of
+-- the word.
 pub lowest_before : (j word : ℕ) → j ≤ 64 → word < 2 ^ 64 → 2 ^ j ≤ word → reversed (word % 2 ^ j) < reversed word
 unfolding reversed
 lowest_before j word small fits longer =
@@ -169,7 +170,7 @@ lowest_before j word small fits longer =
     let at : (n : ℕ) → reversed_low 64 n ≡ reversed_low (j + k) n = λ n. ap (λ w. reversed_low w n) (sym width) in
     omega (arith, at low, at word, alone, whole, more, reversed_low_of_zero k)
 
--- The key's lowest bits precede the key.
+-- The reversal of a key's lowest bits is below the key's split key.
 pub lowest_before_key : (bits key : ℕ) → bits ≤ 63 → reversed (key % 2 ^ bits) < split key
 unfolding split
 lowest_before_key bits key small =

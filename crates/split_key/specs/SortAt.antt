@@ -7,7 +7,7 @@ use Rattle.std.proofs.lemmas.Bool.Decides.{leb_tells}
 use Rattle.std.proofs.lemmas.Nat.{le_bytes_8}
 use Rattle.split_key.specs.Split.{reversed}
 
--- A split key, and the key, or 0 for a dummy.
+-- A split key and the key of its node; the key is 0 for a dummy.
 pub record SortAt : Type 0 where
   pub split : ℕ
   pub key : ℕ
@@ -26,31 +26,34 @@ unfoldable pub key_in : ℕ → Bool → ℕ
 key_in split is_upper =
     if split % 2 == 0 then 0 else reversed split % 2 ^ 63 + (if is_upper then 2 ^ 63 else 0)
 
--- The sort key with these bytes of its split key.
+-- The sort key that has these bytes as its split key, and whose key is in the upper half exactly if
+-- `is_upper`.
 abbrev pub seen : List ℕ → Bool → SortAt
 seen bytes is_upper = record {
   split = word_of bytes;
   key = key_in (word_of bytes) is_upper;
 }
 
--- The list has eight bytes, and no dummy is of the upper half.
+-- The list has eight bytes, and `is_upper` is false if their number is a dummy's split key.
 pub record IsPacked (bytes : List ℕ) (is_upper : Bool) : Type 0 where
   pub width : length bytes ≡ 8
   pub small : (place : ℕ) → slice_index_or bytes place 0 < 256
   pub upper : is_upper ≡ true → word_of bytes % 2 ≡ 1
 
--- The key of a dummy's split key.
+-- For a dummy's split key, `key_in` is 0.
 pub key_in_dummy : (split : ℕ) (is_upper : Bool) → split % 2 ≡ 0 → key_in split is_upper ≡ 0
 unfolding key_in
 key_in_dummy split is_upper even = rw (eq-eqb (split % 2) 0 even) refl
 
--- The key of a regular node's split key.
+-- For a regular node's split key, `key_in` is the lowest 63 bits of the reversed split key, plus
+-- 2^63 if `is_upper`.
 pub key_in_regular : (split : ℕ) (is_upper : Bool) → split % 2 ≡ 1
     → key_in split is_upper ≡ reversed split % 2 ^ 63 + (if is_upper then 2 ^ 63 else 0)
 unfolding key_in
 key_in_regular split is_upper odd = rw (ne_eqb (split % 2) 0 (λ even. omega arith)) refl
 
--- If no dummy is of the upper half, the key is in the upper half exactly if `is_upper`.
+-- If `is_upper` is false for a dummy's split key, the key is in the upper half exactly if
+-- `is_upper`.
 pub upper_is : (split : ℕ) (is_upper : Bool) → (is_upper ≡ true → split % 2 ≡ 1)
     → nat_le (2 ^ 63) (key_in split is_upper) ≡ is_upper
 upper_is split true odd =

@@ -7,7 +7,8 @@ unfoldable pub reversed_low : ℕ → ℕ → ℕ
 reversed_low zero word = 0
 reversed_low (suc width) word = word % 2 * 2 ^ width + reversed_low width (word / 2)
 
--- The 64 bits of a word in reverse order: of a bucket, the split key of its dummy node.
+-- The 64 bits of a word in reverse order. If the word is a bucket, this is the split key of the
+-- bucket's dummy node.
 unfoldable pub reversed : ℕ → ℕ
 reversed word = reversed_low 64 word
 
@@ -21,7 +22,7 @@ highest_cleared zero number = 0
 highest_cleared (suc width) number =
     if nat_le (2 ^ width) number then number - 2 ^ width else highest_cleared width number
 
--- The parent of a bucket; bucket 0 is its own.
+-- The parent of a bucket; bucket 0 is its own parent.
 unfoldable pub parent_of : ℕ → ℕ
 parent_of bucket = highest_cleared 32 bucket
 
@@ -31,13 +32,13 @@ pub record IsParent (bucket parent : ℕ) : Type 0 where
   pub splits : bucket ≡ 2 ^ bit + parent
   pub below : parent < 2 ^ bit
 
--- The bucket that this many steps reach from a bucket, each step from a bucket to its parent.
+-- The bucket that is reached from a bucket by this many steps, each to the parent.
 unfoldable pub ancestor_of : ℕ → ℕ → ℕ
 ancestor_of zero bucket = bucket
 ancestor_of (suc steps) bucket = parent_of (ancestor_of steps bucket)
 
--- The ancestor is reached by some number of steps to the parent. A bucket is its own ancestor, by
--- no step.
+-- The ancestor is reached from the bucket by some number of steps, each to the parent. A bucket is
+-- its own ancestor, reached by zero steps.
 pub record IsAncestor (ancestor bucket : ℕ) : Type 0 where
   pub steps : ℕ
   pub reached : ancestor ≡ ancestor_of steps bucket

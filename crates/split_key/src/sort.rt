@@ -17,7 +17,7 @@ use std::mem::size_of;
 /// by key. A dummy has key 0 here. No two nodes of a list have the same sort key.
 ///
 /// It takes 9 bytes, at any address. A split key tells all bits of its key but the top one, which
-/// is kept beside it: so a node need not have the key again.
+/// is kept beside it: so a node need not store the key as well.
 #[derive(Clone, Copy, Debug)]
 pub struct SortKey {
     split: [u8; 8],

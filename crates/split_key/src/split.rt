@@ -1,6 +1,6 @@
-//! Split keys of keys and of dummies. A key's ends in 1 and a dummy's in 0, so a bucket's dummy
-//! precedes the keys of the bucket. That 1 stands in for the key's top bit, which `sort` keeps
-//! beside the split key. Each call is one reversal.
+//! Split keys of keys and of dummies. The split key of a key ends in 1 and that of a dummy in 0, so
+//! a bucket's dummy precedes the keys of the bucket. The last 1 stands in for the key's top bit,
+//! which `sort` keeps beside the split key. Each call is one reversal.
 ghost use Rattle.std.specs.Prelude.{◌≡◌, ◌≢◌, ℕ, ◌%◌, ◌^◌, ◌<◌};
 ghost use Rattle.split_key.specs.Split.{reversed, split, IsAncestor};
 

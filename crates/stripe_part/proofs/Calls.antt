@@ -18,7 +18,7 @@ looked m owed (Put key v) reply looks is = absurd (false≢true (sym looks))
 looked m owed (Take key) reply looks is = absurd (false≢true (sym looks))
 looked m owed (PutIf key expected v) reply looks is = absurd (false≢true (sym looks))
 
--- An operation that changes a key without a value may change a key.
+-- An operation that changes an absent key is one that may be a change (`may_change`).
 pub may_be : (op : Op) → changes op None ≡ true → may_change op ≡ true
 may_be (Get key) is = is
 may_be (Put key v) is = refl

@@ -22,7 +22,8 @@ below_is a b less = from (nat_cmp a b) refl less
     from Equal is less = absurd less
     from Greater is less = absurd less
 
--- A list that does not fall by keys and has exactly the pairs of a list that rises is that list.
+-- Two lists with exactly the same pairs are equal if the keys of one rise and those of the other do
+-- not fall.
 abbrev occurs : Pair → Pair → ℕ
 occurs p x = cond (x.0 == p.0) (cond (x.1 == p.1) 1 0) 0
 
@@ -72,6 +73,6 @@ first_less Greater b is = refl
 up_sorted : (found : List Pair) → IsSorted (λ (a b : Pair). ordering_then (nat_cmp a.0 b.0) (nat_cmp a.1 b.1)) found → IsNonDecreasingBy (λ (p : Pair). p.0) found
 up_sorted found sorted = IsNonDecreasingBy-from_sort (λ (p : Pair). p.0) found (λ k d low lt. first_less _ _ (sorted k d low lt))
 
--- A sort of a map's pairs leaves its rows.
+-- The pairs of a map, sorted, are the map's rows.
 pub rows_sorted : (m : Map) (pairs found : List Pair) → IsPermutation m.rows pairs → IsPermutation pairs found → IsSorted (λ (a b : Pair). ordering_then (nat_cmp a.0 b.0) (nat_cmp a.1 b.1)) found → found ≡ m.rows
 rows_sorted m pairs found p q sorted = same_rows m.rows found m.rising (up_sorted found sorted) (λ x. sum_by-IsPermutation (occurs x) pairs found q ∙ sum_by-IsPermutation (occurs x) m.rows pairs p)

@@ -8,8 +8,8 @@ use Rattle.txn_words.specs.Owed.{may_change}
 use Rattle.txn_words.specs.Shape.{changes}
 use Rattle.stripe_part.specs.PartAt.{PartAt}
 
--- An operation is done: its reply and what it leaves are the map's. If it is a change, one change
--- more can be taken back.
+-- An operation is done: its reply and the content that it leaves are those of a plain map. If it is
+-- a change, one more change can be taken back.
 pub record Does (old new : PartAt) (op : Op) (reply : Option ℕ) : Type 0 where
   pub reply_is : reply ≡ reply_of old.content op
   pub content_is : new.content ≡ after old.content op
@@ -19,7 +19,8 @@ pub record Does (old new : PartAt) (op : Op) (reply : Option ℕ) : Type 0 where
 abbrev pub IsRefused : Op → Refusal → Type 0
 IsRefused op refusal = (refusal ≡ NoMemory) × (may_change op ≡ true)
 
--- A change is taken back: its key has the value before it, and every other key what it has now.
+-- A change is taken back: its key gets the value that it had before, and all other keys keep
+-- theirs.
 pub record TakesBack (old new : PartAt) (key : ℕ) (before : Option ℕ) : Type 0 where
   pub content_is : new.content ≡ set_at old.content key before
   pub owed_is : new.owed + 1 ≡ old.owed

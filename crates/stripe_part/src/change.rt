@@ -48,8 +48,8 @@ fn act(map: &mut ProbeMap, op: Op) -> Reply
     }
 }
 
-/// Does an operation, and counts it, if it is a change. Before an operation other than a get the
-/// map gets room for as many keys as changes will be owed, and for a new one.
+/// Does an operation, and counts it if it is a change. If the operation may be a change, the map
+/// first gets room: for one key for each change that will be owed, and for one new key.
 #[inline(always)]
 #[tactic(auto, using(crate::proofs::Calls::looked))]
 pub(crate) fn apply(map: &mut ProbeMap, owed: &mut usize, op: Op) -> Result<Reply, Refusal>
@@ -73,7 +73,7 @@ pub(crate) fn apply(map: &mut ProbeMap, owed: &mut usize, op: Op) -> Result<Repl
     Ok(reply)
 }
 
-/// Gives the key of a change the value before it.
+/// Takes a change back: gives its key the value that the key had before.
 pub(crate) fn take_back(map: &mut ProbeMap, owed: &mut usize, key: u64, before: Option<u64>)
     requires spare { owed.old ≤ map.old.spare }
     requires some { 0 < owed.old }

@@ -1,6 +1,6 @@
 //! The content of a part's box: a map, and how many changes can be taken back. The type's
-//! invariant: the map has room for as many keys, so that taking back needs no memory. The functions
-//! on the two fields are in `change.rt`.
+//! invariant: for each of these changes the map has room for one more key, so that taking back
+//! needs no memory. The functions on the two fields are in `change.rt`.
 ghost use Rattle.std.specs.Prelude.{◌≡◌, ℕ, ◌<◌, IfOk, IfErr, OnErr};
 ghost use Rattle.txn_words.specs.Map.{count_of};
 ghost use Rattle.stripe_part.specs.PartAt.{nothing};
@@ -65,7 +65,7 @@ impl CountedMap {
         apply(&mut self.map, &mut self.owed, op)
     }
 
-    /// Takes a change back: its key, and the value before.
+    /// Takes a change back, given its key and the value that the key had before.
     pub(crate) fn take_back(&mut self, key: u64, before: Option<u64>)
         requires { 0 < self.old.owed }
         ensures { TakesBack self.old self.new key before }

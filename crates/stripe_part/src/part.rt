@@ -1,6 +1,7 @@
-//! The public type: a box with the map and the number of its changes, made at the first change, or
-//! at the start, for room. Without it a part is empty, and the calls answer as on the empty map.
-//! Only this module tests for the box; its content and the invariant are in `counted_map.rt`.
+//! The public type: a box with the map and the number of its changes. The box is made at the first
+//! change, or at the start if the part is to have room. A part without a box is empty, and its
+//! calls answer as on the empty map. Only this module tests for the box; the content of the box and
+//! the invariant are in `counted_map.rt`.
 ghost use Rattle.std.specs.Prelude.{◌≡◌, ℕ, ◌<◌, true, Option, IfOk, IfErr, OnErr};
 ghost use Rattle.txn_words.specs.Map.{count_of};
 ghost use Rattle.txn_words.specs.Shape.{changes};
@@ -64,8 +65,8 @@ impl Part {
 
     /// An empty part, with no change to take back, that has room for this number of keys. `apply`
     /// takes no memory while the keys that were put (also those taken out since) and the changes
-    /// that are owed are together fewer than `keys`. So the first `keys` keys take none, if each is
-    /// settled before the next.
+    /// that are owed are together fewer than `keys`. So the first `keys` new keys take no memory,
+    /// if the part settles after each of them.
     ///
     /// # Errors
     ///
@@ -96,8 +97,8 @@ impl Part {
     ///
     /// # Cost
     ///
-    /// Amortized constant time, except for keys whose hashes collide: the hash is fixed. May take
-    /// memory, a get none.
+    /// Amortized constant time, except for keys whose hashes collide: the hash is fixed. A get
+    /// takes no memory; other operations may.
     #[inline(always)]
     pub fn apply(&mut self, alloc: Global, op: Op) -> Result<Reply, Refusal>
         ensures ok { IfOk result (Does self.old self.new op) }
@@ -115,9 +116,9 @@ impl Part {
         Ok(reply)
     }
 
-    /// Takes a change back: its key has the value before it, and all other keys what they have now.
-    /// One change fewer is owed; `changes` must be above 0. Taken back newest first, the changes of
-    /// a transaction leave what was there before them.
+    /// Takes a change back: its key gets the value that it had before, and all other keys keep
+    /// theirs. One change fewer is owed; `changes` must be above 0. Taken back newest first, the
+    /// changes of a transaction leave what was there before them.
     ///
     /// # Cost
     ///

@@ -23,7 +23,7 @@ use Rattle.striped_map.proofs.Sounds.{due_same}
 pub moved : (map : StripedMap) (a b : Hand) (es : List Entry) (left : Standing) → AddsIn (stripes_of map) (known a.seat) es left (known b.seat) → Moves map a es b
 moved map a b es left x = record { number_is = ap (λ (v : View). v.number) x.view_is; retired_is = ap (λ (v : View). v.retired) x.view_is; made_is = ap (λ (v : View). v.made) x.view_is; goes = x.goes }
 
--- The stripes were given back after it.
+-- A step that added entries, after which the stripes were given back.
 pub moved_idle : (map : StripedMap) (a b : Hand) (w : View) (es : List Entry) (left : Standing) → AddsIn (stripes_of map) (known a.seat) es left w → known b.seat ≡ idle w → Moves map a es b
 moved_idle map a b w es left x is = record {
   number_is = ap (λ (v : View). v.number) is ∙ ap (λ (v : View). v.number) x.view_is;
@@ -46,8 +46,7 @@ pub cons_at : (l : List ℕ) (level : ℕ) → level ≢ 0 → get_or l (level -
 cons_at l zero ne = absurd (ne refl)
 cons_at l (suc k) ne = ap (λ (i : ℕ). get_or l i 0) (omega arith)
 
--- As `moved_then`, for an operation that was done, one that was refused, and one whose stripe
--- another caller held.
+-- `moved_then` for an operation that was done, and for one whose stripe another caller held.
 pub moved_did : (map : StripedMap) (a b c : Hand) (op : Op) (reply : Option ℕ) → Moves map a [] b → Moves map b (Asked (known b.seat).number op ∷ Did (known b.seat).number reply ∷ []) c → Moves map a (Asked (known a.seat).number op ∷ Did (known a.seat).number reply ∷ []) c
 moved_did map a b c op reply x y = moved_then map a b c (λ k. Asked k op ∷ Did k reply ∷ []) x y
 
@@ -66,20 +65,22 @@ moved_known map a b es x c same = record {
   goes = subst (λ (v : View). Extends (stripes_of map) (known a.seat).number (known a.seat).seen es v.seen) (sym same) x.goes;
 }
 
--- Nothing was added, and nothing seen.
+-- A hand that does not change makes a step that adds nothing, and two steps that add nothing are
+-- one.
 pub moved_still : (map : StripedMap) (a : Hand) → IsOf a.seat map → Moves map a [] a
 moved_still map a of = record { number_is = refl; retired_is = refl; made_is = refl; goes = extends_none (stripes_of map) (known a.seat).number (known a.seat).seen (subst (λ z. IsLegal Begun z.slots (known a.seat).seen) of a.sound.legal) }
 
 pub moved_on : (map : StripedMap) (a b c : Hand) → Moves map a [] b → Moves map b [] c → Moves map a [] c
 moved_on map a b c x y = moved_then map a b c (λ k. []) x y
 
--- A stripe that was held is held after another was taken, and after the history went on.
+-- A stripe that was held is still held after another stripe was taken, and after a stripe was found
+-- to be held by another caller.
 pub holds_taken : (n k : ℕ) (v w : View) (part : PartAt) → TakesIn n k v part w → (other : ℕ) → Holds v other → Holds w other
 holds_taken n k v w part t other hold = subst (λ (u : View). Holds u other) (sym t.view_is) (let h : 0 < times other v.held = hold in let more : 0 < times other (k ∷ v.held) = omega arith in more)
 
 pub holds_found : (n holder : ℕ) (v w : View) → FindsIn n v holder w → (other : ℕ) → Holds v other → Holds w other
 holds_found n holder v w f other hold = subst (λ (u : View). Holds u other) (sym f.sees.view_is) hold
 
--- The history goes on.
+-- A look at the history is a step that adds nothing.
 pub moved_seen : (map : StripedMap) (a b : Hand) → SeesIn (stripes_of map) (known a.seat) (known b.seat) → Moves map a [] b
 moved_seen map a b x = record { number_is = ap (λ (v : View). v.number) x.view_is; retired_is = ap (λ (v : View). v.retired) x.view_is; made_is = ap (λ (v : View). v.made) x.view_is; goes = x.goes }

@@ -35,7 +35,7 @@ use Rattle.striped_map.proofs.Lands.{own-append, own-none}
 abbrev pub Job : Type 0
 Job = ℕ × Option ℕ
 
--- Places of lists.
+-- The elements of a list after one is appended, and after one is replaced.
 pub push_at : {A : Type 0} (xs : List A) (x a : A) (i : ℕ) → slice_get (xs ++ x ∷ []) i ≡ Some a → (slice_get xs i ≡ Some a) ⊎ ((i ≡ length xs) × (x ≡ a))
 push_at [] x a zero e = inr (refl, same_Some x a e)
 push_at [] x a (suc i) e = absurd (none-some a e)
@@ -93,7 +93,7 @@ pub with_push : (f : ℕ → PartAt) (ks : List ℕ) (k : ℕ) → map (with_par
 with_push f [] k = refl
 with_push f (x ∷ ks) k = ap (λ (l : List Held). with_part f x ∷ l) (with_push f ks k)
 
--- The parts of other stripes are the same.
+-- Stripes with their parts, if all parts are the same, and if only the part of one stripe differs.
 pub with_same : (f g : ℕ → PartAt) (ks : List ℕ) → ((i k : ℕ) → slice_get ks i ≡ Some k → g k ≡ f k) → map (with_part g) ks ≡ map (with_part f) ks
 with_same f g [] same = refl
 with_same f g (x ∷ ks) same = ap (λ (p : PartAt). (record { stripe = x; part = p }) ∷ map (with_part g) ks) (same 0 x refl) ∙ ap (λ (l : List Held). with_part f x ∷ l) (with_same f g ks (λ i k at. same (suc i) k at))
@@ -114,7 +114,7 @@ pub not_held : (n : ℕ) (v : View) (held : List Held) (m : Map) → AreHeld n v
 not_held n v held m s k none hold = let h : 0 < times k (reverse (stripes_in held)) = subst (λ (ks : List ℕ). 0 < times k ks) s.kept hold in
     let at = at_times (stripes_in held) k (omega (arith, times_reverse k (stripes_in held))) in none at.0 at.1
 
--- The map goes on, the same in the stripes that are held.
+-- The parts still fit after the map has changed, if it is the same in the stripes that are held.
 pub parts_on : (n : ℕ) (v w : View) (held : List Held) (m k : Map) → AreHeld n v held m → w.held ≡ v.held → ((key : ℕ) → Holds v (stripe_of n key) → get k key ≡ get m key) → AreHeld n w held k
 parts_on n v w held m k s same have = record {
   kept = same ∙ s.kept;
@@ -122,7 +122,7 @@ parts_on n v w held m k s same have = record {
   fits = λ i h at q in_k. s.fits i h at q in_k ∙ sym (have q (subst (Holds v) (sym in_k) (holds_at n v held m s i h.stripe (stripe_at held i h at))));
 }
 
--- A stripe is taken.
+-- A stripe is taken, and its part is added to those that are held.
 pub parts_taken : (n k : ℕ) (v w : View) (held : List Held) (part : PartAt) → AreHeld n v held (now v.seen) → ((i : ℕ) → slice_get (stripes_in held) i ≢ Some k) → TakesIn n k v part w → AreHeld n w (held ++ (record { stripe = k; part = part }) ∷ []) (now w.seen)
 parts_taken n k v w held part s none t = let new : Held = record { stripe = k; part = part } in let ks : List ℕ = stripes_in held in
     let is : stripes_in (held ++ new ∷ []) ≡ ks ++ k ∷ [] = stripes_push held new in
@@ -380,7 +380,7 @@ own_extends n c seen es log x whole =
 pub own_same : (n c : ℕ) (seen log : List Entry) → Extends n c seen [] log → own c log ≡ own c seen
 own_same n c seen log x = own_extends n c seen [] log x refl ∙ append-nil (own c seen)
 
--- One step after another.
+-- A step that adds nothing and then a step that adds the entries `es` are one step that adds them.
 pub extends_then : (n c : ℕ) (seen mid es log : List Entry) → Extends n c seen [] mid → Extends n c mid es log → Extends n c seen es log
 extends_then n c seen mid es log a b = record {
   between = a.between ++ b.between;

@@ -29,7 +29,8 @@ set_away (x ∷ xs) zero (suc j) a b ne e = e
 set_away (x ∷ xs) (suc i) zero a b ne e = e
 set_away (x ∷ xs) (suc i) (suc j) a b ne e = set_away xs i j a b (λ same. ne (ap suc same)) e
 
--- A stripe is at no place if the index has no place for it, one past the end, or that of another.
+-- A stripe is at no place if the index has for it no place, a place past the end, or the place of
+-- another stripe.
 pub none_indexed : (ks index : List ℕ) → IsIndexed ks index → (stripe : ℕ) → slice_get index stripe ≡ None → (other : ℕ) → slice_get ks other ≢ Some stripe
 none_indexed ks index is stripe none other at = none-some other (sym none ∙ is other stripe at)
 
@@ -43,7 +44,7 @@ none_other ks index is stripe place k found there ne other at =
     let same : other ≡ place = same_Some other place (sym (is other stripe at) ∙ found) in
     ne (same_Some k stripe (sym there ∙ ap (slice_get ks) (sym same) ∙ at))
 
--- A longer index; no stripes; one stripe more.
+-- The index is still right after it got longer, if there are no stripes, and with one stripe more.
 pub indexed_longer : (ks index later : List ℕ) → ((stripe place : ℕ) → slice_get index stripe ≡ Some place → slice_get later stripe ≡ Some place) → IsIndexed ks index → IsIndexed ks later
 indexed_longer ks index later keeps is place stripe at = keeps stripe place (is place stripe at)
 

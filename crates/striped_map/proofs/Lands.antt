@@ -209,7 +209,7 @@ first_pass Q (job ∷ jobs) kept all = (all.0, first_pass Q jobs kept all.1)
 pub own_seen : (n : ℕ) (log : List Entry) (v : View) → HasSeen n log v → v.acts ≡ true → own v.number log ≡ own v.number v.seen
 own_seen n log v h acting = ap (own v.number) h.goes ∙ own-append v.number v.seen h.rest ∙ ap (λ (l : List Entry). own v.number v.seen ++ l) (h.others acting) ∙ append-nil (own v.number v.seen)
 
--- Who has begun a transaction has begun it for good.
+-- If a caller has begun a transaction, it still has after more entries.
 pub begun_on : (c : ℕ) (log es : List Entry) → has_begun c log ≡ true → has_begun c (log ++ es) ≡ true
 begun_on c log es is = list_any-append (λ e. is_began e && caller_of e == c) log es ∙ or_left (has_begun c log) (has_begun c es) is
 
@@ -243,7 +243,7 @@ module _ (n : ℕ) (v : View) (acting : v.acts ≡ true) (seat : Seat) (seat_is 
       let next = saved n log on.legal v.number seat (seat_on log on) opened in
       lands_as n v.number (Holds v) 0 log _ _ _ _ _ (lands_one n (Holds v) log (Saved v.number) _ _ _ _ _ next (λ k d h. inl h) (λ q no. refl)) refl (log_on log on) on.seen.still
 
-  -- Everything is taken back after the first entry, with which the caller leaves.
+  -- After the first entry, by which the caller leaves, all its changes are taken back.
   leaves : 0 < n → (first : Entry) → caller_of first ≡ v.number → is_commit first ≡ false
       → ((log : List Entry) → GoesOn n v log → Next Begun n log first (record seat { phase = LeavingToEnd }) (log_of v.number log) (serial log) (now log) (λ s. holder_of n s log))
       → MayAdd n v (first ∷ undoing v.number (log_of v.number v.seen) (Aborted v.number)) (at_end (undone (now v.seen) (log_of v.number v.seen)))

@@ -82,7 +82,7 @@ module _ (n : ℕ) (s : St) (kept : IsKeptAt n s) (vs : List View)
     },
   )
 
--- One more witness, with the entries that a seat has seen.
+-- A seat may split off a witness that has seen what the seat has seen.
 pub witnesses : (id : ℕ) (v : View) → Splits IsKept id v v (witness v.seen)
 witnesses id v s kept me =
     let w = witness v.seen in let h = kept.3.seen id v me in

@@ -1,4 +1,4 @@
--- A work that is tried several times.
+-- Work that is tried several times.
 use Rattle.std.proofs.Common.{◌≡◌, ℕ, zero, suc, true, false, [], ◌∷◌, Result, sym, subst, ◌∙◌}
 use Rattle.txn_words.specs.declared.entry.Entry.TheVariants.{Began}
 use Rattle.txn_words.specs.declared.refusal.Refusal.TheVariants.{AlreadyOpen}
@@ -9,13 +9,13 @@ use Rattle.striped_map.specs.Attempts.{Fails, FailsBusy, IsWhy}
 use Rattle.striped_map.specs.Callers.{number, IsSince, IsStep, IsTakenBack, IsWithin}
 use Rattle.striped_map.proofs.Within.{by_cases, since_began, since_then, within_taken_back}
 
--- A caller that is in a transaction has made no attempt.
+-- A caller that is in a transaction after a number of busy attempts is unchanged: the number is 0.
 pub still : {T : Type 0} (work : Caller → Result T Stop → Caller → Type 0) (n : ℕ) (a b : Caller)
     → FailsBusy work n a b → b.is_open ≡ true → b ≡ a
 still work zero a b same is = same
 still work (suc n) a b fails is = absurd (cc (sym is ∙ fails.3.closed))
 
--- If one more attempt fails, `IsSince` still holds from before the first.
+-- If `IsSince me` holds before an attempt that fails, it also holds after the attempt.
 pub since_failed : {T : Type 0} (work : Caller → Result T Stop → Caller → Type 0) (me a b : Caller) (stop : Stop)
     → IsSince me a → (a.is_open ≡ true → (stop ≡ Refused AlreadyOpen) × (b ≡ a)) → (a.is_open ≡ false → Fails work a b stop) → IsSince me b
 since_failed work me a b stop since opened fails = by_cases a.is_open
@@ -32,7 +32,7 @@ pub one_more : {T : Type 0} {work : Caller → Result T Stop → Caller → Type
     → suc n ≡ m → FailsBusy work n me a → Fails work a b (Busy holder) → FailsBusy work m me b
 one_more {T} {work} n m me a b holder once before fails = subst (λ (k : ℕ). FailsBusy work k me b) once (a, holder, before, fails)
 
--- A try that failed: its transaction was taken back.
+-- An attempt that failed: its transaction was taken back.
 pub failed_by : {T : Type 0} {work : Caller → Result T Stop → Caller → Type 0} (old begun left new : Caller) (txn : ℕ) (answer : Result T Stop) (stop : Stop)
     → IsStep old (Began (number old) txn ∷ []) begun → work begun answer left → IsWithin begun left → IsWhy answer left stop → IsTakenBack left new → Fails work old new stop
 failed_by old begun left new txn answer stop began worked within why back = record {

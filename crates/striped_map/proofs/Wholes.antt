@@ -27,7 +27,7 @@ use Rattle.striped_map.proofs.Hands.{holds_at, stripe_at}
 abbrev Pair : Type 0
 Pair = ℕ × ℕ
 
--- Whether a pair's key is one of the stripe, and the pair under its sub-key.
+-- Whether the key of a pair is in the stripe k; and the pair with its sub-key in place of its key.
 abbrev pub is_in : ℕ → ℕ → Pair → Bool
 is_in n k pair = stripe_of n pair.0 == k
 
@@ -37,11 +37,11 @@ sub n pair = (pair.0 / n, pair.1)
 abbrev pub sub_rows : ℕ → ℕ → List Pair → List Pair
 sub_rows n k rows = map (sub n) (filter (is_in n k) rows)
 
--- Numbers compared.
+-- `nat_cmp` says that the smaller number is less.
 is_below : (a b : ℕ) → a < b → T (is_lt (nat_cmp a b))
 is_below a b less = subst (λ o. T (is_lt o)) (nat_cmp_is a b Less less) tt
 
--- Keys of one stripe.
+-- Two keys of one stripe are in the order of their sub-keys, and equal if the sub-keys are equal.
 sub_less : (n a b : ℕ) → stripe_of n a ≡ stripe_of n b → a < b → a / n < b / n
 sub_less n a b same less = lt_of_not-le (λ (le : b / n ≤ a / n).
     let whole_a : a / n * n + a % n ≡ a = div-add-mod' a n in
@@ -52,7 +52,8 @@ sub_less n a b same less = lt_of_not-le (λ (le : b / n ≤ a / n).
 sub_same : (n a b : ℕ) → stripe_of n a ≡ stripe_of n b → a / n ≡ b / n → a ≡ b
 sub_same n a b same is = sym (div-add-mod' a n) ∙ ap (λ (x : ℕ). x * n + a % n) is ∙ ap (λ (x : ℕ). b / n * n + x) same ∙ div-add-mod' b n
 
--- The rows of a stripe rise as those of the map do, and have what those have.
+-- The rows of a stripe rise, since the map's rows do; and under a key's sub-key they have the value
+-- that the map's rows have under the key.
 below_sub : (n k key : ℕ) → stripe_of n key ≡ k → (rows : List Pair) → T (below_all nat_cmp key rows) → T (below_all nat_cmp (key / n) (sub_rows n k rows))
 below_sub n k key in_k [] below = tt
 below_sub n k key in_k (row ∷ rows) below =
@@ -175,8 +176,9 @@ all_pairs n v held m some s all inside = subst (IsPermutation m.rows)
     once k lt = let some : 0 < times k (reverse (stripes_in held)) = subst (λ (ks : List ℕ). 0 < times k ks) s.kept (all k lt) in
         omega (arith, some, times_reverse k (stripes_in held), times_once k (stripes_in held) s.apart)
 
--- The parts, one after the other: the pairs from a place on, which are left to count, and those up
--- to it, which were added.
+-- The count of the parts from the place i on is the count of part i plus the count of the parts
+-- after it. The pairs of the parts up to the place i are the pairs of the parts before it, then of
+-- part i.
 pub sum_drop : (f : ℕ → PartAt) (ks : List ℕ) (i k : ℕ) → slice_get ks i ≡ Some k → sum_by count_at (map (with_part f) (drop i ks)) ≡ count_at (with_part f k) + sum_by count_at (map (with_part f) (drop (suc i) ks))
 sum_drop f [] i k at = absurd (none-some k at)
 sum_drop f (x ∷ ks) zero k at = sum_by-cons count_at (with_part f x) (map (with_part f) ks) ∙ ap (λ (y : ℕ). count_at (with_part f y) + sum_by count_at (map (with_part f) ks)) (same_Some x k at)
@@ -188,7 +190,8 @@ pairs_take n f (x ∷ ks) zero k at = append-nil (pairs_at n (with_part f x)) �
 pairs_take n f (x ∷ ks) (suc i) k at = ap (λ (l : List Pair). pairs_at n (with_part f x) ++ l) (pairs_take n f ks i k at)
     ∙ sym (append_assoc (pairs_at n (with_part f x)) (pairs_in n (map (with_part f) (take i ks))) (pairs_at n (with_part f k)))
 
--- The number of the parts' pairs is the sum of their counts, and the number of the map's pairs.
+-- The number of pairs in the parts is the sum of the parts' counts. If these pairs are the map's,
+-- the sum is the number of the map's rows.
 length_pairs : (n : ℕ) (held : List Held) → length (pairs_in n held) ≡ sum_by count_at held
 length_pairs n [] = refl
 length_pairs n (h ∷ held) = length-append (pairs_at n h) (pairs_in n held) ∙ ap (λ (c : ℕ). c + length (pairs_in n held)) (length-map h.part.content.rows (whole n h.stripe))

@@ -25,7 +25,8 @@ pub record Grows (stripes c : ℕ) (P : ℕ → Type 0) (commits_more : ℕ) (lo
     pub still : (key : ℕ) → (P (stripe_of stripes key) → ⊥)
         → get (now (log ++ es)) key ≡ get (now log) key
 
--- The history goes on from what the seat has seen, and only the seat holds its stripes there.
+-- The history goes on from what the seat has seen. By the history, no other seat holds a stripe
+-- that the view holds, and the view holds each stripe that its seat holds.
 pub record GoesOn (stripes : ℕ) (v : View) (log : List Entry) : Type 0 where
   pub legal : IsLegal Begun stripes log
   pub seen : HasSeen stripes log v
@@ -34,8 +35,8 @@ pub record GoesOn (stripes : ℕ) (v : View) (log : List Entry) : Type 0 where
   pub mine : (stripe : ℕ) → stripe < stripes → holder_of stripes stripe log ≡ Some v.number
       → Holds v stripe
 
--- The history grows by such entries, and they leave caller c and the stripes that P names in this
--- state.
+-- The history grows by these entries as `Grows` says, and they leave caller c and the stripes that
+-- P names in the state `left`.
 pub record Lands (stripes c : ℕ) (P : ℕ → Type 0) (commits_more : ℕ) (log es : List Entry)
     (left : Standing) : Type 0 where
   pub grows : Grows stripes c P commits_more log es
@@ -43,7 +44,8 @@ pub record Lands (stripes c : ℕ) (P : ℕ → Type 0) (commits_more : ℕ) (lo
   pub log_is : log_of c (log ++ es) ≡ left.log
   pub have : (key : ℕ) → P (stripe_of stripes key) → get (now (log ++ es)) key ≡ get left.map key
 
--- The entries may be added to any history that goes on for the seat, and leave this state.
+-- The entries may be added to any history that goes on from what the seat has seen (`GoesOn`), and
+-- leave the state `left`.
 abbrev pub MayAdd : ℕ → View → List Entry → Standing → Type 0
 MayAdd stripes v es left = (log : List Entry) → GoesOn stripes v log
     → Lands stripes v.number (Holds v) 0 log es left

@@ -1,5 +1,5 @@
 -- A work that is tried several times, each time in a transaction that is begun for it. `work`
--- relates the caller as the work found it, its answer, and the caller as it left it.
+-- relates the caller before the work, the work's answer, and the caller after the work.
 use Rattle.std.specs.Prelude.{◌≡◌, ℕ, zero, suc, [], ◌∷◌, Result, Ok, Err, false}
 use Rattle.txn_words.specs.declared.entry.Entry.TheVariants.{Began}
 use Rattle.txn_words.specs.declared.refusal.Refusal.TheVariants.{NotOpen}
@@ -8,7 +8,7 @@ use Rattle.map_answers.specs.declared.stop.Stop.{Stop}
 use Rattle.map_answers.specs.declared.stop.Stop.TheVariants.{Busy, Refused}
 use Rattle.striped_map.specs.Callers.{number, IsStep, IsSince}
 
--- A relation of values that hold a caller, as a relation of the callers.
+-- A relation of values that hold a caller, turned into a relation of the callers that they hold.
 abbrev pub on_callers : {H A : Type 0} → (H → Caller) → (H → A → H → Type 0)
     → Caller → A → Caller → Type 0
 on_callers caller_of relation a answer b =
@@ -34,7 +34,7 @@ pub record Fails {T : Type 0} (work : Caller → Result T Stop → Caller → Ty
   pub since : IsSince a b
   pub closed : b.is_open ≡ false
 
--- This many busy attempts in a row.
+-- The given number of attempts in a row, each of which failed with `Busy`.
 abbrev pub FailsBusy : {T : Type 0} → (Caller → Result T Stop → Caller → Type 0) → ℕ → Caller
     → Caller → Type 0
 FailsBusy work zero a b = b ≡ a

@@ -19,15 +19,15 @@ use Rattle.striped_map.specs.Seats.{known, stripes_of}
 abbrev pub number : Caller → ℕ
 number c = (known c.hand.seat).number
 
--- The beginning of the history that it has seen.
+-- The beginning of the history that the caller has seen.
 abbrev pub seen : Caller → List Entry
 seen c = (known c.hand.seat).seen
 
--- How many stripes its map has.
+-- How many stripes the caller's map has.
 abbrev pub stripes_in : Caller → ℕ
 stripes_in c = stripes_of c.map.value
 
--- The stripes that it holds, the newest first.
+-- The stripes that the caller holds, the newest first.
 abbrev pub stripes_held : Caller → List ℕ
 stripes_held c = (known c.hand.seat).held
 
@@ -42,7 +42,8 @@ changes c = due (known c.hand.seat)
 abbrev pub changes_above : ℕ → Caller → List (ℕ × Option ℕ)
 changes_above level c = above level (known c.hand.seat)
 
--- A step of one caller: others may have added entries, and then it has added these.
+-- A step of one caller: other callers may have added entries, and then the caller has added the
+-- entries `es`.
 pub record IsStep (a : Caller) (es : List Entry) (b : Caller) : Type 0 where
   pub map_is : b.map ≡ a.map
   pub number_is : number b ≡ number a
@@ -86,7 +87,8 @@ pub record IsTakenBack (a b : Caller) : Type 0 where
       → IsStep a (Leave (number a) None ∷ undoing (number a) (changes a) (Aborted (number a))) b
   pub over : a.is_open ≡ false → b ≡ a
 
--- One transaction that committed: it began from b, the work took it from t to u, and it ends in l.
+-- One transaction that committed: the caller is b before it begins, t when the work begins, u when
+-- the work ends, and l after the commit.
 pub record IsRun (b t u l : Caller) (found : ℕ) : Type 0 where
   pub txn : ℕ
   pub began : IsStep b (Began (number b) txn ∷ []) t

@@ -1,5 +1,5 @@
 -- The facts that a hand's contracts name: an operation under another key, a view without stripes,
--- why a stripe was not taken, and the ends of a transaction that take all back.
+-- why a stripe was not taken, and the ends of a transaction that take all changes back.
 use Rattle.std.specs.Prelude.{◌≡◌, ◌≢◌, ℕ, [], true}
 use Rattle.txn_words.specs.declared.op.Op.{Op}
 use Rattle.txn_words.specs.declared.op.Op.TheVariants.{Put, Take, Get, PutIf}
@@ -18,7 +18,7 @@ under (Take k) key = Take key
 under (Get k) key = Get key
 under (PutIf k expected value) key = PutIf key expected value
 
--- The seat holds no stripe.
+-- The view, with no stripe held.
 abbrev pub idle : View → View
 idle v = record v { held = [] }
 
@@ -28,8 +28,8 @@ abbrev pub IsMiss : View → Stop → Type 0
 IsMiss v (Busy holder) = (has_begun holder v.seen ≡ true) × (holder ≢ v.number)
 IsMiss v (Refused refusal) = refusal ≡ NoMemory
 
--- An end of a transaction that takes all back: an abort, or the end after a busy stripe, which
--- names another caller that has begun a transaction.
+-- An end of a transaction that takes all changes back: an abort, or the end after a busy stripe.
+-- The latter names another caller, which has begun a transaction.
 abbrev pub IsEnd : View → Addition → Type 0
 IsEnd v Abort = Unit {0}
 IsEnd v (Yield op holder) = (has_begun holder v.seen ≡ true) × (holder ≢ v.number)

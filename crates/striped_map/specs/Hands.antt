@@ -15,7 +15,7 @@ use Rattle.striped_map.specs.Additions.{due}
 use Rattle.map_answers.specs.declared.stop.Stop.{Stop}
 use Rattle.map_answers.specs.declared.stop.Stop.TheVariants.{Busy, Refused}
 
--- A step of one hand: others may have added entries, and then it has added these.
+-- A step of one hand: others may have added entries, and then the hand has added the entries `es`.
 pub record Moves (map : StripedMap) (a : Hand) (es : List Entry) (b : Hand) : Type 0 where
   pub number_is : (known b.seat).number ≡ (known a.seat).number
   pub retired_is : (known b.seat).retired ≡ (known a.seat).retired
@@ -37,10 +37,10 @@ IsStopped map a op b (Refused refusal) =
 abbrev pub IsCut : StripedMap → Hand → Hand → Stop → Type 0
 IsCut map a b stop = (key : ℕ) × IsStopped map a (Get key) b stop
 
--- A transaction was begun to read the pairs. While Began was its only entry, the hand had seen one
--- legal history, that of `left`. Each caller that was taken in has in it exactly the entries that
--- its calls added, and all other entries are of seats that were made. The pairs are the map of this
--- history, and what the hand has seen since begins with it.
+-- A transaction was begun to read the pairs. While Began was the transaction's only entry, the hand
+-- was `left`, and had seen a legal history. In this history each caller that was taken in has
+-- exactly the entries that its calls added, and all other entries are of seats that were made. The
+-- pairs are the map of this history, and the history that the hand has seen since begins with it.
 pub record AreLeft (map : StripedMap) (a c : Hand) (pairs : List (ℕ × ℕ)) : Type 0 where
   pub txn : ℕ
   pub during : Hand

@@ -9,7 +9,7 @@ use Rattle.striped_map.specs.declared.host.Host.{Host}
 use Rattle.striped_map.specs.Callers.{IsNew}
 use Rattle.striped_map.specs.Seats.{known}
 
--- The callers that it has taken in, the newest first: each number, and all its entries.
+-- The callers that the host has taken in, the newest first: the number and all entries of each.
 abbrev pub taken : Host → List (ℕ × List Entry)
 taken host = (known host.hand.seat).retired
 
@@ -17,7 +17,7 @@ taken host = (known host.hand.seat).retired
 abbrev pub numbers : Host → ℕ
 numbers host = (known host.hand.seat).made
 
--- The beginning of the history that it has seen.
+-- The beginning of the history that the host has seen.
 abbrev pub seen_by : Host → List Entry
 seen_by host = (known host.hand.seat).seen
 

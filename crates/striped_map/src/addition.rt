@@ -14,7 +14,7 @@ pub(crate) enum Addition {
     Back(u64, usize),
     /// The end of the transaction, for which all changes were taken back.
     Abort,
-    /// The end of the transaction, with all changes taken back, since the caller named held the
-    /// operation's stripe.
+    /// The end of the transaction, with all changes taken back, because the caller with this number
+    /// held the operation's stripe.
     Yield(Op, u64),
 }

@@ -1,6 +1,7 @@
 //! The call `Caller::transact`: it runs a work in a transaction, and begins again if another caller
 //! holds a stripe. It is not in `caller`, since it builds on `Transaction`: each try runs the work
-//! in one, so a work that fails leaves none open. Between two tries the caller holds no stripe.
+//! in a `Transaction`, so a work that fails leaves no transaction open. Between two tries the
+//! caller holds no stripe.
 ghost use Rattle.std.specs.Prelude.{◌≡◌, ℕ, ◌≤◌, true, false, Ok, IfOk, IfErr, OnOk, OnErr};
 ghost use Rattle.txn_words.specs.declared.refusal.Refusal.TheVariants.{AlreadyOpen};
 ghost use Rattle.striped_map.specs.Attempts.{on_callers, Fails, FailsBusy};
@@ -38,8 +39,8 @@ impl Caller {
     }
 
     /// Runs the work in a transaction and commits; answers the work's value, and the commit's place
-    /// modulo 2^64. If the work was busy, gives way and begins again, at most `tries` times. If the
-    /// work fails, all its changes are taken back.
+    /// modulo 2^64. If the work fails with `Busy`, gives way and begins again, at most `tries`
+    /// times. Whenever the work fails, all its changes are taken back.
     ///
     /// # Errors
     ///

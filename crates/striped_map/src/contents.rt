@@ -31,7 +31,7 @@ pub(crate) fn count_of(map: &StripedMap, seat: &mut MapSeat, held: &Vec<usize>) 
     Some(count)
 }
 
-/// The key of a sub-key in a stripe, if 64 bits have it.
+/// The key that has this sub-key in this stripe, if the key fits in 64 bits.
 fn whole_key(stripes: u64, stripe: usize, sub_key: u64) -> Option<u64>
     ensures { IfSome result (λ key. key ≡ sub_key * stripes + stripe) }
 {

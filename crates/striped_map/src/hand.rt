@@ -44,8 +44,8 @@ pub(crate) struct Hand {
     ghost indexed: { IsIndexed held.items index.items },
 }
 
-/// The place of a stripe among those that are held. For a stripe that is not held the index may
-/// have any place, so the list is looked at there.
+/// The place of a stripe in the list of held stripes, if it is held. For a stripe that is not held
+/// the index may have any place, so this also tests which stripe the list has at that place.
 #[inline(always)]
 fn place_of(held: &Vec<usize>, index: &Vec<u16>, stripe: usize) -> Option<usize>
     requires { IsIndexed held.now.items index.now.items }
@@ -350,8 +350,8 @@ impl Hand {
         }
     }
 
-    /// Does an operation, whose key has this sub-key, on the part of the stripe at a place, and
-    /// notes it.
+    /// Does an operation on the part of the stripe at this place, under the sub-key of the
+    /// operation's key, and notes it.
     #[inline(always)]
     fn apply(
         &mut self,

@@ -87,12 +87,13 @@ pub(crate) fn must<R: Abort>(rt: &R, row: usize, is_so: bool) {
     assert!(rt; is_so, "row {row}");
 }
 
-/// Asks a caller, as the row of this number says. It must answer as wanted.
+/// Asks a caller, which must answer as wanted. If it does not, the test fails with the number of
+/// the row.
 pub(crate) fn ask_row<R: Abort>(rt: &R, caller: &mut Caller, row: usize, what: Ask, wanted: Told) {
     must(rt, row, answer(caller, what) == wanted);
 }
 
-/// Asks the callers as the table says. Each must answer as it says.
+/// Asks the callers, row by row. Each must answer as its row says.
 pub(crate) fn play<R: Abort>(rt: &R, home: &mut Home, rows: &[Row]) {
     for (row, &(place, what, wanted)) in rows.iter().enumerate() {
         assert!(rt; place < home.callers.len());
@@ -116,8 +117,8 @@ pub(crate) fn leaves<R: Abort>(rt: &R, home: &mut Home, left: &[(u64, u64)]) {
     has_left(rt, &mut home.host, left);
 }
 
-/// A run of callers of a new map: its stripes, the calls, and the pairs that are left when the
-/// callers are dropped.
+/// A run on a new map: the numbers of its stripes and of its callers, the calls, and the pairs that
+/// are left when the callers are dropped.
 #[derive(Clone, Copy)]
 pub(crate) struct Worked<'a> {
     pub(crate) stripes: usize,

@@ -13,7 +13,7 @@ const BEFORE: &[Row] = &[
     (1, Ask::Commit, Told::Number(1)),
 ];
 
-/// A transaction of caller 1 of each kind of call, which at last has every stripe.
+/// A transaction of caller 1 with each kind of call. At its end caller 1 holds every stripe.
 const CALLS: &[Row] = &[
     (0, Ask::Begin, Told::Done),
     (0, Ask::Do(Op::Get(1)), Told::Replied(Some(5))),
@@ -33,7 +33,7 @@ const CALLS: &[Row] = &[
     (0, Ask::Do(Op::Put(3, 30)), NEW),
 ];
 
-/// Caller 2, which has the first place now, then finds no stripe held and the two pairs.
+/// Caller 2, which now has the first place, finds the two pairs. No stripe is held.
 const AFTER: &[Row] = &[
     (0, Ask::Begin, Told::Done),
     (0, Ask::Len, Told::Number(2)),

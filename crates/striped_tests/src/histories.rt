@@ -1,10 +1,12 @@
 //! Callers in threads, whose calls are recorded, merged into one history and judged.
 //!
-//! Each caller notes its calls with a stamp of one shared counter before and after each. An
-//! operation is put at the later stamp, when its stripe is held; an abort and a commit at the
-//! earlier, since they give stripes back. Commits are put in the order of their places, each at the
-//! latest stamp of the commits up to it: that is still before its own atomic step. A Busy is put at
-//! its earlier stamp too, but not before the first beginning of the caller that it names.
+//! All callers share one counter. Each caller notes its calls, and takes a stamp from the counter
+//! before and after each call. The entries of an operation are put at its later stamp, when the
+//! stripe is held. Those of an abort or a commit are put at its earlier stamp, since the call gives
+//! stripes back. Commits are put in the order of their places: each at its own stamp or the latest
+//! stamp of the commits before it, whichever is later. That stamp is still before the atomic step
+//! of the commit. A Busy is put at its earlier stamp too, but not before the first beginning of the
+//! caller that it names.
 use crate::calls::{Ask, Home, NEW, Row, Told, answer, open};
 use crate::threads::{Work, in_threads, must_start};
 use history_check::{Checker, Verdict};
@@ -22,8 +24,8 @@ use txn_words::{Entry, Holder, Op};
 enum Plan {
     /// Each runs four transactions that look random.
     Drawn,
-    /// Each has a hundred keys that no other has. It puts, takes and puts each of them, in one
-    /// transaction for each key.
+    /// Each has a hundred keys that no other caller has. For each key it runs one transaction,
+    /// which puts the key, takes it and puts it again.
     Scripts,
 }
 
@@ -56,7 +58,7 @@ struct Recorder {
 }
 
 impl Recorder {
-    /// The recorder of the caller of a place.
+    /// The recorder of the caller at this place.
     fn new(alloc: Global, caller: Caller, place: usize, seed: u64) -> Recorder {
         let number = (place as u64).wrapping_add(1);
         Recorder {
@@ -141,7 +143,7 @@ impl Recorder {
         Ok(())
     }
 
-    /// A transaction of the plan, with its place among the caller's.
+    /// Runs one transaction of the plan: the one at this place among the caller's transactions.
     fn run_one(&mut self, clock: &AtomicU64, plan: Plan, place: u64) -> Result<(), AllocError> {
         match plan {
             Plan::Drawn => self.transact(clock),
@@ -211,11 +213,11 @@ fn raise_stamps(commits: &mut Vec<(u64, u64)>) {
     }
 }
 
-/// An entry with its place in the history: a stamp, then an order among those of one stamp, then
-/// the number of lines that were put before it.
+/// An entry with its place in the history: a stamp, then an order among the entries of one stamp,
+/// then the number of lines that were put before it.
 type Line = ((u64, u64, usize), Entry);
 
-/// Makes entries of the calls of one caller after the other.
+/// Turns the callers' calls into entries, one caller after the other.
 #[derive(Drop)]
 struct Merge {
     /// The places of the commits, with their stamps.
@@ -390,8 +392,8 @@ impl Merge {
     }
 }
 
-/// Feeds the entries up to the first of a caller that is not below 64, and answers whether there is
-/// no such entry. Transactions are numbered here.
+/// Numbers the transactions, and feeds the entries to the checker. If an entry's caller is not
+/// below 64, it stops there and answers false.
 fn feed_all(checker: &mut Checker, lines: &[Line]) -> Result<bool, AllocError> {
     let mut begun = 0u64;
     for line in lines {
@@ -408,8 +410,8 @@ fn feed_all(checker: &mut Checker, lines: &[Line]) -> Result<bool, AllocError> {
     Ok(true)
 }
 
-/// How many transactions a history commits, if it is legal, of callers below 64, and no transaction
-/// is open at its end.
+/// How many transactions a history commits. Answers `None` if the history is not legal, if it names
+/// a caller that is not below 64, or if a transaction is open at its end.
 fn commits_fed(checker: &mut Checker, lines: &[Line]) -> Result<Option<u64>, AllocError> {
     if !feed_all(checker, lines)? {
         return Ok(None);
@@ -423,7 +425,7 @@ fn commits_fed(checker: &mut Checker, lines: &[Line]) -> Result<Option<u64>, All
     }
 }
 
-/// How many transactions a history commits, by a separate checker.
+/// How many transactions a history commits. Makes the checker, and answers as `commits_fed` does.
 fn commits_in(alloc: Global, stripes: u64, lines: &[Line]) -> Result<Option<u64>, AllocError> {
     if stripes == 0 {
         return Ok(None);
@@ -443,7 +445,7 @@ fn commits_by(
     commits_in(alloc, stripes, merge.lines.as_slice())
 }
 
-/// The callers run. Answers how many transactions their history commits, if it is legal.
+/// Runs the callers, and answers how many transactions their history commits, if it is legal.
 fn run_and_judge<R: Threads + Wait + Abort + Sync>(
     rt: &R,
     alloc: Global,
@@ -456,7 +458,7 @@ fn run_and_judge<R: Threads + Wait + Abort + Sync>(
     commits.expect(rt, "memory")
 }
 
-/// The callers of a new map run by the plan. Answers as `run_and_judge` does.
+/// Runs the callers of a new map as the plan says. Answers as `run_and_judge` does.
 fn commits_of<R: Threads + Wait + Abort + Sync>(
     rt: &R,
     alloc: Global,
@@ -470,8 +472,8 @@ fn commits_of<R: Threads + Wait + Abort + Sync>(
     run_and_judge(rt, alloc, stripes, all.as_mut_slice(), plan)
 }
 
-/// A quarter of a thousand runs of 2 to 16 callers, by the seed, on 8 stripes: each history is
-/// legal.
+/// Makes a quarter of the thousand runs, on 8 stripes. The seed gives the number of callers, 2 to
+/// 16. Each history must be legal.
 fn run_quarter<R: Threads + Wait + Abort + Sync>(rt: &R, alloc: Global, quarter: u64) {
     for run in 0..250u64 {
         let seed = quarter.wrapping_mul(250).wrapping_add(run);
@@ -481,8 +483,8 @@ fn run_quarter<R: Threads + Wait + Abort + Sync>(rt: &R, alloc: Global, quarter:
     }
 }
 
-/// The thousand runs are four tests, since a test has a minute and threads wait for their turn on a
-/// machine with other work.
+/// The thousand runs are four tests, since a test may take at most a minute, and threads are slow
+/// on a machine that has other work.
 #[test]
 fn runs_0_to_249(rt: HostRuntime) {
     run_quarter(&rt, rt.alloc(), 0);

@@ -1,6 +1,7 @@
 //! Callers at the limits of the map: stripes, callers, keys, values, savepoints, changes, and the
-//! order of the pairs. Loops make most rows, up to a hundred thousand of them, unlike in `runs`. A
-//! contract lets a call that takes memory give up; here only a row that says so may.
+//! order of the pairs. Unlike in `runs`, loops make most rows, up to a hundred thousand of them.
+//! The contracts let a call that takes memory give up; here a call may do so only if its row says
+//! so.
 use crate::calls::{
     Ask, Home, NEW, Row, Told, Worked, has_left, leaves, must, open, play, play_worked,
 };
@@ -10,8 +11,8 @@ use std::test::Fail;
 use striped_map::{open_map, open_map_with_capacity};
 use txn_words::{Op, Refusal};
 
-/// How many callers a map gets that is opened with these numbers, or none if they are refused as a
-/// limit.
+/// Opens a map with these numbers, and answers how many callers it has. Answers `None` if the
+/// numbers are refused with `Limit`.
 fn callers_in(alloc: Global, stripes: usize, callers: usize) -> Result<Option<usize>, AllocError> {
     match open_map(alloc, stripes, callers) {
         Ok((_host, made)) => Ok(Some(made.len())),
@@ -20,7 +21,7 @@ fn callers_in(alloc: Global, stripes: usize, callers: usize) -> Result<Option<us
     }
 }
 
-/// Stripes and callers, and whether there is such a map.
+/// Each row has the numbers of stripes and callers, and whether a map can be opened with them.
 const MAPS: &[(usize, usize, bool)] = &[
     (0, 1, false),
     (1, 0, true),
@@ -51,7 +52,8 @@ fn why_not(alloc: Global, stripes: usize, callers: usize, keys: usize) -> Option
     open_map_with_capacity(alloc, stripes, callers, keys).err()
 }
 
-/// Stripes, callers and keys, and why there is no such map.
+/// Each row has the numbers of stripes, callers and keys, and the refusal if no map can be opened
+/// with them.
 const ROOMS: &[(usize, usize, usize, Option<Refusal>)] = &[
     (1, 1, 0, None),
     (1, 0, 1, None),
@@ -80,7 +82,7 @@ fn open_roomy<R: Abort>(rt: &R, alloc: Global, stripes: usize) -> Home {
     Home { host, callers }
 }
 
-/// A map with no keys.
+/// Calls that find no key in the map.
 const NO_KEYS: &[Row] = &[
     (0, Ask::Begin, Told::Done),
     (0, Ask::Len, Told::Number(0)),
@@ -124,8 +126,8 @@ fn play_roomy<R: Abort>(rt: &R, home: &mut Home, wanted: &[(u64, u64)]) {
     has_left(rt, &mut home.host, wanted);
 }
 
-/// A map that is opened with room for a thousand keys has no keys at first, and takes a thousand
-/// and more: on one stripe for all keys, and on stripes that have few keys or none.
+/// A map that is opened with room for a thousand keys has no keys at first, and then takes 1,500:
+/// on one stripe, on 7, and on 4,096, when each stripe gets one key or none.
 #[test]
 fn a_roomy_map(rt: HostRuntime) -> Result<(), Fail> {
     let wanted = selves(rt.alloc(), 1_500)?;
@@ -157,7 +159,7 @@ fn last_caller(rt: HostRuntime) {
     play_worked(&rt, rt.alloc(), &LAST_CALLER);
 }
 
-/// Each operation on a key, which at last has the value 0, with the values 0 and 2^64 - 1.
+/// Each operation on a key, with the values 0 and 2^64 - 1. At the end the key has the value 0.
 fn each_operation(key: u64) -> [Row; 11] {
     let (zero, most) = (Told::Replied(Some(0)), Told::Replied(Some(u64::MAX)));
     [
@@ -209,7 +211,7 @@ fn widest_keys(rt: HostRuntime) {
     }
 }
 
-/// Sets a thousand savepoints; before each, key 1 is given the next level.
+/// Sets a thousand savepoints. Before each it puts the savepoint's level at key 1.
 fn save_a_thousand<R: Abort>(rt: &R, home: &mut Home) {
     for level in 1..1001u64 {
         let had = (level > 1).then_some(level - 1);
@@ -221,7 +223,7 @@ fn save_a_thousand<R: Abort>(rt: &R, home: &mut Home) {
     }
 }
 
-/// Returns to levels, and what key 1 has there.
+/// Calls that return to levels, and get the value of key 1 there.
 const LEVELS: &[Row] = &[
     (0, Ask::Back(1001), Told::Refused(Refusal::NoSuchLevel)),
     (0, Ask::Back(u64::MAX), Told::Refused(Refusal::NoSuchLevel)),
@@ -238,7 +240,7 @@ const LEVELS: &[Row] = &[
     (0, Ask::Save, Told::Number(1)),
 ];
 
-/// Sets the savepoints, and returns.
+/// Sets the savepoints, and returns to their levels.
 fn play_savepoints<R: Abort>(rt: &R, home: &mut Home) {
     play(rt, home, &[(0, Ask::Begin, Told::Done)]);
     save_a_thousand(rt, home);
@@ -250,7 +252,7 @@ fn a_thousand_savepoints(rt: HostRuntime) {
     play_savepoints(&rt, &mut open(&rt, rt.alloc(), 1, 1));
 }
 
-/// The two pairs that are there before a hundred thousand keys are put. Their keys are among those.
+/// Puts two pairs. Their keys are among the hundred thousand keys that are put later.
 const FEW: &[Row] = &[
     (0, Ask::Begin, Told::Done),
     (0, Ask::Do(Op::Put(7, 70)), NEW),
@@ -259,7 +261,7 @@ const FEW: &[Row] = &[
     (0, Ask::Commit, Told::Number(1)),
 ];
 
-/// Begins, and puts the next number at each key below 100,000.
+/// Begins, and puts the value key + 1 at each key below 100,000.
 fn put_100_000<R: Abort>(rt: &R, home: &mut Home) {
     play(rt, home, &[(0, Ask::Begin, Told::Done)]);
     for key in 0..100_000u64 {
@@ -285,7 +287,7 @@ const PUTS_TAKEN_BACK: &[Row] = &[
     (0, Ask::Abort, Told::Done),
 ];
 
-/// A commit of all of them.
+/// A commit of all these puts, after which all keys are there.
 const PUTS_COMMITTED: &[Row] = &[
     (0, Ask::Commit, Told::Number(2)),
     (0, Ask::Begin, Told::Done),
@@ -298,7 +300,7 @@ const PUTS_COMMITTED: &[Row] = &[
     (0, Ask::Commit, Told::Number(3)),
 ];
 
-/// Puts all, takes that back, and puts all once more.
+/// Puts all keys, aborts, puts all keys once more, and commits.
 fn play_puts<R: Abort>(rt: &R, home: &mut Home) {
     play(rt, home, FEW);
     put_100_000(rt, home);
@@ -308,8 +310,8 @@ fn play_puts<R: Abort>(rt: &R, home: &mut Home) {
     play(rt, home, PUTS_COMMITTED);
 }
 
-/// A hundred thousand puts of one transaction, on 1 and 4,096 stripes: taken back, and then made
-/// once more.
+/// A hundred thousand puts of one transaction, on 1 and 4,096 stripes: first they are aborted, then
+/// they are made once more and committed.
 #[test]
 fn a_hundred_thousand_puts(rt: HostRuntime) {
     for &stripes in &[1, 4096usize] {

@@ -32,7 +32,7 @@ fn answer_again(caller: &mut Caller, what: Ask) -> Result<Told, Refusal> {
     Err(Refusal::NoMemory)
 }
 
-/// Asks as the table says. Each call must answer as it says, at once or the second time.
+/// Asks the callers, row by row. Each call must answer as its row says, at once or the second time.
 fn play_again<R: Abort>(rt: &R, home: &mut Home, rows: &[Row]) -> Result<(), Refusal> {
     for (row, &(place, what, wanted)) in rows.iter().enumerate() {
         assert!(rt; place < home.callers.len());
@@ -106,7 +106,8 @@ const GROWS: &[Row] = &[
     (0, Ask::Len, Told::Number(11)),
 ];
 
-/// Makes these calls. The second transaction is taken back by the caller's drop.
+/// Makes the calls of `CALLS` and `GROWS`, a transaction each. The drop of the caller takes the
+/// second one back.
 fn call_and_grow<R: Abort>(rt: &R, home: &mut Home) -> Result<(), Refusal> {
     play_again(rt, home, CALLS)?;
     play_again(rt, home, GROWS)?;
@@ -114,7 +115,7 @@ fn call_and_grow<R: Abort>(rt: &R, home: &mut Home) -> Result<(), Refusal> {
     has_left_again(rt, &mut home.host, &[(1, 10)])
 }
 
-/// Makes them in a map with room for these keys.
+/// Makes the same calls in a map with room for this number of keys.
 fn play_with_room<R: Abort>(rt: &R, alloc: Global, keys: usize) -> Result<(), Refusal> {
     call_and_grow(rt, &mut open_again(alloc, keys)?)
 }

@@ -136,12 +136,14 @@ pub(crate) struct SidedHome {
     pub(crate) callers: Vec<Sided>,
 }
 
-/// Asks a caller; whether it answers as wanted, and has that side value then.
+/// Asks a caller. Answers whether its answer is as wanted and its side value then has the words of
+/// the count.
 fn is_so(caller: &mut Sided, what: Call, wanted: Told, count: u64) -> bool {
     answer(caller, what) == wanted && has_count(caller, count)
 }
 
-/// Asks the callers as the table says. Each must answer as it says, and have that side value then.
+/// Asks the callers, row by row. Each must answer as its row says, and then have the row's side
+/// value.
 pub(crate) fn play<R: Abort>(rt: &R, home: &mut SidedHome, rows: &[Row]) {
     for (row, &(place, what, wanted, count)) in rows.iter().enumerate() {
         assert!(rt; place < home.callers.len());
@@ -319,8 +321,9 @@ fn refusals(rt: HostRuntime) {
     play_worked(&rt, rt.alloc(), &REFUSALS);
 }
 
-/// Caller 2 puts key 2 and sets its side value from 20 to 21 and 22. Then it finds the stripe of
-/// key 1 held by caller 1, who gets key 2: it is not there, and its stripe is free.
+/// Caller 2 puts key 2 and sets its side value from 20 to 21 and 22. Then it finds that caller 1
+/// holds the stripe of key 1. Caller 1 gets key 2: the key is not there, and the key's stripe is
+/// free.
 fn finds_busy(op: Op) -> [Row; 11] {
     [
         (0, Call::Begin, Told::Done, 0),
@@ -382,8 +385,8 @@ const CALLS: &[Row] = &[
     (0, Call::Do(Op::Put(1, 6)), Told::Replied(Some(5)), 2),
 ];
 
-/// Caller 2, which has the first place now, finds no stripe held and the pair, and its own side
-/// value.
+/// Caller 2, which now has the first place, finds the pair and no stripe held. Its side value is
+/// unchanged.
 const AFTER: &[Row] = &[
     (0, Call::Begin, Told::Done, 0),
     (0, Call::Do(Op::Get(1)), Told::Replied(Some(5)), 0),
@@ -431,7 +434,8 @@ fn put_second<R: Abort>(rt: &R, sided: &mut Sided) {
     assert!(rt; begun == Told::Done && told == NEW);
 }
 
-/// The caller, after it got a side value, began and put by `put_second`, and lost the value again.
+/// Gives the caller a side value, calls `put_second`, and takes the side value off. Answers the
+/// caller, whose transaction is open.
 fn without_side<R: Abort>(rt: &R, alloc: Global, caller: Caller) -> Caller {
     let mut sided = with_side(rt, alloc, caller);
     put_second(rt, &mut sided);
@@ -501,7 +505,7 @@ fn listed<R: Abort>(rt: &R, alloc: Global, one: Sided, other: Sided) -> Vec<Side
     all
 }
 
-/// The callers with side values, which have met.
+/// Gives both callers a side value, and lets them meet.
 fn met<R: Abort>(rt: &R, alloc: Global, one: Caller, other: Caller) -> Vec<Sided>
     requires same_map { one.map.value ≡ other.map.value }
 {
@@ -524,7 +528,7 @@ const MET: &[Row] = &[
     (0, Call::Commit, Told::Number(2), 3),
 ];
 
-/// Plays them.
+/// Plays the calls of `MET`.
 fn play_met<R: Abort>(rt: &R, home: &mut SidedHome) {
     play(rt, home, MET);
     leaves(rt, home, &[(1, 1)]);

@@ -1,5 +1,5 @@
 //! Callers with a side value at the limits: keys, values, changes of the side value, savepoints,
-//! and two of them in threads. `limits` tests the map itself; a row here also names the side value
+//! and two callers in threads. `limits` tests the map itself; a row here also names the side value
 //! after its call. With two threads only the counts at the end are known.
 use crate::calls::{NEW, Told, has_left};
 use crate::sided::{Call, Row, Sided, SidedHome, answer, has_count, leaves, open_sided, play};
@@ -10,8 +10,8 @@ use std::thread;
 use std::thread::Threads;
 use txn_words::{Op, Refusal};
 
-/// Each operation on a key, which at last has the value 0, with the values 0 and 2^64 - 1. The side
-/// value becomes the key.
+/// Each operation on a key, with the values 0 and 2^64 - 1. At the end the key has the value 0, and
+/// the side value has the words of the key.
 fn each_operation(key: u64, before: u64) -> [Row; 9] {
     let (zero, most) = (Told::Replied(Some(0)), Told::Replied(Some(u64::MAX)));
     [
@@ -27,7 +27,8 @@ fn each_operation(key: u64, before: u64) -> [Row; 9] {
     ]
 }
 
-/// Each key with the side value before it: the keys 0, 2^63 - 1, 2^63 and 2^64 - 1.
+/// The keys 0, 2^63 - 1, 2^63 and 2^64 - 1, each with the count of the side value before the key's
+/// operations.
 const WIDEST: [(u64, u64); 4] = [
     (0, 0),
     (9_223_372_036_854_775_807, 0),
@@ -53,8 +54,8 @@ fn widest_keys(rt: HostRuntime) {
     }
 }
 
-/// Begins with the side value at 7 and 10 at key 1, and then a thousand times changes the side
-/// value and puts another key.
+/// Begins when the side value is 7 and key 1 has 10. Then it changes the side value and puts a key,
+/// a thousand times.
 fn change_a_thousand<R: Abort>(rt: &R, home: &mut SidedHome) {
     play(rt, home, &[(0, Call::Begin, Told::Done, 7)]);
     for count in 0..1000u64 {
@@ -93,7 +94,7 @@ const KEPT: &[Row] = &[
     (0, Call::Abort, Told::Done, 999),
 ];
 
-/// The thousand changes are aborted, and then committed.
+/// Makes the thousand changes and aborts them, then makes them once more and commits them.
 fn play_changes<R: Abort>(rt: &R, home: &mut SidedHome) {
     play(rt, home, FIRST);
     change_a_thousand(rt, home);
@@ -108,7 +109,8 @@ fn a_thousand_changes(rt: HostRuntime) {
     play_changes(&rt, &mut open_sided(&rt, rt.alloc(), 16, 1));
 }
 
-/// Sets a hundred savepoints; before each, key 1 and the side value are given the next level.
+/// Sets a hundred savepoints. Before each it gives the savepoint's level to the side value and to
+/// key 1.
 fn save_a_hundred<R: Abort>(rt: &R, home: &mut SidedHome) {
     for level in 1..101u64 {
         let had = (level > 1).then_some(level - 1);
@@ -121,8 +123,8 @@ fn save_a_hundred<R: Abort>(rt: &R, home: &mut SidedHome) {
     }
 }
 
-/// Returns to levels, and what key 1 and the side value have there. The side value was 7 before the
-/// transaction.
+/// Calls that return to levels, and read key 1 and the side value there. The side value was 7
+/// before the transaction.
 const LEVELS: &[Row] = &[
     (0, Call::Set(500), Told::Done, 500),
     (0, Call::Do(Op::Take(1)), Told::Replied(Some(100)), 500),
@@ -145,7 +147,7 @@ const LEVELS: &[Row] = &[
     (0, Call::Commit, Told::Number(1), 7),
 ];
 
-/// Sets the savepoints, and returns.
+/// Sets the savepoints, and returns to their levels.
 fn play_savepoints<R: Abort>(rt: &R, home: &mut SidedHome) {
     let begins = [
         (0, Call::Set(7), Told::Done, 7),
@@ -162,14 +164,15 @@ fn a_hundred_savepoints(rt: HostRuntime) {
     play_savepoints(&rt, &mut open_sided(&rt, rt.alloc(), 4, 1));
 }
 
-/// Makes a call, which must not be refused; whether it was not busy.
+/// Makes a call, which must not be refused. Answers whether it was not busy.
 fn is_made<R: Abort>(rt: &R, caller: &mut Sided, what: Call) -> bool {
     let told = answer(caller, what);
     assert!(rt; !matches!(told, Told::Refused(_)));
     !matches!(told, Told::Busy(_))
 }
 
-/// Adds one to a key, which counts as 0 if it is not there; whether no stripe was busy.
+/// Adds one to the value of a key, or to 0 if the key is not there. Answers whether no stripe was
+/// busy.
 fn adds_one<R: Abort>(rt: &R, caller: &mut Sided, key: u64) -> bool {
     let Told::Replied(had) = answer(caller, Call::Do(Op::Get(key))) else {
         return false;
@@ -180,7 +183,7 @@ fn adds_one<R: Abort>(rt: &R, caller: &mut Sided, key: u64) -> bool {
 }
 
 /// Adds one to the key that all share, gives the side value the next count, adds one to the
-/// caller's own key, and ends the transaction with `end`; whether no stripe was busy.
+/// caller's own key, and ends the transaction with `end`. Answers whether no stripe was busy.
 fn counts<R: Abort>(rt: &R, caller: &mut Sided, own: u64, next: u64, end: Call) -> bool {
     is_made(rt, caller, Call::Begin)
         && adds_one(rt, caller, 1)
@@ -189,8 +192,9 @@ fn counts<R: Abort>(rt: &R, caller: &mut Sided, own: u64, next: u64, end: Call) 
         && is_made(rt, caller, end)
 }
 
-/// Commits 300 transactions, and aborts every third. After each, whether committed, aborted or
-/// busy, the side value is the number of those that were committed.
+/// Runs transactions until 300 are committed; every third ends with an abort. After each, whether
+/// it was committed, aborted or busy, the side value is the number of transactions committed so
+/// far.
 fn count_to_300<R: Abort>(rt: &R, caller: &mut Sided, own: u64) {
     let mut count = 0u64;
     for round in 0..u64::MAX {
@@ -226,8 +230,8 @@ fn have_count<R: Abort>(rt: &R, callers: &[Sided], count: u64) {
     }
 }
 
-/// Two threads have counted in their side values exactly what they have committed. Each one's own
-/// key has its count, and the key that they share has the sum of both.
+/// Two threads count in their side values exactly the transactions that they commit. Each caller's
+/// own key then has the caller's count, and the key that both share has the sum of the counts.
 fn play_counts<R: Threads + Wait + Abort + Sync>(rt: &R, home: &mut SidedHome) {
     count_all(rt, home.callers.as_mut_slice());
     have_count(rt, home.callers.as_slice(), 300);

@@ -1,6 +1,6 @@
 //! Threads for callers: `in_threads` does a `Work` with each caller, in a thread for each. No test
 //! is here; `histories` and `transfers` name their work as a value. The closure of a thread scope
-//! has no `assert!` in it, since one is slow to prove there.
+//! has no `assert!` in it, since an `assert!` is slow to prove there.
 use crate::calls::{Row, ask_row};
 use crate::transfers::{move_many, take_part};
 use std::process::Abort;
@@ -16,18 +16,19 @@ pub(crate) enum Work<'a> {
     Calls(&'a [Row]),
     /// Moves many sums between accounts.
     Moves,
-    /// The caller of place 0 commits after a while, and each other makes a transfer meanwhile.
+    /// The caller at place 0 commits after a while. Meanwhile every other caller makes a transfer.
     TakesPart,
 }
 
-/// Makes these calls, whatever their places. Each must be answered as the table says.
+/// Makes the calls of all rows on this caller, and ignores the places in the rows. Each must be
+/// answered as its row says.
 fn ask_all<R: Abort>(rt: &R, caller: &mut Caller, rows: &[Row]) {
     for (row, &(_, what, wanted)) in rows.iter().enumerate() {
         ask_row(rt, caller, row, what, wanted);
     }
 }
 
-/// Does the work of the caller of a place.
+/// Does the work of the caller at this place.
 fn do_work<R: Abort>(rt: &R, caller: &mut Caller, place: usize, what: Work) {
     match what {
         Work::Calls(rows) => ask_all(rt, caller, rows),

@@ -11,7 +11,7 @@ use std::thread::Threads;
 use striped_map::{Caller, Host, Stop};
 use txn_words::Op;
 
-/// Asks for a transfer; none between an account and itself.
+/// Asks for a transfer. Answers false if both accounts are the same.
 fn moved(caller: &mut Caller, tries: u64, from: u64, to: u64, sum: u64) -> Result<bool, Stop> {
     if from == to {
         return Ok(false);
@@ -19,14 +19,14 @@ fn moved(caller: &mut Caller, tries: u64, from: u64, to: u64, sum: u64) -> Resul
     transfer(caller, tries, from, to, sum)
 }
 
-/// Asks for a transfer, with as many tries as it takes: it must be made or not, as the row says.
+/// Asks for a transfer, with as many tries as it takes. The answer must be as the row says.
 fn must_move<R: Abort>(rt: &R, caller: &mut Caller, row: usize, what: (u64, u64, u64, bool)) {
     let (from, to, sum, wanted) = what;
     let is_moved = moved(caller, u64::MAX, from, to, sum);
     must(rt, row, is_moved == Ok(wanted));
 }
 
-/// The first caller tries once to move 10 from account 1 to account 2: it must answer so.
+/// The first caller tries once to move 10 from account 1 to account 2. The answer must be `wanted`.
 fn asks<R: Abort>(rt: &R, home: &mut Home, wanted: Result<bool, Stop>) {
     assert!(rt; 0 < home.callers.len());
     let is_moved = moved(&mut home.callers[0], 0, 1, 2, 10);
@@ -62,7 +62,7 @@ fn transfer_all<R: Abort>(rt: &R, home: &mut Home) {
     }
 }
 
-/// Makes them, and looks at what is left.
+/// Makes the transfers, and looks at the balances that are left.
 fn play_transfers<R: Abort>(rt: &R, home: &mut Home) {
     play(rt, home, FILLED);
     transfer_all(rt, home);
@@ -100,7 +100,7 @@ fn busy_to_the_end_of_the_holder(rt: HostRuntime) {
     play_busy(&rt, &mut open(&rt, rt.alloc(), 4, 2));
 }
 
-/// The caller of place 0 commits after a while; the other moves 10 meanwhile.
+/// The caller at place 0 commits after a while. Meanwhile the other caller moves 10.
 pub(crate) fn take_part<R: Abort>(rt: &R, caller: &mut Caller, place: usize) {
     if place > 0 {
         return must_move(rt, caller, 0, (1, 2, 10, true));
@@ -139,7 +139,8 @@ fn fill<R: Abort>(rt: &R, home: &mut Home) {
     play(rt, home, &[(0, Ask::Commit, Told::Number(1))]);
 }
 
-/// Moves sums between accounts that look random. Each transfer must be made or refused for its sum.
+/// Moves sums between accounts; accounts and sums look random. Each transfer must be made, or
+/// refused for its sum.
 pub(crate) fn move_many<R: Abort>(rt: &R, caller: &mut Caller, seed: u64) {
     let mut dice = seed;
     for _ in 0..1000u64 {
@@ -167,7 +168,7 @@ fn play_sums<R: Threads + Wait + Abort + Sync>(rt: &R, home: &mut Home) {
     assert!(rt; total(&mut home.host) == Some(800));
 }
 
-/// Whatever four threads move, all accounts together have what they had.
+/// Whatever four threads move, the sum of all accounts stays the same.
 #[test]
 fn sum_stays(rt: HostRuntime) {
     play_sums(&rt, &mut open(&rt, rt.alloc(), 16, 4));

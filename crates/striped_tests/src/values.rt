@@ -19,8 +19,8 @@ enum Call {
     Pairs,
 }
 
-/// The answer to a request: done, a reply, a number (of `Pairs`, how many there are), yes or no, or
-/// why the call stopped.
+/// The answer to a request: done, a reply, a number (for `Pairs` the number of pairs), yes or no,
+/// or why the call stopped.
 #[derive(Clone, Copy, PartialEq, Eq)]
 enum Answer {
     Done,
@@ -63,7 +63,7 @@ type Line = (Call, Answer);
 /// A key that was not there.
 const NONE: Answer = Answer::Replied(None);
 
-/// Each kind of call, over the pair (1, 5) that was there. `Empty`, `Len` and `Pairs` take every
+/// Each kind of call, on a map that has the pair (1, 5). `Empty`, `Len` and `Pairs` take every
 /// stripe.
 const CALLS: &[Line] = &[
     (Call::Do(Op::Get(1)), Answer::Replied(Some(5))),
@@ -113,7 +113,7 @@ fn ask_all<R: Abort>(rt: &R, t: &mut Transaction<'_>, lines: &[Line]) {
     }
 }
 
-/// Ends a transaction; the place of its commit, or 0.
+/// Ends a transaction. Answers the place of its commit, or 0 if it is aborted or dropped.
 fn end_so(t: Transaction<'_>, end: End) -> Result<u64, Stop> {
     match end {
         End::Commits => return t.commit(),
@@ -161,7 +161,7 @@ const AFTER: &[Row] = &[
     (1, Ask::Commit, Told::Number(2)),
 ];
 
-/// Plays a transaction of caller 1, which must end so.
+/// Plays a transaction of caller 1. The answer at its end must be `wanted`.
 fn play_first<R: Abort>(
     rt: &R,
     home: &mut Home,
@@ -174,7 +174,7 @@ fn play_first<R: Abort>(
     assert!(rt; ended == wanted);
 }
 
-/// This number of calls of caller 1 are taken back.
+/// Caller 1 makes this number of calls, and the end of its transaction takes them back.
 fn taken_back<R: Abort>(rt: &R, home: &mut Home, calls: usize, end: End) {
     play(rt, home, HOLDS);
     play(rt, home, LETS_GO);
@@ -236,7 +236,7 @@ fn over_once_busy(rt: HostRuntime) {
     play_busy(&rt, &mut open(&rt, rt.alloc(), 4, 2));
 }
 
-/// Caller 1 begins by itself.
+/// Caller 1 begins a transaction by `Caller::begin`, not as a value.
 const BEGINS: &[Row] = &[
     (0, Ask::Begin, Told::Done),
     (0, Ask::Do(Op::Put(1, 5)), NEW),
@@ -259,7 +259,7 @@ fn begun_already(rt: HostRuntime) {
     play_begun(&rt, &mut open(&rt, rt.alloc(), 4, 1));
 }
 
-/// Puts 10 at key 1, and returns early at a level that is not there.
+/// Puts 10 at key 1, and goes back to a level that is not there, so it returns early.
 fn goes_too_far(caller: &mut Caller) -> Result<u64, Stop> {
     let mut t = Transaction::begin(caller)?;
     t.put(1, 10)?;

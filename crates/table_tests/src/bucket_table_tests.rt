@@ -1,5 +1,5 @@
 //! Tests of `bucket_table`: worked runs, and refused allocations. The contracts say what each call
-//! answers, but not that memory is given to it while there is some. The answers and the nodes of
+//! answers, but not that it is given memory while there is some. The answers and the nodes of
 //! the list were worked out by hand. All calls are made by `home`.
 mod home;
 
@@ -22,7 +22,8 @@ fn is_refused(alloc: Global) -> bool {
     Box::new(alloc, 0).is_err()
 }
 
-/// A list and buckets on it, made once more if memory is refused, or `None` if it is refused again.
+/// Makes a list and buckets on it, and tries once more if memory is refused. Answers `None` if
+/// memory is refused both times.
 fn home_again(alloc: Global, max: u32, helpers: u32) -> Option<Home> {
     match Home::new(alloc, 0, max, helpers) {
         Some(home) => Some(home),
@@ -30,8 +31,8 @@ fn home_again(alloc: Global, max: u32, helpers: u32) -> Option<Home> {
     }
 }
 
-/// Puts a key, once more if memory is refused, which leaves the list unchanged. Answers whether the
-/// key is there now.
+/// Puts a key, and tries once more if memory is refused; the refusal must leave the list unchanged.
+/// Answers whether the key is there now.
 fn has_put(rt: &impl Abort, home: &mut Home, number: u64) -> bool {
     let before = home.figures();
     for _ in 0..2 {
@@ -65,7 +66,7 @@ const STORED: [(Call, Answer); 2] = [
     (Call::Seek(0, 1), Answer::Seek(Ok(InitSeek::Ready))),
 ];
 
-/// With fewer than five keys the table does not double, but helpers go on: one that is refused
+/// With fewer than five keys the table does not double, but helpers go on: a helper that is refused
 /// memory keeps its cursor.
 fn help_few_keys(rt: &impl Abort, home: &mut Home) {
     make_all(rt, home, &FEW_KEYS);
@@ -86,8 +87,8 @@ const DOUBLINGS: [(Call, Answer); 3] = [
     (Call::Double(4), Answer::Double(Double::Light)),
 ];
 
-/// Puts keys 1 to 5, after which the size is 4. If memory is refused again there are fewer, and the
-/// answer is false.
+/// Puts keys 1 to 5 and doubles the size to 4. Answers false if memory is refused twice for a key;
+/// there are then fewer keys.
 fn has_five_keys(rt: &impl Abort, home: &mut Home) -> bool {
     if !has_put_all(rt, home, &[1, 2, 3, 4]) {
         help_few_keys(rt, home);
@@ -135,8 +136,8 @@ const INITIALISED: [(Call, Answer); 16] = [
     (Call::Seek(1, 3), Answer::Seek(Ok(InitSeek::Ready))),
 ];
 
-/// The five keys, with buckets 1 and 3 initialised. If memory is refused again there are fewer, and
-/// the answer is false.
+/// Puts the five keys, and initialises buckets 1 and 3. Answers false if memory is refused twice
+/// for a key; there are then fewer keys.
 fn is_initialised(rt: &impl Abort, home: &mut Home) -> bool {
     if !has_five_keys(rt, home) {
         return false;
@@ -146,7 +147,7 @@ fn is_initialised(rt: &impl Abort, home: &mut Home) -> bool {
     true
 }
 
-/// A table of largest size 8 for two helpers, if there is memory for one.
+/// A table of largest size 8 for two helpers, if there is memory for it.
 fn home_for_two(alloc: Global) -> Option<Home> {
     home_again(alloc, 8, 2)
 }
@@ -159,8 +160,8 @@ fn is_filled(rt: &impl Abort, alloc: Global) -> bool {
     }
 }
 
-/// Meant to be run with allocations refused: only if memory is refused again are there fewer keys,
-/// or no table.
+/// Meant to be run with allocations refused. If keys or the table are missing, memory must still be
+/// refused.
 #[test]
 fn bucket_initialisation(rt: HostRuntime) {
     assert!(rt; is_filled(&rt, rt.alloc()) || is_refused(rt.alloc()));
@@ -206,7 +207,7 @@ const STAMPS_USED_UP: [(Call, Answer); 5] = [
     (Call::Link(1), Answer::Link(Err(InitRefusal::NoSuchHelper))),
 ];
 
-/// Two buckets are at the limit.
+/// Doublings of a table of two buckets that may not grow.
 const AT_LIMIT: [(Call, Answer); 2] = [
     (Call::Double(4), Answer::Double(Double::Moved(2))),
     (Call::Double(2), Answer::Double(Double::AtLimit)),
@@ -275,8 +276,8 @@ fn keep_spares(home: &mut Home, spares: u32) -> Result<(), SpareFault> {
     Ok(())
 }
 
-/// Initialises bucket 1. If memory is refused to the link, buckets and list are unchanged, and it
-/// is tried again: if it is refused once more, the test gives up.
+/// Initialises bucket 1. If the link is refused memory, buckets and list must be unchanged, and the
+/// link is tried once more. If it is refused memory again, the test fails.
 fn initialise_1(rt: &impl Abort, home: &mut Home) -> Result<(), Fail> {
     let seen = home.figures();
     assert!(rt; home.make(Call::Seek(0, 1)) == Answer::Seek(Ok(InitSeek::Placed)));

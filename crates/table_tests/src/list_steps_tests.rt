@@ -107,7 +107,7 @@ fn take(list: &mut NodeList, number: u64) -> Result<Answer, Fail> {
     Ok(Answer::Value(mark_at(list, node)))
 }
 
-/// Writes the value of a key that is there, and answers the one that it had.
+/// Writes the value of a key that is there, and answers the value before the write.
 fn write(list: &mut NodeList, number: u64, value: u64) -> Result<Answer, Fail> {
     let at = at(number);
     let cursor = seek_from_head(list, at);
@@ -250,7 +250,7 @@ fn value_of(list: &NodeList, node: NodeRef) -> Result<u64, Fail> {
     Ok(list.linked_node(node).ok_or("no node")?.value)
 }
 
-/// Whether a seek to the end of the list ends at its first node, with none behind that.
+/// Whether a seek to the end of the list ends at its first node, which has no node behind it.
 fn ends_at_the_head(list: &mut NodeList) -> bool {
     let at = at(u64::MAX);
     let cursor = seek_from_head(list, at);
@@ -557,7 +557,7 @@ fn sweep_from_dummy(list: &mut NodeList, dummy: NodeRef) -> SweepOutcome {
     sweep(list)
 }
 
-/// Takes a key that is live in the plain list, and puts one that is not.
+/// Takes the key of a rank if it is live in the plain list. Otherwise puts the key.
 fn take_or_put(list: &mut NodeList, plain: &mut [Plain; 8], rank: usize) -> Result<(), Fail> {
     seek_plainly(plain, rank);
     let key = *ORDER.get(rank).ok_or("no such rank")?;
@@ -572,7 +572,7 @@ fn take_or_put(list: &mut NodeList, plain: &mut [Plain; 8], rank: usize) -> Resu
     Ok(())
 }
 
-/// Takes the step that a number stands for, on a list and on a plain one.
+/// Takes the step that a drawn number stands for, on a list and on a plain list.
 fn take_step(
     list: &mut NodeList,
     plain: &mut [Plain; 8],
@@ -597,7 +597,7 @@ fn is_as_plain(alloc: Global, list: &NodeList, plain: &[Plain; 8]) -> Result<boo
     Ok(found.as_slice() == wanted.as_slice() && list.marks_begin() == plain_marks_begin(plain))
 }
 
-/// Takes a drawn step on both, and compares them.
+/// Takes a drawn step on a list and on a plain list, and compares the two lists.
 fn compare_step(
     rt: &impl Abort,
     alloc: Global,

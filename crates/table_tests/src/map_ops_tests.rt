@@ -1,6 +1,6 @@
 //! Tests of `map_ops`; here are the calls of a table that several of the modules share. `runs` has
-//! worked runs, `split_keys` has keys that share a split key, and `refused` has refused memory. No
-//! contract says that a call is given memory while there is some.
+//! worked runs, `split_keys` has keys that share a split key, and `refused` has refused memory. By
+//! contract a call may be refused memory even if there is some.
 ghost use Rattle.std.specs.Prelude.{IfOk, IfSome};
 ghost use Rattle.map_ops.specs.Changes.{OwnsIf, ShowsAfter};
 
@@ -66,7 +66,7 @@ fn content_of(alloc: Global, table: &Table) -> Result<BTreeMap<u64, u64>, AllocE
     }
 }
 
-/// Whether these are all pairs of a content.
+/// Whether a content has exactly these pairs.
 fn has_each(content: &BTreeMap<u64, u64>, wanted: &[(u64, u64)]) -> bool {
     for (key, value) in wanted {
         if content.get(key).copied() != Some(*value) {

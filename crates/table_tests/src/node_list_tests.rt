@@ -1,6 +1,6 @@
-//! Tests of `node_list`: that each call succeeds, and the list after a refused allocation. No
-//! contract says that a spare is given while there is memory. The lists have at most two linked
-//! nodes, so a device can test what a call requires before it makes the call.
+//! Tests of `node_list`: that each call succeeds, and the list after a refused allocation. By
+//! contract a spare may be refused even if there is memory. The lists have at most two linked
+//! nodes, so a function here can test what a call requires before it makes the call.
 use node_list::{Kind, NodeList, NodeRef, SpareFault};
 use split_key::{Key, SortKey};
 use std::alloc::{AllocError, Global};
@@ -17,7 +17,7 @@ fn list_again(alloc: Global, first_stamp: u64) -> Result<NodeList, AllocError> {
     }
 }
 
-/// The stamp of a spare, whose place stays kept.
+/// The stamp of a spare that is not given back, so that its place stays reserved.
 fn stamp_of_spare(list: &mut NodeList) -> Result<u64, SpareFault> {
     Ok(list.spare()?.stamp())
 }
@@ -66,7 +66,7 @@ fn second(list: &NodeList) -> Option<NodeRef> {
     list.linked_node(list.head())?.next()
 }
 
-/// Whether the second node is at this place.
+/// Checks that the second node is at this place.
 fn is_second(list: &NodeList, place: NodeRef) -> Result<(), Fail> {
     if second(list) != Some(place) {
         return Err("another second node".into());
@@ -74,7 +74,7 @@ fn is_second(list: &NodeList, place: NodeRef) -> Result<(), Fail> {
     Ok(())
 }
 
-/// Whether no node is linked at a place.
+/// Checks that no node is linked at a place.
 fn is_vacant(list: &NodeList, place: NodeRef) -> Result<(), Fail> {
     if list.linked_node(place).is_some() {
         return Err("still linked".into());

@@ -1,5 +1,5 @@
 //! Tests of `probe_map`: drawn calls compared with a plain list, keys that share a home, growth,
-//! removed keys, and refused allocations. No contract says that room is made while there is memory.
+//! removed keys, and refused allocations. By contract room may be refused even if there is memory.
 //! Contracts hide the slots, so keys are chosen here whose homes (the slots at which a probe
 //! begins) are the first slot and the last.
 use crate::draws::{Draws, draw};
@@ -30,7 +30,7 @@ fn put(rt: &impl Abort, map: &mut ProbeMap, key: u64, value: u64) -> Result<Opti
     put_reserved(map, key, value)
 }
 
-/// Puts a value at a key for which there is room.
+/// Makes room for a key, and puts a value at it. Fails if memory is refused.
 fn put_reserved(map: &mut ProbeMap, key: u64, value: u64) -> Result<Option<u64>, Fail> {
     map.reserve(1)?;
     Ok(map.insert(key, value))
@@ -69,7 +69,8 @@ fn plain_take(plain: &mut Vec<(u64, u64)>, key: u64) -> Option<u64> {
     before
 }
 
-/// One call on both, drawn: half puts, a quarter takes, a quarter gets.
+/// Makes one drawn call on the map and the plain list: half of the calls are puts, a quarter takes
+/// and a quarter gets.
 fn step_both(
     rt: &impl Abort,
     draws: &mut Draws,
@@ -97,7 +98,7 @@ fn step_both(
     Ok(())
 }
 
-/// Checks that both have the same pairs.
+/// Checks that the map and the plain list have the same pairs.
 fn is_alike(
     rt: &impl Abort,
     alloc: Global,
@@ -121,7 +122,7 @@ fn draw_key(draws: &mut Draws, keys: u64) -> u64 {
     }
 }
 
-/// Makes 4,000 drawn calls on both, and compares them.
+/// Makes 4,000 drawn calls on the map and the plain list, and compares the two.
 fn step_often(
     rt: &impl Abort,
     alloc: Global,
@@ -225,7 +226,7 @@ fn put_and_take(rt: &impl Abort, map: &mut ProbeMap) -> Result<(), Fail> {
     Ok(())
 }
 
-/// Checks that fifty pairs are those that are left.
+/// Checks that these are the fifty pairs that `put_and_take` leaves.
 fn are_left(rt: &impl Abort, rows: &[(u64, u64)]) {
     assert!(rt; rows.len() == 50);
     for (place, pair) in rows.iter().enumerate() {
@@ -245,7 +246,7 @@ fn refused_memory(rt: HostRuntime) -> Result<(), Fail> {
     put_and_look(&rt, rt.alloc(), &mut ProbeMap::new(rt.alloc()))
 }
 
-/// Puts 100,000 keys, and takes each after ten more.
+/// Puts 100,000 keys, and takes each key when ten more keys have been put after it.
 fn put_and_remove(rt: &impl Abort, map: &mut ProbeMap) -> Result<(), Fail> {
     for key in 0..100_000u64 {
         let before = put_reserved(map, key, key)?;

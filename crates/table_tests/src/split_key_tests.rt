@@ -15,9 +15,9 @@ enum Call {
     /// The number of a half key.
     Half(u64),
     Parent(u32),
-    /// The bucket of a key at a size.
+    /// The bucket of a key, in a table of this size.
     BucketOf(u64, u32),
-    /// The bucket of a position in the order at a size.
+    /// The bucket to which a position of the split order belongs, in a table of this size.
     BucketAt(u64, u32),
     Reverse(u64),
 }
@@ -60,7 +60,7 @@ fn bucket_of_number(number: u64, size: u32) -> Result<u32, Fail> {
     }
 }
 
-/// The bucket of a position in the order, in a table of one of these sizes.
+/// The bucket to which a position of the split order belongs, in a table of one of these sizes.
 fn bucket_at_split(split: u64, size: u32) -> Result<u32, Fail> {
     match size {
         1 => Ok(bucket_at(split, 1)),

@@ -1,6 +1,6 @@
 //! Tests of `stripe_part`: drawn operations compared with std's map, growth, and refused
-//! allocations. A part has no log, so the test keeps one beside it and one beside the plain map,
-//! and takes changes back by these. A refused operation leaves the part unchanged, and is made
+//! allocations. A part has no log, so the test keeps a log of the part and a log of the plain map,
+//! and takes changes back by these logs. A refused operation leaves the part unchanged, and is made
 //! again.
 use crate::draws::{Draws, draw};
 use std::alloc::{AllocError, Global};
@@ -267,7 +267,7 @@ fn are_first(rt: &impl Abort, pairs: &[(u64, u64)]) {
     }
 }
 
-/// Puts keys, takes some, and takes the takes and most puts back.
+/// Puts 300 keys and takes 100 of them. Then takes back these takes and the newest 200 puts.
 fn put_take_and_undo(rt: &impl Abort, alloc: Global, one: &mut Logged) -> Result<(), Fail> {
     put_keys(rt, alloc, one, 300)?;
     take_keys(rt, alloc, one, 100, 200)?;
@@ -310,7 +310,7 @@ fn put_rising(rt: &impl Abort, alloc: Global, part: &mut Part, keys: u64) {
     part.settle();
 }
 
-/// Puts 100,000 keys, takes them, and takes the takes back.
+/// Puts 100,000 keys and settles them, takes them all, and then takes back these takes.
 fn rise_and_fall(rt: &impl Abort, alloc: Global, one: &mut Logged) -> Result<(), Fail> {
     put_rising(rt, alloc, &mut one.part, 100_000);
     take_keys(rt, alloc, one, 0, 100_000)?;
@@ -320,8 +320,8 @@ fn rise_and_fall(rt: &impl Abort, alloc: Global, one: &mut Logged) -> Result<(),
     Ok(())
 }
 
-/// A part that has grown by rising keys has them all, and takes the takes of them back. The time of
-/// a test is enough only if the part grows.
+/// A part that has grown by rising keys has all of them: each is taken, and then these takes are
+/// taken back. The time of a test is enough only if the part grows.
 #[test]
 fn rising_keys(rt: HostRuntime) -> Result<(), Fail> {
     rise_and_fall(&rt, rt.alloc(), &mut fresh(rt.alloc()))

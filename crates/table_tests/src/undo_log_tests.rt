@@ -1,6 +1,6 @@
-//! Tests of `undo_log`: jobs of a count, a side value of four words, and refused allocations. No
-//! contract says that room is given while there is memory. The ninth job of a log is the first that
-//! may be refused, so no log here has more than nine. The values were worked out by hand.
+//! Tests of `undo_log`: jobs of a count, a side value of four words, and refused allocations. By
+//! contract room may be refused even if there is memory. The ninth job of a log is the first that
+//! may be refused, so no log here has more than nine jobs. The values were worked out by hand.
 ghost use Rattle.std.specs.Prelude.{◌≡◌, length};
 
 use std::alloc::{AllocError, Global};
@@ -59,8 +59,8 @@ fn save(rt: &impl Abort, log: &mut UndoLog<Raised>) -> Option<usize> {
     log.save().ok()
 }
 
-/// Takes out the newest job above a level and runs it on its count, which goes back by one. `None`
-/// if there is no such job, or it is of another count.
+/// Takes out the newest job above a level and runs it on its count, which goes back by one. Answers
+/// `None` if there is no such job, or if the job's number is not this count.
 fn run_newest(log: &mut UndoLog<Raised>, level: usize, count: u64) -> Option<u64> {
     if level > log.level() {
         return None;
@@ -100,12 +100,12 @@ fn kept(log: &UndoLog<Raised>, level: usize) -> Option<usize> {
     Some(log.kept(level))
 }
 
-/// Level, number of jobs and whether there is none.
+/// The level, the number of jobs, and whether the log is empty.
 fn figures(log: &UndoLog<Raised>) -> (usize, usize, bool) {
     (log.level(), log.len(), log.is_empty())
 }
 
-/// Takes back all jobs, which are this many, newest first. Needs no memory.
+/// Checks the number of jobs, and takes all jobs back, newest first. Needs no memory.
 fn take_back(rt: &impl Abort, log: &mut UndoLog<Raised>, jobs: u64) -> Result<(), Fail> {
     assert!(rt; log.len() as u64 == jobs);
     for expected in [9, 8, 7, 6, 5, 4, 3, 2, 1] {
@@ -122,8 +122,8 @@ fn take_back(rt: &impl Abort, log: &mut UndoLog<Raised>, jobs: u64) -> Result<()
     Ok(())
 }
 
-/// A log of eight jobs, which needs no memory. It is proved that none of them is refused, and that
-/// the next one needs memory.
+/// A log of eight jobs, which needs no memory. It is proved that none of the eight jobs is refused,
+/// and that no room is left for a ninth.
 fn eight_jobs(alloc: Global) -> UndoLog<Raised>
     ensures jobs { length result.jobs ≡ 8 }
     ensures room { result.room ≡ 0 }
@@ -190,7 +190,7 @@ fn return_to_1(rt: &impl Abort, log: &mut UndoLog<Raised>) -> Result<(), Fail> {
     Ok(())
 }
 
-/// Also run with allocations refused, which are those of the savepoints.
+/// Also run with allocations refused; only the savepoints allocate.
 #[test]
 fn a_savepoint_keeps_its_jobs(rt: HostRuntime) -> Result<(), Fail> {
     save_and_return(&rt, rt.alloc(), &mut empty_log(rt.alloc()))
@@ -282,7 +282,8 @@ fn a_register(words: [u64; 4]) -> Register
     Register { words }
 }
 
-/// Sets the words, trying twice if memory is refused once. `None` if it is refused again.
+/// Sets the words, trying twice if memory is refused once. Answers `None` if memory is refused
+/// again.
 fn set(rt: &impl Abort, side: &mut SideValue<Register>, words: [u64; 4]) -> Option<()> {
     let before = side.words();
     let job = WordsJob {
@@ -316,8 +317,9 @@ fn words_back(rt: &impl Abort, side: &mut SideValue<Register>, level: usize) -> 
     side.words()
 }
 
-/// The words after a change, a savepoint and two more changes, and back at the savepoint; `None` if
-/// one of them is refused memory twice.
+/// Makes a change, a savepoint and two more changes, and goes back to the savepoint. Answers the
+/// words before and after going back, or `None` if a change or the savepoint is refused memory
+/// twice.
 fn words_there(rt: &impl Abort, side: &mut SideValue<Register>) -> Option<[[u64; 4]; 2]> {
     set(rt, side, [1, 0, 0, 0])?;
     assert!(rt; save_side(rt, side)? == 1);
@@ -350,7 +352,7 @@ fn go_and_return(rt: &impl Abort, alloc: Global, side: &mut SideValue<Register>)
     assert!(rt; words_back(rt, side, 0) == [0, 0, 0, 0]);
 }
 
-/// Whether a change to 1 in the first word is made, and a savepoint after it.
+/// Sets the first word to 1, and then makes a savepoint. Answers whether both were done.
 fn is_saved_at_1(rt: &impl Abort, side: &mut SideValue<Register>) -> bool {
     set(rt, side, [1, 0, 0, 0]).is_some() && save_side(rt, side).is_some()
 }

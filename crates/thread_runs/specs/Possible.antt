@@ -9,7 +9,8 @@ use Rattle.txn_words.specs.Map.{key_of}
 use Rattle.txn_words.specs.Sizes.{is_bad_key}
 use Rattle.script_worker.specs.Accounts.{Outcome, Aborted, Refused}
 
--- Whether an action has a key that is refused; the argument says whether only half keys are taken.
+-- Whether an action has a key that is refused. The first argument says whether only half keys are
+-- allowed.
 abbrev pub has_bad_key : Bool → Action → Bool
 has_bad_key half (actions.Op op) = is_bad_key half (key_of op)
 has_bad_key half (actions.Help key) = is_bad_key half key

@@ -1,4 +1,4 @@
--- The entries that a worker's run of a script adds.
+-- The entries that a worker's run of a script adds, and the result of a run of all scripts.
 use Rattle.std.specs.Prelude.{◌≡◌, ◌<◌, ◌⊎◌, ℕ, Bool, Option, Some, None, true, false, List, ◌++◌, length, map, slice_get, is_some}
 use Rattle.std.specs.List.{All, AllByRecursion}
 use Rattle.txn_words.specs.declared.holder.Holder.TheVariants.{Begun}
@@ -70,7 +70,8 @@ Grows {S} k outcome false l =
     (outcome ≡ ends.Answered (answers.Done None)) × (key : ℕ) × (words : S → List ℕ)
     × Ended words k (calls.Help key) (ends.Refused OutOfStep) l
 
--- There is room for the reply of a call, and of an end.
+-- There is room for the reply of a call (`HasRoomFor`), or for an end's reply (`HasRoomAt`), if it
+-- has one.
 abbrev pub HasRoomFor : Call → ℕ → Type 0
 HasRoomFor (calls.Op op) room = 0 < room
 HasRoomFor call room = Unit {0}
@@ -102,7 +103,7 @@ abbrev pub AreToldIn : ℕ → ℕ → List (List Action) → List Outcome → L
 AreToldIn c tries scripts outcomes seen =
     is_some (seat_after seen) ≡ true → AreAccounts c tries (tolds_of scripts outcomes) seen
 
--- Each script may have the outcome that it has.
+-- Each script has an outcome that its actions allow.
 abbrev pub MayAllCome : Bool → List (List Action) → List Outcome → Type 0
 MayAllCome half scripts outcomes =
     AllByRecursion (λ told. MayCome half told.script told.outcome) (tolds_of scripts outcomes)

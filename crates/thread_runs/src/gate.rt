@@ -1,7 +1,7 @@
 //! The trait of gates: a run tells its gate what the workers do, and the gate may hold them up. It
 //! is for tests that need an order between threads. `Open` holds up no one. No call of a gate is
-//! made under the lock, so a worker that waits in one keeps no other from the map. A run promises
-//! the same with every gate.
+//! made under the lock, so a worker that waits in its gate keeps no other worker from the map. A
+//! run promises the same with every gate.
 /// An observer of workers in threads. Each call may make its worker wait.
 pub trait Gate: Sync {
     /// A worker is about to do an action of a script; the commit is the action after the last.

@@ -1,7 +1,7 @@
 //! The growth of the table while scripts run: at times a worker helps by itself, for the key of a
-//! put or a put-if. It is apart from the course of a script, since a help adds no entry and the
-//! history tells nothing of it. A worker counts only its own new keys, and helps at most once in
-//! seven.
+//! put or a put-if. This module is apart from the course of a script, since a help adds no entry
+//! and the history tells nothing of it. A worker counts only its own new keys, and helps at most
+//! once for every seven of them.
 ghost use Rattle.std.specs.Prelude.{◌≡◌, IfSome, None};
 ghost use Rattle.txn_words.specs.declared.answer.Answer.{Answer};
 ghost use Rattle.txn_drive.specs.declared.«end».End.{End};

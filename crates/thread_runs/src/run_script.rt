@@ -92,7 +92,7 @@ impl Heard {
         }
     }
 
-    /// The outcome of the script, which is over by the last call's end.
+    /// The outcome of the script, given its finish and the end of its last call.
     fn outcome(self, finish: Finish, end: End) -> Outcome
         ensures { told_of result ≡ outcome_by finish end (heard_of self) }
     {
@@ -149,8 +149,8 @@ fn give_way(end: End) {
     }
 }
 
-/// Runs a script to its outcome, by at most `tries` attempts after the first. The entries that it
-/// has added to the caller's are the account of that outcome, if all of the caller's have rows.
+/// Runs a script to its outcome, by at most `tries` attempts after the first. If all entries that
+/// the caller has seen have rows, those that the script added are the account of that outcome.
 pub(crate) fn run_script<L: Ledger, G: Gate, R: Wait>(
     rt: &R,
     alloc: Global,

@@ -129,11 +129,12 @@ fn most_changes(alloc: Global, scripts: &[Script], workers: usize) -> Result<Vec
     Ok(most)
 }
 
-/// Room for what scripts add if no change is taken back: two entries for each action but a help,
-/// and a begin and an end for each script; a node for each put, as many again for the dummies of
-/// buckets, up to the largest number of buckets, and a spare for each change of a transaction of
-/// each worker; and the worker's most changes in its log. With several workers the room is written
-/// before they start, and has half as many entries more, for attempts that are repeated.
+/// Room for what scripts add if no change is taken back. Entries: two for each action but a help,
+/// and a begin and an end for each script. Nodes: one for each put, as many again for the dummies
+/// of buckets, but at most the largest number of buckets, and for each worker as many spares as one
+/// of its scripts has changes at most. Each worker's log has room for as many changes. With several
+/// workers the room is written before they start, and has half as many entries more, for attempts
+/// that are repeated.
 fn room_for<'a>(scripts: &[Script], limits: Limits, changes: &'a [usize]) -> Room<'a> {
     let mut room = Room {
         entries: 0,

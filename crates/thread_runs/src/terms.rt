@@ -5,7 +5,7 @@
 use std::marker::Brand;
 
 /// The number of workers of a run, how often each tries a script again, and the scripts. Contracts
-/// name them by a type, since they go to threads and back: each run picks its own.
+/// name them by a type, since they go to threads and back. Each run picks its own type.
 pub(crate) trait Terms {
     ghost use Rattle.std.specs.Prelude.{ℕ, List};
     ghost use Rattle.txn_words.specs.declared.action.Action.{Action};

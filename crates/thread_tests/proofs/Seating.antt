@@ -6,7 +6,7 @@ use Rattle.key_words.specs.declared.seat.KeySeat.{KeySeat}
 use Rattle.key_words.specs.declared.words.KeyWords.{KeyWords}
 use Rattle.key_words.specs.Seats.{AreSeats, IsFresh}
 
--- Without the last, the list has the seats of the lower numbers, and the last one has the next
+-- Without its last seat, the list has the seats of the lower numbers. The last seat has the next
 -- number.
 pub without_last : (words : KeyWords) (seats rest : List KeySeat) (seat : KeySeat) → seats ≡ rest ++ seat ∷ [] → AreSeats words (length seats) seats
     → AreSeats words (length rest) rest × IsFresh words (length rest) seat

@@ -181,7 +181,7 @@ impl OnRelease for Unheard {
     fn on_release(&self) {}
 }
 
-/// Makes a call by its value.
+/// Makes a call by `SharedMap::run`, with no observer.
 pub(crate) fn run<L: Ledger, S: Side, R: Wait>(
     rt: &R,
     shared: &Shared<L>,
@@ -191,7 +191,7 @@ pub(crate) fn run<L: Ledger, S: Side, R: Wait>(
     run_heard(rt, shared, me, call, &Unheard)
 }
 
-/// Makes a call by its value, whose releases of the lock are observed.
+/// Makes a call by `SharedMap::run`. The observer is told of the call's releases of the lock.
 pub(crate) fn run_heard<L: Ledger, S: Side, H: OnRelease, R: Wait>(
     rt: &R,
     shared: &Shared<L>,
@@ -202,7 +202,7 @@ pub(crate) fn run_heard<L: Ledger, S: Side, H: OnRelease, R: Wait>(
     shared.map.run(rt, me, call, hears)
 }
 
-/// The answer to a call by its name that did what it was asked to do.
+/// The answer of `make` to a call that did what it was asked to do.
 #[derive(Clone, Copy, Debug, PartialEq, Eq)]
 pub(crate) enum Told {
     /// The number of a transaction or of a savepoint.
@@ -215,7 +215,7 @@ pub(crate) enum Told {
     Done,
 }
 
-/// Makes a call by its name.
+/// Makes a call by the method of its name, such as `SharedMap::begin`.
 pub(crate) fn make<L: Ledger, R: Wait>(
     rt: &R,
     shared: &Shared<L>,
@@ -260,7 +260,8 @@ fn operate<L: Ledger, R: Wait>(
     }
 }
 
-/// A map that does not close, and its callers, if one of these is missing.
+/// A map that was not closed, and the callers that were passed in, if a caller is missing or was
+/// passed in twice; `None` if the map was not closed for another reason.
 pub(crate) type Missing<L, S> = Option<(Shared<L>, Vec<Caller<L, S>>)>;
 
 /// Closes a map.
@@ -279,7 +280,7 @@ pub(crate) fn close_or_miss<L: Ledger, S: Side>(
     }
 }
 
-/// The parts of a map that closes.
+/// Closes a map, and answers its parts. Fails if the map does not close.
 pub(crate) fn close<L: Ledger, S: Side>(
     shared: Shared<L>,
     callers: Vec<Caller<L, S>>,
@@ -290,7 +291,7 @@ pub(crate) fn close<L: Ledger, S: Side>(
     }
 }
 
-/// The parts of a map that must close.
+/// Closes a map, and answers its parts. Panics if the map does not close.
 pub(crate) fn closed_of<L: Ledger, R: Abort>(
     rt: &R,
     shared: Shared<L>,
@@ -302,8 +303,8 @@ pub(crate) fn closed_of<L: Ledger, R: Abort>(
     }
 }
 
-/// The verdict of the checker on a history for this number of stripes; `None` if the history has an
-/// entry of a caller that the checker does not take.
+/// The verdict of the checker on a history for this number of stripes. Answers `None` if there are
+/// no stripes, or if the history has an entry of a caller that the checker does not allow.
 pub(crate) fn judge(
     alloc: Global,
     trace: &[SmallEntry],

@@ -76,8 +76,8 @@ impl<R: Wait + Abort + Clock + Sync> Gate for Listener<'_, R> {
     }
 }
 
-/// The calls that a gate gets in a run with this number of workers and of further tries. One worker
-/// alone does not wait; of two, the last script must be worker 1's.
+/// The calls that a gate gets in a run with this number of workers and of further tries. A single
+/// worker does not wait. With two workers, the last script must be worker 1's.
 fn heard_of<R: Threads + Wait + Abort + Clock + Sync>(
     rt: &R,
     alloc: Global,
@@ -140,8 +140,8 @@ fn is_own(
     Ok(is_heard(own.as_slice(), wanted))
 }
 
-/// A begin and a commit are one hold each, an operation three; an abort is three, and two for the
-/// change that it takes back.
+/// A begin and a commit take one hold each, and an operation takes three holds. The abort takes
+/// five: three, and two more for the change that it takes back.
 #[test]
 fn one_worker_is_heard(rt: HostRuntime) -> Result<(), Fail> {
     let first = [put(1, 10), Action::Op(Op::Get(9))];
@@ -169,7 +169,7 @@ fn one_worker_is_heard(rt: HostRuntime) -> Result<(), Fail> {
     Ok(())
 }
 
-/// Of two workers, with two scripts each, each has its own calls.
+/// Two workers have two scripts each. The calls of each worker are compared with its own table.
 #[test]
 fn two_workers_are_heard(rt: HostRuntime) -> Result<(), Fail> {
     let puts = [[put(1, 10)], [put(2, 20)], [put(3, 30)], [put(4, 40)]];

@@ -103,7 +103,8 @@ fn a_stripe_is_held_until_its_holder_releases(rt: HostRuntime) -> Result<(), Fai
     Ok(())
 }
 
-/// More stripes than there is memory for are refused.
+/// The rights are those of stripes 0, 1 and 2. `usize::MAX` stripes are refused, since there is no
+/// memory for so large a number.
 #[test]
 fn each_stripe_has_a_right(rt: HostRuntime) -> Result<(), Fail> {
     let rights = match StripeRight::all(rt.alloc(), 3) {

@@ -1,6 +1,7 @@
 //! Runs of scripts on threads: in an order that a gate forces, with any number of workers, and with
-//! memory refused. The contract of `run_scripts` lets each script be busy or refused; here those
-//! that meet no other must commit. If the order depends on the threads, the history is only judged.
+//! memory refused. The contract of `run_scripts` lets each script be busy or refused; here a script
+//! that shares no stripe with another must commit. If the order depends on the threads, the history
+//! is only judged.
 use crate::devices::{is_refused, is_settled, judge};
 use history_check::Verdict;
 use std::alloc::{AllocError, Global};
@@ -33,7 +34,7 @@ pub(crate) fn run<G: Gate, R: Threads + Wait + Sync>(
     run_scripts(rt, alloc, limits, scripts, count, tries, gate)
 }
 
-/// Scripts of these actions, a list for each.
+/// A script for each of these lists of actions.
 pub(crate) fn scripts_of(alloc: Global, lists: &[&[Action]]) -> Result<Vec<Script>, AllocError> {
     let mut scripts = Vec::new(alloc);
     for list in lists {
@@ -69,8 +70,8 @@ enum Place {
     Release(u64),
 }
 
-/// Worker 0 reaches a place, and does not go on before script 1 is done. Until it is there, worker
-/// 1 waits before an action.
+/// Worker 0 waits at a place until script 1 is done. Worker 1 waits before an action until worker 0
+/// has reached that place.
 #[derive(Drop)]
 struct Meeting<'a, R: Abort + Clock + Sync> {
     rt: &'a R,
@@ -231,7 +232,7 @@ fn run_once<R: Threads + Wait + Abort + Sync>(
     Ok(())
 }
 
-/// These scripts with 1 to 6 workers, 300 runs in all.
+/// Runs the six scripts with 1 to 6 workers, 300 times in all.
 #[test]
 fn run_any_workers(rt: HostRuntime) -> Result<(), Fail> {
     for round in 0..300 {
@@ -250,7 +251,8 @@ fn script(alloc: Global, number: u64) -> Result<Script, AllocError> {
     Script::of_actions(alloc, &actions)
 }
 
-/// The commit number of script `number`, committed with its replies; else 0.
+/// The commit number of script `number` if the script is committed with the replies that it must
+/// have; else 0.
 fn own_place(number: u64, outcome: &Outcome) -> u64 {
     match outcome {
         Outcome::Committed { place, replies, .. }
@@ -269,7 +271,8 @@ fn places(alloc: Global, ran: &Ran) -> Result<Vec<u64>, AllocError> {
     Ok(places)
 }
 
-/// Four workers. Each script is committed with its replies, and no two with the same number.
+/// Four workers run the scripts. Each script is committed with the replies that it must have, and
+/// the commit numbers are 1 to 400.
 #[test]
 fn four_hundred_scripts(rt: HostRuntime) -> Result<(), Fail> {
     let alloc = rt.alloc();
@@ -288,8 +291,8 @@ fn four_hundred_scripts(rt: HostRuntime) -> Result<(), Fail> {
     Ok(())
 }
 
-/// The result of the scripts of `crossing_gate` with one worker; `None` if memory for that or a
-/// thread is refused.
+/// Runs the scripts of `crossing_gate` with one worker. Answers `None` if memory or a thread is
+/// refused.
 fn ran_alone<R: Threads + Wait + Abort + Sync>(rt: &R, alloc: Global) -> Option<Ran> {
     let Ok(scripts) = crossing_scripts(alloc) else {
         return None;

@@ -125,8 +125,9 @@ fn callers_of(alloc: Global, stripes: usize, count: usize) -> Result<Vec<Keeping
     Ok(all)
 }
 
-/// Takes a stripe, and answers the word that it found: 0 if the stripe is granted, with its right.
-/// `None` if there is no such stripe, or the right is that of another stripe.
+/// Takes a stripe, and keeps the right if the stripe is granted. Answers the word that was found: 0
+/// if the stripe was free. Answers `None` if there is no such stripe, or the right is that of
+/// another stripe.
 fn take(seated: &mut Seated, stripe: usize) -> Option<u64> {
     if stripe >= seated.stripes {
         return None;
@@ -160,7 +161,7 @@ fn give(seated: &mut Seated) -> bool {
     }
 }
 
-/// A seat takes stripe 1. Until it gives the stripe back, both seats find its word there.
+/// Seat 0 takes stripe 1. Until seat 0 gives the stripe back, both seats find its word, 1, there.
 #[test]
 fn words_of_stripes(rt: HostRuntime) -> Result<(), Fail> {
     let mut seats = seats_of(rt.alloc(), 8, 2)?;
@@ -191,8 +192,8 @@ enum Turn {
     GiveBack,
 }
 
-/// Plays a turn. Answers whether a take had the answer that it must have, and the right at its
-/// position is the stripe's.
+/// Plays a turn. Answers whether a take had the answer that it must have, and whether the right at
+/// the position in that answer is the stripe's.
 fn is_answered(caller: &mut Keeping, turn: Turn) -> Result<bool, AllocError> {
     let Turn::Take(stripe, wanted) = turn else {
         caller.rights.give_back(&*caller.words);
@@ -209,7 +210,7 @@ fn is_answered(caller: &mut Keeping, turn: Turn) -> Result<bool, AllocError> {
 }
 
 /// A take answers the position of the right if the caller has the stripe, the next position if the
-/// stripe is free, and one more than the other caller's number if that one has it.
+/// stripe is free, and one more than the other caller's number if the other caller has the stripe.
 #[test]
 fn rights_of_two_callers(rt: HostRuntime) -> Result<(), Fail> {
     let mut callers = callers_of(rt.alloc(), 8, 2)?;

@@ -1,6 +1,6 @@
-//! A work in a thread that looks at one key. By it tests see whether works were started, and which
-//! values they found; `shared` and `restarts` do so, and no test is here. A look may be refused
-//! memory, but it fails the test if it finds another value.
+//! A work in a thread that looks at one key. The tests of `shared` and `restarts` use it to see
+//! whether works were started, and which values they found; no test is here. A look may be refused
+//! memory, but it fails the test if it finds a wrong value.
 ghost use Rattle.shared_transactions.specs.Keeps.{Keeps};
 
 use boost_core::Core;

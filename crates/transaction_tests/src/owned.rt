@@ -153,8 +153,8 @@ fn grow(rt: &impl Abort, map: &mut OwnedMap) {
     assert_eq!(rt; counts_of(map), (0, 2, true));
     let count = fill(rt, map);
     if count == KEYS {
-        // A bucket is due for every two keys, and the table doubles if the next bucket that is due
-        // is not below its size: at 6, 10, 18 and 34.
+        // Every two keys need one more initialised bucket. If all buckets are initialised already,
+        // the table doubles: at 6, 10, 18 and 34 keys.
         assert_eq!(rt; counts_of(map), (40, 32, false));
     }
     has_keys(rt, map, count);

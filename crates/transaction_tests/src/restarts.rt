@@ -76,9 +76,9 @@ fn restart<R: Threads + Wait + Sync + Abort>(
     }
 }
 
-/// Makes maps without pairs and with a thousand, at the least and at the greatest limits, from
-/// cores of other limits, with as many works as the callers allow. The history must begin with the
-/// puts of the pairs.
+/// Makes maps with no pairs and with a thousand pairs: at the least limits from cores of the
+/// greatest limits, and the other way round. There are as many works as the callers allow. The
+/// history must begin with the puts of the pairs.
 #[test]
 fn every_restart_is_made(rt: HostRuntime) -> Result<(), Fail> {
     let least = Limits::new(1, 1, 2)?;
@@ -126,7 +126,7 @@ fn a_caller_is_missing(rt: HostRuntime) -> Result<(), Fail> {
 const HALF: u64 = 9_223_372_036_854_775_808;
 
 /// A map that takes only half keys cannot begin with the pairs of a core that has the key 2^63. It
-/// can with those of a core that has the keys 2^63 - 2 and 2^63 - 1.
+/// can begin with the pairs of a core that has the keys 2^63 - 2 and 2^63 - 1.
 #[test]
 fn a_key_is_too_large(rt: HostRuntime) -> Result<(), Fail> {
     let limits = Limits::new(2, 8, 64)?;

@@ -221,13 +221,13 @@ fn work_on<L: Ledger, R: Wait + Abort>(
 /// Checks how far the table of a core has grown, if all keys were put.
 fn has_grown(rt: &impl Abort, core: &Core, count: u64) {
     if count == KEYS {
-        // It doubles if there are more than two keys for each bucket: at 5, 9 and 17.
+        // The table doubles if there are more than two keys for each bucket: at 5, 9 and 17 keys.
         assert_eq!(rt; core.size(), 16);
     }
 }
 
-/// Makes a new map with the pairs of a core, on which a work looks at the first key, if memory is
-/// not refused. Checks that the new core has the same pairs.
+/// Makes a new map with the pairs of a core, and looks at the first key in a work. If memory is not
+/// refused, checks that the new core has the same pairs.
 fn goes_on<R: Threads + Wait + Sync + Abort>(
     rt: &R,
     alloc: Global,

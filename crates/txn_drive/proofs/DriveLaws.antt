@@ -51,7 +51,7 @@ made_if_ended drive = made_by_turn drive (turn_of drive) (ended-turn_of drive (t
 pub made_at_end : (drive : Drive) (outcome : End) → end_of drive ≡ Some outcome → IsMade drive.caller drive.call outcome (made drive)
 made_at_end drive outcome is = subst (λ (o : Option End). IfSome o (λ e. IsMade drive.caller drive.call e (made drive))) is (made_if_ended drive)
 
--- Only the turn `Ended` of an end tells that the call has ended by it.
+-- If a turn tells that the call has ended by `outcome`, the turn is `Ended outcome`.
 pub turn_of_end : (turn : Turn) (outcome : End) → ended_by turn ≡ Some outcome → Ended outcome ≡ turn
 turn_of_end (Ended other) outcome is = let same : other ≡ outcome = cc is in ap Ended (sym same)
 turn_of_end (One step) outcome is = absurd (cc is)

@@ -1,5 +1,5 @@
--- The entries of a drive grow by those of each step, and are at its end the ones that belong to the
--- end.
+-- The entries of a drive grow by the entries of each step. Once the drive has ended, they are the
+-- entries that belong to its end.
 use Rattle.std.proofs.Common.{◌≡◌, ℕ, ◌+◌, ◌-◌, ◌^◌, ◌%◌, ◌==◌, nat_lt, ◌&&◌, Bool, true, false, if◌then◌else◌, List, [], ◌∷◌, ◌++◌, Option, Some, None, refl, sym, ap, ◌∙◌, subst, append_assoc}
 use Rattle.std.proofs.lemmas.Bool.{eqb-true}
 use Rattle.std.proofs.lemmas.List.{append-nil, replicate_more}
@@ -127,7 +127,7 @@ made-told_store c call way answers.Stored = made-towards c call way.bucket way.t
 made-told_store c call way (answers.Refused r) = made-refused_help c call r
 made-told_store c call way a = refl
 
--- The entries of the step of a phase with its answer.
+-- The entries that the step of a phase, if there is one, adds with this answer.
 abbrev added : Option Step → Answer → List Entry
 added (Some step) a = entries_of step a
 added None a = []
@@ -152,7 +152,7 @@ made-told_in c call phase step a is =
 pub made-told_of : (d : Drive) (step : Step) (a : Answer) → step_of d ≡ Some step → made (told_of d a) ≡ made d ++ entries_of step a
 made-told_of d step a is = made-told_in d.caller d.call d.phase step a is
 
--- The entries of an ended drive.
+-- The entries of an ended drive are those that belong to its end.
 ended-refused : (r : Refusal) → IsRefused r []
 ended-refused OutOfStep = tt
 ended-refused r = refl

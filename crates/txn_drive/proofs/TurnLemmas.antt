@@ -21,13 +21,14 @@ module _ {X Y : Type 0} (R : X → Step → Answer → X → Type 0) (S : Y → 
       ((a, p z, mapped.0, then.0), then.1)
   steps_map x (Ended outcome) y i same = (ap p same, subst I (sym same) i)
 
--- If each step that is taken maps to a step of a part, and keeps a fact that the mapping needs,
--- then so does a turn.
+-- `p` maps a state to a part of it, and `I` is a fact that this mapping needs. If each step that is
+-- taken maps to a step of the part, and keeps the fact, then each turn that is taken maps to a turn
+-- of the part, and keeps the fact.
 pub turn_maps : {X Y : Type 0} (R : X → Step → Answer → X → Type 0) (S : Y → Step → Answer → Y → Type 0) (I : X → Type 0) (p : X → Y) (x : X) (t : Turn) (y : X) → I x → HasTaken R x t y
     → ((x : X) (s : Step) (a : Answer) (y : X) → I x → R x s a y → S (p x) s a (p y) × I y) → TakesTurn S (p x) t (p y) × I y
 turn_maps R S I p x t y i taken each = steps_map R S I p each x t y i taken.steps
 
--- How many steps are left of a turn, by its next step and the one that may follow it.
+-- How many steps are left of a turn, given its next step and the step that may follow it.
 abbrev pub left_of : Option Step → Option Step → ℕ
 left_of None second = 0
 left_of (Some step) None = 1
@@ -46,7 +47,7 @@ module _ {X : Type 0} (may : X → Step → Type 0) (takes : X → Step → Answ
   TakesLeft x (Some step) None z = TakesTurn takes x (One step) z
   TakesLeft x (Some step) (Some then) z = TakesTurn takes x (Two step then) z
 
-  -- A turn of which some steps are taken: the others may be taken, and end it.
+  -- Some steps of a turn are taken. The steps that are left may be taken, and end the turn.
   pub record Rest (start : X) (turn : Turn) (now : X) (next second : Option Step) : Type 0 where
     pub may_take : MayLeft now next second
     pub ends : (last : X) → TakesLeft now next second last → TakesTurn takes start turn last
@@ -68,7 +69,7 @@ module _ {X : Type 0} (may : X → Step → Type 0) (takes : X → Step → Answ
     ends = λ last left. rest.ends last (second_taken x y step second last taken left);
   }
 
-  -- After a step that was answered `placed`.
+  -- After a step that was answered `placed`, the second step is left of the turn, if there is one.
   pub after_placed : (start : X) (turn : Turn) (x y : X) (next second now other : Option Step) (step : Step) (answer : Answer)
       → next ≡ Some step → now ≡ second → other ≡ None → answer ≡ Placed → takes x step answer y
       → Rest start turn x next second → Rest start turn y now other
@@ -87,7 +88,7 @@ module _ {X : Type 0} (may : X → Step → Type 0) (takes : X → Step → Answ
   none_taken x y step answer None not taken = (answer, taken)
   none_taken x y step answer (Some then) not taken = (answer, y, taken, none_second y then answer not)
 
-  -- After a step that was answered otherwise.
+  -- After a step that was answered otherwise, no step is left of the turn.
   pub after_other : (start : X) (turn : Turn) (x y : X) (next second other : Option Step) (step : Step) (answer : Answer)
       → next ≡ Some step → (answer ≡ Placed → ⊥) → takes x step answer y
       → Rest start turn x next second → Rest start turn y None other

@@ -21,8 +21,8 @@ use Rattle.txn_drive.specs.declared.turn.Turn.TheVariants.{One, Two, Ended}
 use Rattle.txn_drive.specs.declared.way.Way.{Way}
 use Rattle.txn_drive.specs.Ways.{child_towards}
 
--- A call for help begins by doubling the table; but if only half keys are taken and its key is no
--- half key, it is refused. Any other call is fresh.
+-- A call for help begins by doubling the table, or is refused if only half keys are taken and its
+-- key is no half key. Any other call is fresh.
 abbrev pub first_phase : Bool → Call → Phase
 first_phase half (calls.Help key) = if is_bad_key half key then Refused BadKey else Doubling 0
 first_phase half call = Fresh
@@ -48,7 +48,8 @@ first_step c calls.Commit = steps.Commit c
 first_step c calls.Abort = steps.Abort c
 first_step c (calls.Help key) = steps.Double 0
 
--- The step of a phase, whose answer the drive is told next, or None if the drive has ended.
+-- The step of a phase, or None if the drive has ended. The drive is told the answer to this step
+-- next.
 abbrev pub step_in : ℕ → Call → Phase → Option Step
 step_in c call Fresh = Some (first_step c call)
 step_in c call (Seeking work again) = Some (steps.Seek c)
@@ -70,7 +71,8 @@ end_first calls.Save (answers.Saved n) = ends.Answered (answers.Saved n)
 end_first calls.Commit (answers.Committed p) = ends.Answered (answers.Committed p)
 end_first call answer = ends.Refused OutOfStep
 
--- The end of a return to a level, if the answer was that the caller has returned to some level.
+-- The end of a return to the level `level`, if the answer was that the caller has returned to the
+-- level `reached`.
 abbrev pub end_returned : ℕ → ℕ → End
 end_returned level reached =
     if reached == level then ends.Answered (answers.Returned reached) else ends.Refused OutOfStep
@@ -116,8 +118,8 @@ turn_of drive = turn_in drive.caller drive.call drive.phase
 abbrev pub one_more : ℕ → ℕ
 one_more again = if nat_lt again 8 then again + 1 else again
 
--- The phase after the first step: an operation that is asked for is sought, after a busy stripe or
--- a leave changes are taken back, and any other answer ends the call.
+-- The phase after the first step. After `Asked`, the position of the operation is sought. After
+-- `Busy` or `Leaving`, changes are taken back. Any other answer ends the call.
 abbrev pub told_first : Call → Answer → Phase
 told_first (calls.Op op) answers.Asked = Seeking Operation 0
 told_first (calls.Op op) (answers.Busy holder) = Seeking (Busy holder 0) 0
@@ -161,7 +163,8 @@ towards last bucket =
     if last == bucket then Helped
     else Initialising (record { bucket = child_towards last bucket; target = bucket }) 0
 
--- The phase that begins the way to the bucket of a key at a size.
+-- The phase that begins the way to a key's bucket in a table of this size. A table's size is above
+-- 0 and below 2 ^ 32.
 abbrev pub heading : ℕ → ℕ → Phase
 heading key size =
     if nat_lt 0 size && nat_lt size (2 ^ 32) then towards 0 (key % size) else Refused OutOfStep
@@ -173,8 +176,8 @@ refused_help NoMemory = Refused NoMemory
 refused_help StampsUsedUp = Refused StampsUsedUp
 refused_help refusal = Refused OutOfStep
 
--- The phase after a doubling that named the size `seen`: the way at the size that the table then
--- has.
+-- The phase after a doubling that named the size `seen`: the way to the key's bucket at the size
+-- that the table then has.
 abbrev pub told_help : ℕ → ℕ → Answer → Phase
 told_help key seen (answers.Moved size) = heading key size
 told_help key seen (answers.Doubled size) = heading key size
@@ -222,8 +225,8 @@ told_in call phase answer = Refused OutOfStep
 abbrev pub told_of : Drive → Answer → Drive
 told_of drive answer = record drive { phase = told_in drive.call drive.phase answer }
 
--- The turn takes the step of its drive; a second step is the step after `placed`; an ended drive
--- takes none.
+-- The turn's first step is the step of its drive. A second step is the drive's step after the
+-- answer `placed`. If the turn tells an end, the drive has no step.
 abbrev pub IsTurnOf : Drive → Turn → Type 0
 IsTurnOf drive (One step) = step_of drive ≡ Some step
 IsTurnOf drive (Two step next) =

@@ -31,7 +31,7 @@ undone_in (Leaving undone) = undone
 abbrev pub undone_by : ℕ → ℕ → List Entry
 undone_by c undone = replicate undone (entries.Undone c)
 
--- The entry of a call's first step, if its work goes on after it.
+-- The entry of a call's first step, if the call goes on with this work after that step.
 abbrev pub opened_by : ℕ → Call → Work → List Entry
 opened_by c (calls.Op op) Operation = entries.Asked c op ∷ []
 opened_by c (calls.Op op) (Busy holder undone) = entries.Busy c op holder ∷ []
@@ -69,11 +69,12 @@ abbrev pub IsRefused : Refusal → List Entry → Type 0
 IsRefused OutOfStep h = Unit {0}
 IsRefused refusal h = h ≡ []
 
--- First an entry, then one for each change that was taken back, then an entry.
+-- The entries are the opening entry, then one entry for each change that was taken back, then the
+-- closing entry.
 abbrev pub IsUndone : ℕ → Entry → List Entry → Entry → Type 0
 IsUndone c opening h closing = (undone : ℕ) × (h ≡ opening ∷ undone_by c undone ++ closing ∷ [])
 
--- The entries that a caller's call has added to the history by each end that it can have.
+-- The entries that a caller's call has added to the history, for each end that the call can have.
 abbrev pub IsMade : ℕ → Call → End → List Entry → Type 0
 IsMade c call (ends.Refused refusal) h = IsRefused refusal h
 IsMade c calls.Begin (ends.Answered (answers.Began t)) h = h ≡ entries.Began c t ∷ []

@@ -3,8 +3,8 @@ use Rattle.std.specs.Prelude.{ℕ, ◌==◌, if◌then◌else◌}
 use Prim.Native.Nat.{zero, suc}
 use Rattle.split_key.specs.Split.{parent_of}
 
--- The first of a bucket and its ancestors whose parent is `last`; the first number says how many
--- are looked at.
+-- Among a bucket and its ancestors, the nearest whose parent is `last`. The first argument says how
+-- many of them are looked at; if none of these fits, the result is the next ancestor.
 unfoldable pub child_within : ℕ → ℕ → ℕ → ℕ
 child_within zero last bucket = bucket
 child_within (suc steps) last bucket =

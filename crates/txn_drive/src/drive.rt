@@ -109,8 +109,8 @@ impl Drive {
         }
     }
 
-    /// Tells the drive the answer to the step that the turn named; of a turn of two steps, the
-    /// answer to each step taken.
+    /// Tells the drive the answer to the step that its turn named. In a turn of two steps, tell it
+    /// the answer to each step that is taken.
     ///
     /// An answer that no rule foresees ends the call with `Refusal::OutOfStep`, and so does any
     /// answer that is told after the end.

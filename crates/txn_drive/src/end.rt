@@ -1,6 +1,7 @@
 //! The ends of calls: answered, busy, helped or refused. Callers, workers and the map of threads go
-//! on from an end, so it is a type apart from the phases. Unless it is `OutOfStep`, call and end
-//! determine the entries that were added, but for the number of changes taken back (`IsMade`).
+//! on from an end, so it is a type apart from the phases. Unless the end is `OutOfStep`, the call
+//! and the end determine which entries the call has added, except how many changes it has taken
+//! back (`IsMade`).
 use txn_words::{Answer, Refusal};
 
 /// The end of a call.

@@ -31,7 +31,8 @@ pub enum Phase {
     Seeking(Work, u8),
     /// The next step acts: the position of a work was found, or no change is left to take back.
     Acting(Work, u8),
-    /// The next step doubles the table: the size at the last turn, 0 before the first.
+    /// The next step doubles the table. The number is the size at the last turn, or 0 before the
+    /// first turn.
     Doubling(u32),
     /// The next step seeks the position of a bucket's dummy.
     Initialising(Way, u8),
@@ -39,16 +40,16 @@ pub enum Phase {
     Linking(Way, u8),
     /// A bucket's dummy is linked.
     Storing(Way),
-    /// The answer to the first step has ended it.
+    /// The answer to the first step has ended the call.
     First(Answer),
-    /// This answer to an act has ended it.
+    /// This answer to an act has ended the call.
     Last(Work, Answer),
-    /// An answer to a seek that no rule foresees has ended it.
+    /// An answer to a seek that no rule foresees has ended the call.
     Lost(Work),
     /// All buckets on the way are initialised.
     Helped,
-    /// A helper's step, or the call itself, was refused; or, with `OutOfStep`, an answer that no
-    /// rule foresees has ended a help, or an answer was told after the end.
+    /// A helper's step, or the call itself, was refused. `OutOfStep` means that an answer that no
+    /// rule foresees has ended a help, or that an answer was told after the end.
     Refused(Refusal),
 }
 
@@ -157,7 +158,8 @@ fn told_double(call: Call, seen: u32, answer: Answer) -> Phase
     }
 }
 
-/// The way to a key's bucket at a size. A table's size is above 0 and below 2^32.
+/// The phase that begins the way to a key's bucket in a table of this size. A table's size is above
+/// 0 and below 2^32.
 fn heading(key: u64, size: u64) -> Phase
     ensures { result ≡ heading key size }
 {

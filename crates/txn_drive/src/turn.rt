@@ -1,6 +1,7 @@
-//! The turns of a drive, which tell the taker of its steps how to go on: one step, a seek with the
-//! step that acts on it, or none. A turn has two steps only after eight `again` in a row, so that
-//! others cannot keep a call seeking; the second is taken only after `placed`.
+//! The turns of a drive, which tell the taker of its steps how to go on: one step, two steps or no
+//! step. Two steps are a seek and the step that acts at the position found. A turn has them only
+//! after eight `again` in a row, so that others cannot keep a call seeking; the second step is
+//! taken only after `placed`.
 ghost use Rattle.std.specs.Prelude.{◌≡◌};
 ghost use Rattle.txn_drive.specs.Drives.{paired};
 ghost use Rattle.txn_drive.specs.Turns.{HasTaken, MayTake};

@@ -17,15 +17,16 @@ pub struct Way {
     pub target: u32,
 }
 
-/// The parent of a bucket; bucket 0 is its own.
+/// The parent of a bucket; bucket 0 is its own parent.
 fn parent_or_root(bucket: u32) -> u32
     ensures { result ≡ parent_of bucket }
 {
     if bucket == 0 { 0 } else { parent(bucket) }
 }
 
-/// The bucket that follows `last` on the way to `target`: the target or its ancestor whose parent
-/// is `last`. Takes time in proportion to the ancestors between them, at most 32.
+/// The bucket that follows `last` on the way to `target`: among the target and its ancestors, the
+/// bucket whose parent is `last`. Takes time in proportion to the ancestors between `last` and
+/// `target`, at most 32.
 pub(crate) fn next_towards(last: u32, target: u32) -> u32
     ensures { result ≡ child_towards last target }
 {

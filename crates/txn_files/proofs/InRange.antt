@@ -44,7 +44,8 @@ of_contents : (found : Result (ℕ × List ℕ × List Entry) FileFault) (file :
 of_contents (Ok f) file e = of_numbers f.0 f.1 f.2 file e
 of_contents (Err fault) file e = absurd (cc e)
 
--- The history of a file has stripes, and its callers are below 64: what a judge asks for.
+-- The history of a file has at least one stripe, and its callers are below 64. A judge requires
+-- both.
 pub file_in_range : (bytes : List ℕ) (file : ℕ × List Entry × ℕ) → history_of bytes ≡ Ok file → (0 < file.0) × All (λ e. caller_of e < 64) file.1
 file_in_range bytes file e =
     let all = and_parts (nat_le 1 file.0 && nat_le file.0 4096) (list_all is_in_range file.1) (of_contents (contents history_file bytes) file e) in

@@ -26,7 +26,8 @@ use Rattle.txn_files.proofs.PlainPieces.{no_entry}
 
 -- ---- one entry
 
--- An entry that is replaced is out of range.
+-- The entry that is kept in place of another is out of range, and version 1 has it exactly if `b`
+-- is true.
 replaced : (b : Bool) → is_in_range (cond b (entries.Saved 65535) (entries.Asked 65535 (ops.PutIf 0 None 0))) ≡ false
 replaced true = refl
 replaced false = refl
@@ -204,7 +205,7 @@ then_entries : (r : Result Read FileFault) → ((r >>= kept_read) >>= λ file. e
 then_entries (Err e) = refl
 then_entries (Ok file) = same_entries file.0 file.1 file.2
 
--- The history file is the same, whether its entries or what is kept of them are read.
+-- Reading the entries that are kept gives the same history file as reading the entries themselves.
 pub same_history : (bytes : List ℕ) → kept_history_of bytes ≡ history_of bytes
 same_history bytes =
     ap (λ r. r >>= λ file. entries_from file.0 file.1 file.2) (json_kept (json_of bytes))

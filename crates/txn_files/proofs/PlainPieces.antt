@@ -102,7 +102,7 @@ action_plain ds action e =
     (λ r3. chosen (bytes_eq name.0.0 (codes "abort")) _ _ r3 (λ h. let a = bound (end_of name.0.1) _ action h in word_first 3 ds name.0 name.1 (end_plain 3 name.0.1 a.0 a.1))
     (λ h. let a = bound (op_of ds) _ action h in op_plain 0 ds a.0 a.1))))
 
--- ---- and so an array with other elements is none of these
+-- ---- an array with other elements is no step, no entry and no action
 
 pub no_step : (ds : List Data) → are_plain 6 ds ≡ false → step_of ds ≡ None
 no_step ds e = unless (step_of ds) (are_plain 6 ds) (step_plain ds) e

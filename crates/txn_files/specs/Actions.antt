@@ -1,4 +1,4 @@
--- The action that an array in JSON is, and the script that an array of them is.
+-- The action that an array in JSON is, and the script that an array of such arrays is.
 use Rattle.std.specs.Prelude.{Bool, true, List, Option, Some, if◌then◌else◌, codes}
 use Rattle.std.specs.List.{list_all}
 use Rattle.std.specs.Result.{result_ok}
@@ -11,7 +11,8 @@ use Rattle.txn_files.specs.Operations.{is_old_op, op_of}
 use Rattle.piece_files.specs.declared.part.Part.TheVariants as parts
 use Rattle.piece_files.specs.Pieces.{pieces_from}
 
--- An action by its name, or an operation.
+-- The action with these elements. Its name is the first element; any name other than these four
+-- has to be that of an operation.
 unfoldable pub action_of : List Data → Option Action
 action_of ds = do
   name ← word_at ds
@@ -21,7 +22,7 @@ action_of ds = do
       else if bytes_eq name.0 (codes "abort") then (end_of name.1 >>= λ none. Some Abort)
       else (op_of ds >>= λ op. Some (Op op))
 
--- A script: its actions, if each element is one.
+-- The script with these elements: the list of its actions, if each element is an action.
 unfoldable pub script_of : List Data → Option (List Action)
 script_of ds = result_ok (pieces_from action_of parts.Script 0 ds)
 

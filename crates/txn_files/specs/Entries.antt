@@ -7,7 +7,7 @@ use Rattle.txn_words.specs.declared.entry.Entry.TheVariants.{Began, Asked, Did, 
 use Rattle.piece_files.specs.Elements.{◌>>=◌, number_at, word_at, one_of, end_of, optional_of}
 use Rattle.txn_files.specs.Operations.{is_old_op, op_at, op_of}
 
--- A caller's operation that found its stripe held, and the holder.
+-- A caller's Busy: the operation that found its stripe held, and the holder of the stripe.
 unfoldable pub busy_of : ℕ → List Data → Option Entry
 busy_of c ds = do
   op ← op_at ds
@@ -35,7 +35,7 @@ entry_named name c ds =
     else if bytes_eq name (codes "undone") then (end_of ds >>= λ none. Some (Undone c))
     else transaction_entry name c ds
 
--- An entry by its name and its caller.
+-- The entry with these elements: its name, its caller and its further elements.
 unfoldable pub entry_of : List Data → Option Entry
 entry_of ds = do
   name ← word_at ds

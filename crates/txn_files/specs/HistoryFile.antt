@@ -36,7 +36,7 @@ history_file = record {
   most = max_entries;
 }
 
--- Whether the callers of an entry are in range, also the holder of a Busy.
+-- Whether the caller of an entry is in range, and for a Busy also the holder that it names.
 abbrev pub is_in_range : Entry → Bool
 is_in_range (Busy c op x) = nat_le c max_caller && nat_le x max_caller
 is_in_range e = nat_le (caller_of e) max_caller
@@ -61,8 +61,9 @@ history_of bytes = contents history_file bytes >>= λ file. entries_from file.0 
 abbrev pub holder_in : ℕ → Holder
 holder_in version = if nat_le version 2 then Now else Begun
 
--- The entry that is kept while a file is read: the entry itself, if it is small enough to be
--- packed; otherwise one that is out of range as well, and is in version 1 exactly if the entry is.
+-- The entry that is kept for an entry while a file is read. An entry that is small enough to be
+-- packed is kept itself. Any other entry is out of range, and another entry is kept in its place:
+-- this is out of range too, and version 1 has it exactly if version 1 has the entry that was read.
 abbrev pub kept : Entry → Entry
 kept e =
     if is_small e then e
@@ -84,7 +85,7 @@ kept_file = record {
   most = max_entries;
 }
 
--- The history file that bytes are, by the entries that are kept. It equals `history_of`.
+-- The history file that bytes are, read with the entries that are kept. It equals `history_of`.
 abbrev pub kept_history_of : List ℕ → Result (ℕ × List Entry × ℕ) FileFault
 kept_history_of bytes =
     contents kept_file bytes >>= λ file. entries_from file.0 file.1 file.2

@@ -1,14 +1,15 @@
--- The line of a history, a part of which was handed out.
+-- The line of a history, and the rest of the line after a part of it was handed out.
 use Rattle.std.specs.Prelude.{ℕ, Bool, true, false, List, [], ◌∷◌, ◌++◌, map, codes, decimal}
 use Rattle.std.specs.List.{flat_map, join_with_byte}
 use Rattle.txn_words.specs.declared.entry.Entry.{Entry}
 use Rattle.txn_files.specs.HistoryText.{comma, entry_text}
 
--- Entries that follow another one, each after a comma.
+-- The text of entries that follow an earlier entry: each is written after a comma.
 abbrev pub further_text : List Entry → List ℕ
 further_text entries = flat_map (λ e. comma ∷ entry_text e) entries
 
--- The line from its start, or from the entries that follow another one, up to its last entry.
+-- The line up to its last entry. If the line was not begun, its start is part of the text; if it
+-- was, an entry was handed out already, and these entries follow it.
 abbrev pub entries_text : Bool → List Entry → List ℕ
 entries_text false entries = codes "{\"entries\":[" ++ join_with_byte comma (map entry_text entries)
 entries_text true entries = further_text entries
@@ -19,7 +20,8 @@ end_text version stripes =
     codes "],\"stripes\":" ++ (decimal stripes
     ++ (codes ",\"version\":" ++ (decimal version ++ codes "}\n")))
 
--- The part of the line that is left.
+-- The part of the line that is left, given whether the line was begun, whether it was handed out as
+-- a whole, and the entries that are left.
 abbrev pub rest_of : Bool → Bool → ℕ → ℕ → List Entry → List ℕ
 rest_of is_begun true version stripes entries = []
 rest_of is_begun false version stripes entries =

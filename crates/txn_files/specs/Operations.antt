@@ -6,8 +6,8 @@ use Rattle.txn_words.specs.declared.op.Op.{Op}
 use Rattle.txn_words.specs.declared.op.Op.TheVariants.{Put, Take, Get, PutIf}
 use Rattle.piece_files.specs.Elements.{◌>>=◌, number_at, optional_at, word_at}
 
--- The "put_if" of this key whose expected value (null or a number) and new value the elements begin
--- with, and the elements after it.
+-- The "put_if" of this key, and the elements after it. The elements begin with the expected value
+-- (null or a number) and the new value.
 unfoldable pub put_if_at : ℕ → List Data → Option (Op × List Data)
 put_if_at k ds = do
   expected ← optional_at ds

@@ -30,7 +30,7 @@ abbrev in_limits : Result Sizes Refusal → Result Sizes FileFault
 in_limits (Ok sizes) = Ok sizes
 in_limits (Err refusal) = Err Limit
 
--- The limits of a file of this version: those of version 1 take only half keys.
+-- These limits, in a file of this version: in version 1 they take only half keys.
 abbrev pub with_keys_of : ℕ → Sizes → Sizes
 with_keys_of version sizes = in_version version (record sizes { half = true }) sizes
 
@@ -38,7 +38,7 @@ with_keys_of version sizes = in_version version (record sizes { half = true }) s
 abbrev pub max_run_version : ℕ
 max_run_version = 2
 
--- The numbers of such a file as limits, if they and its version are in range.
+-- The numbers of a step file or script file as limits, if the numbers and the version are in range.
 abbrev pub sizes_at : ℕ → ℕ → ℕ → ℕ → Result Sizes FileFault
 sizes_at version callers stripes buckets =
     if nat_le version max_run_version then

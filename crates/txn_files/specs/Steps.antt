@@ -14,7 +14,7 @@ ask_of ds = do
   op ← op_of c.1
   Some (Ask c.0 op)
 
--- A step that is its name and one number.
+-- The step that has this name and, besides it, only this number.
 unfoldable pub numbered_of : List ℕ → ℕ → Option Step
 numbered_of name n =
     if bytes_eq name (codes "begin") then Some (Begin n)

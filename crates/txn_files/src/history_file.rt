@@ -22,8 +22,8 @@ use txn_words::{Entry, Holder, Limits, Op, SmallEntry};
 /// The largest number that a caller may have.
 const MAX_CALLER: u64 = Limits::MAX_CALLERS - 1;
 
-/// The caller of an entry that replaces one with too large a caller: out of range, and small enough
-/// to be packed.
+/// The caller of the entry that replaces an entry whose callers are too large to be packed. It is
+/// out of range too, but small enough to be packed.
 const TOO_LARGE: u64 = 65_535;
 
 /// The most entries that a file may have.
@@ -69,7 +69,7 @@ fn transaction_entry_in(name: &str, caller: u64, values: &[Plain<'_>]) -> Option
     }
 }
 
-/// The entry of this name and caller with these further elements, also if it is about an operation.
+/// The entry, of any kind, that has this name, this caller and these further elements.
 #[tactic(auto, unfolding(crate::specs::Entries::entry_named))]
 fn entry_named_in(name: &str, caller: u64, values: &[Plain<'_>]) -> Option<Entry>
     ensures { result ≡ entry_named name.now caller (map data_of values.now) }
@@ -107,7 +107,8 @@ fn is_old_entry(entry: Entry) -> bool
     }
 }
 
-/// The entry, packed; one that is too large for that is replaced.
+/// The entry, packed. An entry that is too large to be packed is replaced by one that is out of
+/// range as well.
 fn kept(entry: Entry) -> SmallEntry
     ensures { result ≡ kept entry }
 {
@@ -330,8 +331,8 @@ pub fn into_packed_history(
     read_packed_history(alloc, &bytes)
 }
 
-/// The history file by the entries that are kept, in packed form. In a history in range no entry is
-/// replaced, so this is the history file that the bytes are.
+/// The history file that the bytes are, read with entries as they are kept. Only an entry that is
+/// out of range is replaced, and its replacement is out of range too, so the faults are the same.
 fn kept_history(alloc: Global, bytes: &[u8]) -> Result<(u32, Vec<SmallEntry>, u64), FileFault>
     ensures { Gives (λ file. (file.0, file.1.items, file.2)) result (kept_history_of bytes.now) }
 {
@@ -344,8 +345,8 @@ fn kept_history(alloc: Global, bytes: &[u8]) -> Result<(u32, Vec<SmallEntry>, u6
     entries_in(version, numbers, entries)
 }
 
-/// The caller that a Busy may name in a history file of this version: in versions 1 and 2 one that
-/// holds the stripe, in later ones one that has begun a transaction.
+/// The caller that a Busy may name in a history file of this version: in versions 1 and 2 a caller
+/// that holds the stripe, in later versions a caller that has begun a transaction.
 pub fn holder_in(version: u64) -> Holder
     ensures { result ≡ holder_in version }
 {

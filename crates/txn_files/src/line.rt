@@ -1,6 +1,6 @@
-//! A piece of text on the stack, which is written from its end to its start. What is put into it
-//! goes before what is there, as the digits of a number are found: the last one first. So no digit
-//! is moved. No put tests for room, since its contract requires room.
+//! A piece of text on the stack, which is written from its end to its start: each put writes before
+//! the text that is there. The last digit of a number is found first, so no digit has to be moved.
+//! No put tests for room, since its contract requires room.
 ghost use Rattle.std.specs.Prelude.{◌≡◌, ◌+◌, ◌≤◌, [], ◌++◌, length, decimal};
 
 use itoa::write_digits;

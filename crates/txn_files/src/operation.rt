@@ -12,8 +12,8 @@ use crate::line::Line;
 use piece_files::{Plain, leading_optional_in, number_in, word_in};
 use txn_words::Op;
 
-/// The `put_if` of this key whose expected value and new value the elements begin with, and the
-/// elements after it.
+/// The `put_if` of this key, whose expected value and new value are the first two elements, and the
+/// elements after these two.
 #[tactic(auto, unfolding(crate::specs::Operations::put_if_at))]
 fn leading_put_if_in<'v, 'a>(key: u64, values: &'v [Plain<'a>]) -> Option<(Op, &'v [Plain<'a>])>
     ensures { option_map (λ x. (x.0, map data_of x.1.now)) result

@@ -9,10 +9,10 @@ use std::marker::Model;
 /// The bytes that a piece has room for.
 const SIZE: usize = 65_536;
 
-/// The most bytes of a piece that surely has room for a line of 160 bytes.
+/// A piece with at most this number of bytes surely has room for a line of 160 bytes.
 pub(crate) const FULL: usize = 65_376;
 
-/// Zero bytes, as many as a piece has room for.
+/// Bytes of value 0, as many as a piece has room for.
 fn zeros(alloc: Global) -> Result<Vec<u8>, AllocError>
     ensures { IfOk result (λ zeros. length zeros.items ≡ SIZE) }
 {

@@ -1,6 +1,6 @@
-//! The line of a history in pieces, so that a long one need not be in memory as a whole, as `text`
-//! makes it. Both write entries by `set_entry`. Invariant: the text put so far, followed by the
-//! text that is left, is the whole line. Takes no memory.
+//! The line of a history in pieces, so that a long line need not be in memory as a whole. `text`
+//! makes the text as a whole; both modules write entries by `set_entry`. Invariant: the text put so
+//! far, followed by the text that is left, is the whole line. Takes no memory.
 ghost use Rattle.std.specs.Prelude.{◌≡◌, ◌⊎◌, ◌↔◌, ◌+◌, ◌<◌, ◌≤◌, [], ◌∷◌, ◌++◌, false, IsTrue, length};
 ghost use Rattle.txn_files.specs.HistoryText.{text_of_history};
 ghost use Rattle.txn_files.specs.HistoryLine.{end_text, entries_text, further_text};
@@ -111,8 +111,8 @@ impl<'a> HistoryPieces<'a> {
         }
     }
 
-    /// Fills a piece with the next part of the text, in place of what is there, and answers whether
-    /// there was one: at the end the piece is empty. Each part but the last is of more than 65,376
+    /// Empties a piece, and fills it with the next part of the text. Answers whether there was a
+    /// part left; if not, the piece stays empty. Each part but the last is of more than 65,376
     /// bytes.
     ///
     /// # Cost

@@ -134,7 +134,8 @@ impl PieceKind for ActionKind {
     }
 }
 
-/// The script of the actions that an array begins with, if all its elements are actions.
+/// The script that an array is, given the actions that the array begins with. Answers `None` unless
+/// all elements of the array are actions.
 fn script_in(found: Pieces<PackedAction>) -> Option<Script>
     requires { found.count < 2 ^ 64 }
     ensures { (old all : Result (List Action) FileFault)
@@ -233,8 +234,8 @@ fn work_in(version: u64, numbers: [u64; 4], scripts: Vec<Script>) -> Result<Scri
 /// is an array of actions, and each action an array, such as `["put",1,10]` or `["save"]`. Version
 /// 1 has no `put_if`, and its limits take only half keys.
 ///
-/// Other members of the object are skipped, and the last of several with one name counts. A number
-/// is written without a sign, a fraction or an exponent, and is below 2^64.
+/// Other members of the object are skipped. If several members have the same name, the last one
+/// counts. A number is written without a sign, a fraction or an exponent, and is below 2^64.
 ///
 /// # Errors
 ///
@@ -242,9 +243,9 @@ fn work_in(version: u64, numbers: [u64; 4], scripts: Vec<Script>) -> Result<Scri
 ///
 /// - `Limit` if there are more than 16,777,216 bytes.
 /// - `NotJson` if they are not JSON that `piece_files::read_file` takes.
-/// - `Member` if the value is no object or one of the six members, in the order above, is
-///   missing or of the wrong kind.
-/// - `Piece` for the first piece that is no script, or in version 1 has a `put_if`, with its index.
+/// - `Member` if the value is no object, or if one of the six members is missing or of the wrong
+///   kind; the members are tested in the order above.
+/// - `Piece`, with the index of the first piece that is no script or, in version 1, has a `put_if`.
 /// - `Limit` if the version is not 1 or 2, `Limits::new` refuses the numbers with the workers as
 ///   callers, the tries are above 1,000, there are more than 10,000 scripts, or one of them has
 ///   more than 10,000 actions.

@@ -1,6 +1,7 @@
 //! Step files: the thirteen steps as pieces, and the limits around them, which script files share.
 //! `piece_files` has the loops over tokens; this module says which shapes and ranges steps have.
-//! Steps are kept packed, in five sevenths of the memory; only `read_steps` answers them unpacked.
+//! Steps are kept packed, which takes five sevenths of the memory that they take unpacked; only
+//! `read_steps` answers them unpacked.
 ghost use Rattle.std.specs.Prelude.{◌≡◌, IfOk, map, true, false};
 ghost use Rattle.piece_files.specs.Plain.{data_of};
 ghost use Rattle.piece_files.specs.Faults.{Gives};
@@ -156,8 +157,8 @@ impl PieceKind for StepKind {
 /// The last version of step files and script files.
 const MAX_RUN_VERSION: u64 = 2;
 
-/// The limits that these numbers are in a step file or script file of this version: those of
-/// version 1 take only half keys.
+/// These numbers as the limits of a step file or script file of this version. In version 1 the
+/// limits take only half keys.
 ///
 /// # Errors
 ///
@@ -206,8 +207,8 @@ fn steps_in(
 /// `{"version":V,"callers":C,"stripes":S,"buckets":B,"steps":[..]}`. Each step is an array, such as
 /// `["ask",0,"put",1,10]`. Version 1 has no `put_if`, and its limits take only half keys.
 ///
-/// Other members of the object are skipped, and the last of several with one name counts. A number
-/// is written without a sign, a fraction or an exponent, and is below 2^64.
+/// Other members of the object are skipped. If several members have the same name, the last one
+/// counts. A number is written without a sign, a fraction or an exponent, and is below 2^64.
 ///
 /// # Errors
 ///
@@ -215,9 +216,9 @@ fn steps_in(
 ///
 /// - `Limit` if there are more than 16,777,216 bytes.
 /// - `NotJson` if they are not JSON that `piece_files::read_file` takes.
-/// - `Member` if the value is no object or one of the five members, in the order above, is
-///   missing or of the wrong kind.
-/// - `Piece` for the first piece that is no step, or in version 1 has a `put_if`.
+/// - `Member` if the value is no object, or if one of the five members is missing or of the wrong
+///   kind; the members are tested in the order above.
+/// - `Piece`, with the index of the first piece that is no step or, in version 1, has a `put_if`.
 /// - `Limit` if the version is not 1 or 2, `Limits::new` refuses the numbers, or there are more
 ///   than 1,000,000 steps.
 ///
@@ -234,7 +235,7 @@ pub fn read_steps(alloc: Global, bytes: &[u8]) -> Result<(Limits, Vec<Step>), Fi
     Ok((limits, steps))
 }
 
-/// The steps that were packed.
+/// The packed steps, unpacked.
 ///
 /// # Errors
 ///

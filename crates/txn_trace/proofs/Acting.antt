@@ -36,7 +36,8 @@ added r op = (elim (is_change r.last op) as (λ b. is_change r.last op ≡ b →
   | false ↦ λ is. sym (after_unchanged r.last op is)
 ]) refl
 
--- The operation that a run waits for is of a stripe that the run holds.
+-- If an operation waits for its reply after the entries of a run, these entries ask for a key of
+-- the operation's stripe.
 waits_in : (stripes : ℕ) (es : List Entry) (m : Map) (r : Run) (op : Op) → alone m es ≡ Some r → r.pending ≡ Some op → keys_in stripes es (key_of op) ≡ true
 waits_in stripes es m r op run waits =
     let alike : RunsAlike (keys_in stripes es) m m (alone m es) (alone m es) = alone_alike (keys_in stripes es) m m es (asks_own stripes es) (λ k is. refl) in

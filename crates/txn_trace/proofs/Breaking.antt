@@ -42,8 +42,8 @@ row_active s Closed (Began c t) b h = absurd (false≢true (sym b))
 row_active s Closed _ b h = absurd (false≢true h)
 row_active s _ e b h = refl
 
--- Whether an entry has the right reply: a Did must have that of the map now to the operation that
--- waits.
+-- Whether an entry has the right reply. The reply of a Did must be the one that the map now gives
+-- to the waiting operation. Every entry of another kind passes.
 abbrev pub is_right_in : List Entry → Phase → Option ℕ → Bool
 is_right_in g (Waiting op) x = option_eq nat_eq x (reply_of (now g) op)
 is_right_in g _ x = true
@@ -85,8 +85,8 @@ module _ {holder : Holder} (stripes : ℕ) (g : List Entry) (legal : IsLegal hol
   hold_now : RepliesHoldAt g
   hold_now = legal.replies g ([], append-nil g)
 
-  -- If the entry begins no transaction: the transaction that it belongs to, and the run of that
-  -- before and after the entry.
+  -- If the entry begins no transaction: the transaction that the entry belongs to, and the run of
+  -- this transaction before and after the entry.
   module _ (not_began : is_began e ≡ false) where
     active : runs parts.before.phase ≡ true
     active = row_active parts.before parts.before.phase e not_began (ap is_some parts.goes)

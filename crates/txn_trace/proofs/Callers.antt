@@ -1,5 +1,5 @@
 -- The callers of a history of the right shape: each is in at most one transaction, and runs exactly
--- while that is open.
+-- while this transaction is open.
 use Rattle.std.proofs.Common.{[], ◌≡◌, ℕ, ◌-◌, take, slice_index, ◌+◌, ◌≤◌, Bool, true, false, cond, not, ◌&&◌, ◌||◌, ◌==◌, List, ◌∷◌, ◌++◌, length, refl, ap, sym, subst, ◌∙◌, Some, None, Option, is_some, arith}
 use Rattle.std.specs.Option.{option_and_then}
 use Rattle.std.specs.Prelude.{nat_lt}
@@ -52,7 +52,8 @@ callers_none = record {
   owned = tt;
 }
 
--- The transaction of an entry: that of its caller before it, or the one that it begins.
+-- `t` is the transaction of an entry that follows `g`: the one that a Began begins; for any other
+-- entry, the one that its caller is in after `g`.
 abbrev pub IsIn : List Entry → Entry → ℕ → Type 0
 IsIn g (Began c u) t = u ≡ t
 IsIn g e t = txn_in g (caller_of e) ≡ Some t
@@ -107,7 +108,8 @@ pub began_or_not : (e : Entry) → (is_began e ≡ true) ⊎ (is_began e ≡ fal
 began_or_not (Began c t) = inl refl
 began_or_not _ = inr refl
 
--- After a shaped entry its transaction's number is at most the number of transactions that began.
+-- After an entry in right shape, the number of its transaction is at most the number of Began
+-- entries.
 pub number_in : (g : List Entry) (e : Entry) (t : ℕ) → Callers g → is_shaped g e ≡ true → txn_at g e ≡ Some t → t ≤ how_many is_began (g ++ e ∷ [])
 number_in g e t callers shaped at = elim (began_or_not e) [
   | inl b ↦

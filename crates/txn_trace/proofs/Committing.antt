@@ -34,7 +34,8 @@ pub record HasCommitted (c txn place : ℕ) (part h : List Entry) : Type 0 where
 abbrev IsCut : {X : Type 0} → (X → Bool) → List X → List X → X → List X → Type 0
 IsCut {X} p h xs x ys = (g : List X) × (rest : List X) × (h ≡ g ++ x ∷ rest) × (filter p g ≡ xs) × (filter p rest ≡ ys)
 
--- If the elements that pass a test can be cut, so can the list.
+-- If the list of the elements that pass a test is cut at one of them, the whole list can be cut
+-- there too.
 cut : {X : Type 0} (p : X → Bool) (h xs : List X) (x : X) (ys : List X) → filter p h ≡ xs ++ x ∷ ys → IsCut p h xs x ys
 cut p [] [] x ys is = absurd (cc is)
 cut p [] (z ∷ xs) x ys is = absurd (cc is)
@@ -88,7 +89,7 @@ own_goes c t g (e ∷ rest) callers shape in_it quiet =
           (ap (of t) (sym assoc) ∙ of_is ∙ ap (λ es. es ++ own c rest) out ∙ ap (λ es. of t g ++ es) (sym own_is), ap (λ h. txn_in h c) (sym assoc) ∙ in_is)
     ]
 
--- A commit leaves a run unchanged.
+-- A run that is defined is still defined after a commit.
 pub commits_so : (c p : ℕ) (o : Option Run) → is_some o ≡ true → is_some (option_and_then (λ r. act r (Committed c p)) o) ≡ true
 commits_so c p None some = some
 commits_so c p (Some r) some = refl

@@ -175,7 +175,7 @@ did {holder} stripes g legal c op x seat seat_is waits right =
       holder_is = λ s. holder_of-other holder stripes g e (callers_of g legal.shape) shaped legal.shape legal.locks s refl refl;
     }
 
--- A caller's log is as long as the number of its standing changes.
+-- The length of a caller's log is the number of standing changes in the caller's seat.
 pub length-log_of : (g : List Entry) (c : ℕ) (seat : Seat) → seat_after (own c g) ≡ Some seat → length (log_of c g) ≡ seat.standing
 length-log_of g c seat seat_is = (seat_logged (own c g) seat seat_is).count
 
@@ -224,7 +224,8 @@ undone_to stripes g legal c n seat seat_is leaving more job jobs log_is =
     undone_by stripes g legal c seat seat_is (ap runs leaving)
     (ap (λ q. row seat q (Undone c)) leaving ∙ ap (λ b. cond b (Some (record seat { standing = seat.standing - 1 })) None) (lt-ltb (slice_index seat.kept n) seat.standing more)) job jobs log_is
 
--- Undone to the end: a caller that takes all its changes back takes the newest back.
+-- Undone to the end: while a caller that leaves to the end has changes that stand, the newest of
+-- them is taken back. Its key gets the value before the change, and every other key is unchanged.
 pub undone_to_end : {holder : Holder} (stripes : ℕ) (g : List Entry) → IsLegal holder stripes g → (c : ℕ) (seat : Seat) → seat_after (own c g) ≡ Some seat → seat.phase ≡ LeavingToEnd → 0 < seat.standing
     → (job : ℕ × Option ℕ) (jobs : List (ℕ × Option ℕ)) → log_of c g ≡ job ∷ jobs
     → Next holder stripes g (Undone c) (record seat { standing = seat.standing - 1 }) jobs (serial g) (set_at (now g) job.0 job.1) (λ s. holder_of stripes s g)
@@ -232,7 +233,7 @@ undone_to_end stripes g legal c seat seat_is leaving some job jobs log_is =
     undone_by stripes g legal c seat seat_is (ap runs leaving)
     (ap (λ q. row seat q (Undone c)) leaving ∙ ap (λ b. cond b (Some (record seat { standing = seat.standing - 1 })) None) (lt-ltb 0 seat.standing some)) job jobs log_is
 
--- The newest change that stands.
+-- If any change stands, the log has a newest change.
 pub newest : (g : List Entry) (c : ℕ) (seat : Seat) → seat_after (own c g) ≡ Some seat → 0 < seat.standing → (job : ℕ × Option ℕ) × (jobs : List (ℕ × Option ℕ)) × (log_of c g ≡ job ∷ jobs)
 newest g c seat seat_is some = at (log_of c g) refl
   where

@@ -21,7 +21,7 @@ kept_lines keep before h = filter (λ line. keep line.txn) (lines_from before h)
 abbrev pub kept : (Option ℕ → Bool) → (ℕ → Option ℕ) → List Entry → List Entry
 kept keep before h = map (λ line. line.entry) (kept_lines keep before h)
 
--- Each caller that is in a kept transaction is in it in the kept history too.
+-- Each caller that is in a kept transaction is in the same transaction in the kept history.
 abbrev pub Agree : (Option ℕ → Bool) → (ℕ → Option ℕ) → (ℕ → Option ℕ) → Type 0
 Agree keep before there = (c : ℕ) → keep (before c) ≡ true → there c ≡ before c
 
@@ -42,7 +42,7 @@ agree_left keep before there (Began c t) same out x is =
     ] is
 agree_left keep before there _ same out x is = same x is
 
--- The kept entries have the same lines as before.
+-- The lines of the kept entries are the kept lines: each kept entry still has its transaction.
 pub lines_from-kept : (keep : Option ℕ → Bool) (before there : ℕ → Option ℕ) → Agree keep before there → (h : List Entry) → lines_from there (kept keep before h) ≡ kept_lines keep before h
 lines_from-kept keep before there same [] = refl
 lines_from-kept keep before there same (e ∷ h) =
@@ -86,7 +86,7 @@ map_cond : {X Y : Type 0} (f : X → Y) (b : Bool) (xs : List X) → map f (cond
 map_cond f true xs = refl
 map_cond f false xs = refl
 
--- A kept transaction has its entries, and any other has none.
+-- In the kept history a kept transaction has all its entries, and any other transaction has none.
 pub of-kept : (keep : Option ℕ → Bool) (t : ℕ) (h : List Entry) → of t (kept_of keep h) ≡ cond (keep (Some t)) (of t h) []
 of-kept keep t h =
     ap (λ ls. map (λ (l : Line). l.entry) (filter (is_of t) ls)) (lines_of-kept keep h)
@@ -99,7 +99,8 @@ of-kept_in keep t h is = of-kept keep t h ∙ ap (λ b. cond b (of t h) []) is
 pub of-kept_out : (keep : Option ℕ → Bool) (t : ℕ) (h : List Entry) → keep (Some t) ≡ false → of t (kept_of keep h) ≡ []
 of-kept_out keep t h is = of-kept keep t h ∙ ap (λ b. cond b (of t h) []) is
 
--- The transactions of the kept entries.
+-- The transactions of the entries that pass a test. In the kept history they are the kept ones of
+-- those in the whole history.
 abbrev picked : (Entry → Bool) → List Line → List ℕ
 picked test ls = filter_map (λ l. cond (test l.entry) l.txn None) ls
 

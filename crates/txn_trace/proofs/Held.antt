@@ -165,7 +165,8 @@ holder_txn stripes g shape s c held = first_line stripes s g c (lines_of g) [] r
 pub holder_running : (stripes : ℕ) (g : List Entry) → IsShaped g → (s c : ℕ) → holder_of stripes s g ≡ Some c → is_running (seat_after (own c g)) ≡ true
 holder_running stripes g shape s c held = let there = holder_txn stripes g shape s c held in (callers_of g shape).running c there.txn there.in_it there.going
 
--- If another caller holds a key's stripe, an entry leaves the value now of the key unchanged.
+-- An entry leaves the value now of a key unchanged if the key's stripe is held by a caller other
+-- than the entry's.
 pub get-now_held : {holder : Holder} (stripes : ℕ) (g : List Entry) (e : Entry) → IsLegal holder stripes g → IsLegal holder stripes (g ++ e ∷ []) → (k d : ℕ) → holder_of stripes (stripe_of stripes k) g ≡ Some d → d ≢ caller_of e
     → get (now (g ++ e ∷ [])) k ≡ get (now g) k
 get-now_held {holder} stripes g e legal after k d held other = get-now (g ++ e ∷ []) k ∙ at_key ∙ sym (get-now g k)

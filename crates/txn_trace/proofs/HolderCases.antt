@@ -16,7 +16,7 @@ holder_has_begun_verdict = refl
 holder_has_begun_now : verdict Now 8 holder_has_begun ≡ Illegal 5 2
 holder_has_begun_now = refl
 
--- The caller that a Busy names has begun none.
+-- The caller that a Busy names has begun no transaction.
 none_has_begun : verdict Begun 8 (Began 1 1 ∷ Busy 1 (Get 9) 0 ∷ []) ≡ Illegal 1 2
 none_has_begun = refl
 

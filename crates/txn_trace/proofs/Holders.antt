@@ -1,4 +1,4 @@
--- The holders of a stripe: how one more entry changes them, and that there is at most one.
+-- The holders of a stripe: how one more entry changes them, and that a stripe has at most one.
 use Rattle.std.proofs.Common.{◌≡◌, ◌≢◌, ℕ, ◌==◌, Bool, true, false, cond, not, ◌&&◌, List, [], ◌∷◌, ◌++◌, map, slice_get, refl, ap, sym, subst, ◌∙◌, Some, None, Option}
 use Rattle.std.specs.Option.{option_eq}
 use Rattle.std.specs.Prelude.{nat_eq}
@@ -35,8 +35,8 @@ filter_same : {X : Type 0} (p q : X → Bool) (xs : List X) → ((x : X) → p x
 filter_same p q xs same i = filter (λ x. same x i) xs
 
 module _ (stripes s : ℕ) (g : List Entry) (e : Entry) where
-  -- After one more entry the holders are those among the earlier lines, and the entry's caller if
-  -- it asks for a key of the stripe.
+  -- After one more entry the holders are the callers of those earlier lines that hold the stripe
+  -- after the entry, and the entry's caller if the entry's own line holds the stripe.
   holders-split : holders stripes s (g ++ e ∷ []) ≡ map caller_on (filter (holds_it stripes s (g ++ e ∷ [])) (lines_of g)) ++ cond (holds_it stripes s (g ++ e ∷ []) (record { txn = txn_at g e; entry = e })) (caller_of e ∷ []) []
   holders-split =
       let line : Line = record { txn = txn_at g e; entry = e } in
@@ -65,8 +65,8 @@ module _ (stripes : ℕ) (g : List Entry) (e : Entry) (callers : Callers g) (sha
   same_before : (s : ℕ) → is_end e ≡ false → filter (holds_it stripes s (g ++ e ∷ [])) (lines_of g) ≡ filter (holds_it stripes s g) (lines_of g)
   same_before s goes = filter_same (holds_it stripes s (g ++ e ∷ [])) (holds_it stripes s g) (lines_of g) (λ line. ap (λ b. asks_in stripes s line.entry && b) (is_in_open-push goes line))
 
-  -- An entry that asks for no key of the stripe, and ends no transaction, leaves its holders
-  -- unchanged.
+  -- An entry that asks for no key of the stripe, and ends no transaction, leaves the stripe's
+  -- holders unchanged.
   pub holders-other : (s : ℕ) → is_end e ≡ false → asks_in stripes s e ≡ false → holders stripes s (g ++ e ∷ []) ≡ holders stripes s g
   holders-other s goes asks =
       holders-split stripes s g e
@@ -74,7 +74,7 @@ module _ (stripes : ℕ) (g : List Entry) (e : Entry) (callers : Callers g) (sha
       ∙ ap (λ b. holders stripes s g ++ cond (b && is_in_open (g ++ e ∷ []) (record { txn = txn_at g e; entry = e })) (caller_of e ∷ []) []) asks
       ∙ append-nil (holders stripes s g)
 
-  -- An entry that asks for a key of the stripe adds its caller.
+  -- An entry that asks for a key of the stripe adds its caller to the holders.
   pub holders-asked : (s t : ℕ) → is_end e ≡ false → txn_at g e ≡ Some t → asks_in stripes s e ≡ true → holders stripes s (g ++ e ∷ []) ≡ holders stripes s g ++ caller_of e ∷ []
   holders-asked s t goes at asks =
       let is_in : is_in_open (g ++ e ∷ []) (record { txn = txn_at g e; entry = e }) ≡ true =
@@ -211,7 +211,8 @@ all_from_same c xs same there [] within = refl
 all_from_same c xs same there (y ∷ ys) within =
     and_from (y == c) _ (eq-eqb y c (same y c (within y (or_left _ _ (eq-eqb y y refl))) there)) (all_from_same c xs same there ys (λ z is. within z (or_right (y == z) _ is)))
 
--- An Asked is legal if no caller holds the stripe, or the same caller does.
+-- The rule of locks allows an Asked exactly if no caller holds the stripe, or the Asked's own
+-- caller does.
 pub is_locked-asked : (holder : Holder) (stripes : ℕ) (g : List Entry) (c : ℕ) (op : Op) → IsShaped g → LocksHold holder stripes g
     → is_locked holder stripes g (Asked c op) ≡ elim (holder_of stripes (stripe_of stripes (key_of op)) g) [ None ↦ true | Some d ↦ d == c ]
 is_locked-asked holder stripes g c op shape locks = at (holders stripes (stripe_of stripes (key_of op)) g) (one_holder holder stripes g shape locks (stripe_of stripes (key_of op)))
@@ -223,8 +224,8 @@ is_locked-asked holder stripes g c op shape locks = at (holders stripes (stripe_
       | inr other ↦ ap (λ b. b && list_all (λ x. x == c) xs) (ne_eqb x c other) ∙ sym (ne_eqb x c other)
     ]
 
--- A Busy is legal if the caller that it names is another one, which holds the stripe or has begun a
--- transaction.
+-- The rule of locks allows a Busy exactly if it names another caller which, by `Now`, holds the
+-- stripe or, by `Begun`, has begun a transaction.
 pub is_locked-busy : (holder : Holder) (stripes : ℕ) (g : List Entry) (c : ℕ) (op : Op) (x : ℕ) → IsShaped g → LocksHold holder stripes g
     → is_locked holder stripes g (Busy c op x) ≡ (not (x == c) && elim holder [ Now ↦ option_eq nat_eq (holder_of stripes (stripe_of stripes (key_of op)) g) (Some x) | Begun ↦ has_begun x g ])
 is_locked-busy Begun stripes g c op x shape locks = refl
@@ -238,7 +239,8 @@ is_locked-busy Now stripes g c op x shape locks = ap (λ b. not (x == c) && b) (
     ]
 
 module _ (holder : Holder) (stripes : ℕ) (g : List Entry) (e : Entry) (callers : Callers g) (shaped : is_shaped g e ≡ true) (shape : IsShaped g) (locks : LocksHold holder stripes g) where
-  -- An entry that asks for nothing and ends nothing leaves each holder unchanged.
+  -- An entry that asks for no key of the stripe, and ends no transaction, leaves the stripe's
+  -- holder unchanged.
   pub holder_of-other : (s : ℕ) → is_end e ≡ false → asks_in stripes s e ≡ false → holder_of stripes s (g ++ e ∷ []) ≡ holder_of stripes s g
   holder_of-other s goes asks = ap (λ xs. slice_get xs 0) (holders-other stripes g e callers shaped s goes asks)
 
@@ -266,7 +268,8 @@ module _ (holder : Holder) (stripes : ℕ) (g : List Entry) (e : Entry) (callers
             ∙ sym (ap (λ b. cond {A = Option ℕ} b None (Some x)) (ne_eqb x c other))
       ]
 
--- An Asked gives its stripe to its caller, and leaves the others unchanged.
+-- An Asked gives the stripe of its key to its caller, and leaves the holders of the other stripes
+-- unchanged.
 pub holder_of-asked : (holder : Holder) (stripes : ℕ) (g : List Entry) (c t : ℕ) (op : Op) → Callers g → is_shaped g (Asked c op) ≡ true → is_locked holder stripes g (Asked c op) ≡ true → txn_at g (Asked c op) ≡ Some t
     → (s : ℕ) → holder_of stripes s (g ++ Asked c op ∷ []) ≡ cond (stripe_of stripes (key_of op) == s) (Some c) (holder_of stripes s g)
 holder_of-asked holder stripes g c t op callers shaped locked at s = elim (cases_Bool (stripe_of stripes (key_of op) == s)) [

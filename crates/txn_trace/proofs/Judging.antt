@@ -22,7 +22,7 @@ use Rattle.txn_trace.proofs.Shaped.{callers_of}
 use Rattle.txn_trace.proofs.Steps.{are_listed}
 use Rattle.txn_trace.proofs.Now.{any-filter, going_open}
 
--- A prefix of a history with one more entry is a prefix of the history, or all of it.
+-- A prefix of `h` with one more entry is a prefix of `h`, or it is `h` with this entry.
 pub prefix_push : {A : Type 0} (g h : List A) (e : A) → IsPrefix g (h ++ e ∷ []) → IsPrefix g h ⊎ (g ≡ h ++ e ∷ [])
 prefix_push [] h e p = inl (h, refl)
 prefix_push (x ∷ []) [] e p = inr (cc (p.1))

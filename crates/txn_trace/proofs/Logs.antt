@@ -44,8 +44,8 @@ abbrev pub PhaseLogged : Phase → Log → Type 0
 PhaseLogged (Waiting op) log = log.pending ≡ Some op
 PhaseLogged _ log = Unit {0}
 
--- A log has the number of changes that the seat has standing, and the operation that the seat waits
--- for.
+-- The log has as many changes as the seat counts. If the seat waits for the reply to an operation,
+-- this operation waits in the log too.
 pub record SeatLogged (s : Seat) (log : Log) : Type 0 where
   pub count : length log.standing ≡ s.standing
   pub phase : PhaseLogged s.phase log
@@ -99,8 +99,8 @@ fold_logged (e ∷ es) (Some s) log is = fold_logged es (row s s.phase e) (log_s
 pub seat_logged : (es : List Entry) (s : Seat) → seat_after es ≡ Some s → SeatLogged s (log_after es)
 seat_logged es s is = subst (λ o. LoggedAfter o (log_after es)) is (fold_logged es (Some closed_seat) no_log (record { count = refl; phase = tt }))
 
--- A log names, for each map of a run but the first, the change that made it, of a key that passes
--- the test.
+-- The log agrees with the run: the same operation waits in both, and for each map of the run but
+-- the first the log has the change that made this map. The keys of all these pass the test.
 pub record Logs (keys : ℕ → Bool) (log : Log) (r : Run) : Type 0 where
   pub pending : log.pending ≡ r.pending
   pub waits : WaitsFor keys r.pending
@@ -120,7 +120,8 @@ wider_jobs keys wide to (job ∷ jobs) last [] is = is
 wider : (keys wide : ℕ → Bool) → ((k : ℕ) → keys k ≡ true → wide k ≡ true) → (log : Log) (r : Run) → Logs keys log r → Logs wide log r
 wider keys wide to log r is = record { pending = is.pending; waits = wider_waits keys wide to r.pending is.waits; standing = wider_jobs keys wide to log.standing r.last r.earlier is.standing }
 
--- One entry of the transaction, if the run is still defined after it.
+-- After one more entry of the transaction the log still agrees with the run, if the run is still
+-- defined.
 did_logs : (keys : ℕ → Bool) (log : Log) (r r' : Run) (x : Option ℕ) (p : Option Op) → log.pending ≡ p → WaitsFor keys p → IsLogged keys log.standing r.last r.earlier → act_did r p x ≡ Some r' → Logs keys (log_did log p x) r'
 did_logs keys log r r' x None at waits is goes = absurd (cc (goes))
 did_logs keys log r r' x (Some op) at waits is goes =

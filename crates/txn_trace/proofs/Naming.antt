@@ -32,12 +32,12 @@ and_false : (b : Bool) → (b && false) ≡ false
 and_false true = refl
 and_false false = refl
 
--- Whether a caller has begun, after one more entry.
+-- Whether a caller has begun a transaction, after one more entry.
 has_begun-push : (c : ℕ) (g : List Entry) (e : Entry) → has_begun c (g ++ e ∷ []) ≡ (has_begun c g || (is_began e && caller_of e == c))
 has_begun-push c g e = list_any-append (λ f. is_began f && caller_of f == c) g (e ∷ []) ∙ ap (λ b. has_begun c g || b) (or_false (is_began e && caller_of e == c))
 
--- The entry's caller has begun a transaction if it had, or if the entry begins one; the entry
--- changes no other caller.
+-- After an entry, its caller has begun a transaction exactly if it had before, or if the entry is a
+-- Began. For every other caller the entry changes nothing.
 pub has_begun-own : (g : List Entry) (e : Entry) → has_begun (caller_of e) (g ++ e ∷ []) ≡ (has_begun (caller_of e) g || is_began e)
 has_begun-own g e = has_begun-push (caller_of e) g e ∙ ap (λ b. has_begun (caller_of e) g || b) (ap (λ b. is_began e && b) (eq-eqb (caller_of e) (caller_of e) refl) ∙ and_true (is_began e))
   where

@@ -53,7 +53,8 @@ seat-other d g e other = ap seat_after (own-other d g e other)
 pub log_of-other : (d : ℕ) (g : List Entry) (e : Entry) → d ≢ caller_of e → log_of d (g ++ e ∷ []) ≡ log_of d g
 log_of-other d g e other = ap (λ (l : Log). l.standing) (log_after-other d g e other)
 
--- An entry of the caller itself: its seat takes the row of the table, and its log the step.
+-- After an entry of the caller itself, its seat is the one in the entry's row of the table, and its
+-- log is the one after `log_step`.
 pub seat-own : (g : List Entry) (e : Entry) → seat_after (own (caller_of e) (g ++ e ∷ [])) ≡ option_and_then (λ s. row s s.phase e) (seat_after (own (caller_of e) g))
 seat-own g e = ap seat_after (own-push_in (caller_of e) g e refl) ∙ seat_after-push (own (caller_of e) g) e
 

@@ -37,7 +37,7 @@ pub same_is : (a b : Option ℕ) → a ≡ b → option_eq nat_eq a b ≡ true
 same_is a b is = subst (λ x. option_eq nat_eq a x ≡ true) is (option_itself a)
 
 module _ (base : Map) (f : ℕ → Map) (k : ℕ) where
-  -- No map differs at the key.
+  -- If no map differs from the base at the key, `first_differing` is the value of the base.
   first_base : (ts : List ℕ) → AllByRecursion (λ t. get (f t) k ≡ get base k) ts → first_differing base (map f ts) k ≡ get base k
   first_base [] all = refl
   first_base (t ∷ ts) all = ap (λ b. cond b (first_differing base (map f ts) k) (get (f t) k)) (same_is _ _ all.0) ∙ first_base ts all.1
@@ -46,7 +46,8 @@ module _ (base : Map) (f : ℕ → Map) (k : ℕ) where
   one_for_all t is [] all = tt
   one_for_all t is (u ∷ ts) all = (elim (cases_eq u t) [ inl same ↦ ap (λ x. get (f x) k) same ∙ is | inr other ↦ all.0 other ], one_for_all t is ts all.1)
 
-  -- Only one map can differ at the key.
+  -- If only the map of `t` can differ from the base at the key, `first_differing` is the value of
+  -- this map.
   first_one : (t : ℕ) (ts : List ℕ) → list_any (λ u. u == t) ts ≡ true → AllByRecursion (λ u. u ≢ t → get (f u) k ≡ get base k) ts → first_differing base (map f ts) k ≡ get (f t) k
   first_one t [] there all = absurd (false≢true there)
   first_one t (u ∷ ts) there all = elim (cases_eq u t) [
@@ -108,7 +109,8 @@ module _ (stripes : ℕ) (g : List Entry) (k : ℕ) where
   now_at-free none = first_base (serial g) (λ u. map_after (serial g) (of u g)) k (open_txns g)
       (all_pass (λ u. is_open u g) _ (λ u is. untouched stripes (of u g) (serial g) (serial g) k (none u (going_open u g is))) (txns_of is_began g))
 
-  -- The value now at a key whose stripe a running transaction holds is that of its last map.
+  -- If a running transaction holds the stripe of a key, the value now at the key is that of the
+  -- transaction's last map.
   pub now_at-holder : Apart stripes g → (t : ℕ) → IsRunning g t → keys_in stripes (of t g) k ≡ true → now_at g k ≡ get (map_after (serial g) (of t g)) k
   now_at-holder apart t running held = now_at-mine t running (λ u going other. false_from_ne_true _ (λ is. other (apart u t (stripe_of stripes k) going running.going is held)))
 
@@ -182,7 +184,7 @@ module _ (holder : Holder) (stripes : ℕ) (g : List Entry) (e : Entry) (t : ℕ
   goes_on : (u : ℕ) → ended u g ≡ false → u ≢ t → ended u (g ++ e ∷ []) ≡ false
   goes_on u goes other = ap (ends_in is_end) (entries_stay u other) ∙ goes
 
-  -- The keys of another running transaction are unchanged.
+  -- The committed value of a key is unchanged if another running transaction holds its stripe.
   same_there : (u : ℕ) → ended u g ≡ false → u ≢ t → (k : ℕ) → keys_in stripes (of u g) k ≡ true → get (serial g) k ≡ get (serial (g ++ e ∷ [])) k
   same_there u goes other k held =
       sym (ap (λ m. get m k) serial-commit ∙ untouched stripes (of t g) (serial g) (serial g) k (false_from_ne_true _ (λ is. other (apart u t (stripe_of stripes k) goes going held is))))

@@ -16,7 +16,7 @@ use Rattle.txn_trace.proofs.Seated.{none_before, are_seated}
 pub parts_of-push : (es : List Entry) (e : Entry) → parts_of (es ++ e ∷ []) ≡ part_after (parts_of es) e
 parts_of-push es e = fold-append part_after [] es (e ∷ [])
 
--- A Began begins a part, and any other entry is added to the last one.
+-- A Began begins a part, and any other entry is added to the newest part.
 pub part-began : (parts : List (List Entry)) (e : Entry) → is_began e ≡ true → part_after parts e ≡ (e ∷ []) ∷ parts
 part-began [] e is = ap (λ b. cond b ((e ∷ []) ∷ []) []) is
 part-began (part ∷ parts) e is = ap (λ b. cond b ((e ∷ []) ∷ part ∷ parts) ((part ++ e ∷ []) ∷ parts)) is
@@ -24,8 +24,8 @@ part-began (part ∷ parts) e is = ap (λ b. cond b ((e ∷ []) ∷ part ∷ par
 pub part-goes : (part : List Entry) (parts : List (List Entry)) (e : Entry) → is_began e ≡ false → part_after (part ∷ parts) e ≡ (part ++ e ∷ []) ∷ parts
 part-goes part parts e is = ap (λ b. cond b ((e ∷ []) ∷ part ∷ parts) ((part ++ e ∷ []) ∷ parts)) is
 
--- The entries of the transaction that a caller is in, or was in last, are the last part of the
--- caller's own.
+-- The entries of the transaction that a caller is in, or was in last, are the newest part of the
+-- caller's own entries.
 abbrev pub IsLastPart : ℕ → List Entry → Type 0
 IsLastPart c h = (t : ℕ) → txn_in h c ≡ Some t → (parts : List (List Entry)) × (parts_of (own c h) ≡ of t h ∷ parts)
 

@@ -83,13 +83,14 @@ row_fits s LeavingToEnd (Undone c) at = fits_if (1 + s.standing + 0) (nat_lt 0 s
 row_fits s LeavingToEnd (Aborted c) at = fits_if (1 + s.standing + 0) (s.standing == 0) closed_seat (λ b. omega arith)
 row_fits s q e at = tt
 
--- An entry takes one place of those owed before it and reserved for it; the rest is enough for what
--- its caller owes after it.
+-- Before an entry its caller has the places for the entries that it owes, and those reserved for
+-- the entry. The entry takes one of these places, and the others are enough for the entries that
+-- the caller owes afterwards.
 pub owed_by-row : (s next : Seat) (e : Entry) → row s s.phase e ≡ Some next → owed_by (Some next) + 1 ≤ owed_by (Some s) + reserved_for e
 owed_by-row s next e is = subst (FitsIn (owed_in s.standing s.phase + reserved_for e)) is (row_fits s s.phase e refl)
 
--- Over all callers, the owed entries after an entry fit into those owed before it and reserved for
--- it.
+-- The same for all callers together: the places for the entries owed before an entry, and those
+-- reserved for the entry, are enough for the entry and for the entries owed after it.
 pub owed-push : (callers : ℕ) (g : List Entry) (e : Entry) → IsShaped g → is_shaped g e ≡ true → caller_of e < callers → owed callers (g ++ e ∷ []) + 1 ≤ owed callers g + reserved_for e
 owed-push callers g e shape shaped within =
     let c : ℕ = caller_of e in

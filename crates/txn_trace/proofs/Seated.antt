@@ -72,7 +72,8 @@ module _ (g : List Entry) (e : Entry) (callers : Callers g) (shaped : is_shaped 
   seat_now : (s : Seat) → seat_after (own (caller_of e) g) ≡ Some s → is_some (row s s.phase e) ≡ true
   seat_now s is = subst (λ o. is_some (option_and_then (λ s. row s s.phase e) o) ≡ true) is (shaped_seat g e shaped)
 
-  -- The run after the entry, from the run before.
+  -- If the seat before the entry agrees with the run before it, the seat after the entry agrees
+  -- with the run after it.
   goes_on : (s s' : Seat) (m : Map) (t : ℕ) → is_began e ≡ false → is_end e ≡ false → ((r : Run) → alone m (of t g) ≡ Some r → Fits s r) → is_some (row s s.phase e) ≡ true → row s s.phase e ≡ Some s'
       → (o : Option Run) → alone m (of t g) ≡ o → (r : Run) → option_and_then (λ q. act q e) o ≡ Some r → Fits s' r
   goes_on s s' m t b n fits h is None was r goes = absurd (cc (goes))

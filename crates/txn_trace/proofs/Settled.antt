@@ -28,7 +28,7 @@ settled_in current k (job ∷ jobs) base there = elim (cases_Bool (list_any (λ 
       ∙ ap (get current) (sym (eqb-true k job.0 here))
 ]
 
--- A key that no change names has the value of the first map; one that some change names passes the
+-- A key that no change names has the value of the first map. A key that a change names passes the
 -- test.
 pub same_as_first : (keys : ℕ → Bool) (k : ℕ) (jobs : List (ℕ × Option ℕ)) (last : Map) (ms : List Map) → IsLogged keys jobs last ms → list_any (λ job. k == job.0) jobs ≡ false → get last k ≡ get (first_map last ms) k
 same_as_first keys k [] last [] is out = refl

@@ -22,7 +22,8 @@ module _ (g : List Entry) (e : Entry) (callers : Callers g) (shaped : is_shaped 
   pub ended_out : (t : ℕ) → (txn_at g e ≡ Some t → ⊥) → ended t (g ++ e ∷ []) ≡ ended t g
   ended_out t out = ap (ends_in is_end) (of-push_out t g e out)
 
-  -- An ended transaction stays ended, and one that has not ended had not ended before.
+  -- A transaction that has ended before the entry keeps its entries. A transaction that has not
+  -- ended after the entry had not ended before it.
   pub ended_stays : (t : ℕ) → ended t g ≡ true → of t (g ++ e ∷ []) ≡ of t g
   ended_stays t done = of-push_out t g e (not_after_end g e t callers shaped done)
 

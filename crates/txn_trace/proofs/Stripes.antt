@@ -26,7 +26,7 @@ holds stripes s es = list_any (asks_in stripes s) es
 abbrev pub keys_in : ℕ → List Entry → ℕ → Bool
 keys_in stripes es k = holds stripes (stripe_of stripes k) es
 
--- If each holder of a stripe is c, a transaction that holds it is that of c.
+-- If caller c is a stripe's only holder, an open transaction that holds the stripe is that of c.
 holder_is : (stripes s c u : ℕ) (g : List Entry) → ended u g ≡ false → (ls : List Line) → AllByRecursion (IsOwned g) ls
     → list_any (asks_in stripes s) (map (λ l. l.entry) (filter (is_of u) ls)) ≡ true
     → list_all (λ x. x == c) (map (λ l. caller_of l.entry) (filter (λ l. asks_in stripes s l.entry && is_in_open g l) ls)) ≡ true → txn_in g c ≡ Some u
@@ -65,7 +65,8 @@ any-push p (x ∷ es) e is = elim (or_cases (p x) _ is) [
   | inr b ↦ elim (any-push p es e b) [ inl a ↦ inl (or_right (p x) _ a) | inr a ↦ inr a ]
 ]
 
--- An entry that asks for a key of a stripe belongs to the transaction that holds it.
+-- If an entry asks for a key of a stripe that an open transaction holds, the entry belongs to that
+-- transaction.
 asked_by : (holder : Holder) (stripes s t u : ℕ) (g : List Entry) (e : Entry) → Callers g → is_locked holder stripes g e ≡ true → txn_at g e ≡ Some t → asks_in stripes s e ≡ true
     → ended u g ≡ false → holds stripes s (of u g) ≡ true → t ≡ u
 asked_by holder stripes s t u g (Asked c op) callers locked at asks going held =
@@ -145,11 +146,12 @@ runs_too keys m n (Some r) None alike is = absurd alike
 runs_too keys m n (Some r) (Some s) alike is = refl
 
 module _ (stripes : ℕ) (es : List Entry) (m n : Map) where
-  -- A key of another stripe is unchanged.
+  -- A key of a stripe that the entries do not hold is unchanged.
   pub untouched : (k : ℕ) → keys_in stripes es k ≡ false → get (map_after m es) k ≡ get m k
   untouched k out = left_of (keys_in stripes es) m m (alone m es) (alone m es) (alone_alike (keys_in stripes es) m m es (asks_own stripes es) (λ q is. refl)) k out
 
-  -- On maps that agree at the keys of these stripes the entries run alike.
+  -- If two maps agree at the keys of the stripes that the entries hold, they agree at these keys
+  -- after the entries; and if the entries run on one of the maps, they run on the other.
   pub touched : ((k : ℕ) → keys_in stripes es k ≡ true → get m k ≡ get n k) → (k : ℕ) → keys_in stripes es k ≡ true → get (map_after m es) k ≡ get (map_after n es) k
   touched same k is = inside_of (keys_in stripes es) m n (alone m es) (alone n es) (alone_alike (keys_in stripes es) m n es (asks_own stripes es) same) k (same k is) is
 

@@ -32,7 +32,7 @@ sum_at f g c a (suc n) low high same =
           omega arith
     ]
 
--- The number of elements that pass a test is the sum of a 1 for each.
+-- The number of elements that pass a test is a sum: 1 for each that passes, 0 for each other.
 pub length-filter : (p : ℕ → Bool) (xs : List ℕ) → length (filter p xs) ≡ sum_by (λ x. cond (p x) 1 0) xs
 length-filter p [] = refl
 length-filter p (x ∷ xs) =

@@ -1,4 +1,4 @@
--- The map now has at each key the value of `now_at`.
+-- The map `now` has the value of `now_at` at each key.
 use Rattle.std.proofs.Common.{◌≡◌, ℕ, ◌==◌, true, false, cond, ◌||◌, List, [], ◌∷◌, refl, ap, sym, ◌∙◌, None, Option}
 use Rattle.std.specs.Ordering.{nat_cmp, eq_by_cmp}
 use Rattle.std.specs.Cmp.{unsigned_tied}
@@ -14,7 +14,8 @@ use Rattle.txn_trace.specs.Now.{first_differing, map_of, open_maps, now, now_at}
 use Rattle.txn_words.proofs.Maps.{none_is, get-set_at}
 use Rattle.txn_trace.proofs.Now.{same_is}
 
--- The map that has at each key the value of the first map that differs there from the base.
+-- The map whose value at each key is that of the first map that differs from the base at the key,
+-- or that of the base if no map differs there.
 abbrev pub overlaid : Map → List Map → Map
 overlaid base ms = map_of (flat_map keys (base ∷ ms)) (first_differing base ms)
 

@@ -1,5 +1,5 @@
--- A log of changes, newest first, compared with the maps of a run; and the effect on the map now of
--- taking the newest back.
+-- A log of changes, newest first, compared with the maps of a run; and the map `now` after the
+-- newest change is taken back.
 use Rattle.std.proofs.Common.{◌≡◌, ℕ, ◌≢◌, Bool, true, false, ◌||◌, List, [], ◌∷◌, ◌++◌, refl, ap, sym, ◌∙◌, Some, Option, is_some}
 use Rattle.std.specs.Option.{option_and_then}
 use Rattle.std.specs.List.{list_any}
@@ -26,7 +26,8 @@ use Rattle.txn_trace.proofs.Judging.{legal_push, shape_push, locks_push}
 use Rattle.txn_trace.proofs.Others.{replies-push_other, now_at-push}
 use Rattle.txn_words.proofs.Effects.{get-after_other}
 
--- Each job names a key of a held stripe and the value that it had before.
+-- Each job names a key of a held stripe and the key's value before the change, which left every
+-- other key unchanged.
 abbrev pub IsLogged : (ℕ → Bool) → List (ℕ × Option ℕ) → Map → List Map → Type 0
 IsLogged keys [] last [] = Unit {0}
 IsLogged keys (job ∷ jobs) last (m ∷ ms) = (keys job.0 ≡ true) × (get m job.0 ≡ job.1) × ((q : ℕ) → q ≢ job.0 → get m q ≡ get last q) × IsLogged keys jobs m ms

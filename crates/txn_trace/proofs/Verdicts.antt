@@ -10,8 +10,8 @@ use Rattle.txn_words.specs.Shape.{how_many}
 use Rattle.txn_trace.specs.Legal.{IsLegal, broken, first_bad, callers_in, running, Legal, Illegal, verdict}
 use Rattle.txn_trace.proofs.Judging.{legal_iff, legal_from, legal_none, none_bad}
 
--- The i-th entry is the first that breaks a rule, and this is the rule: the entries before it are a
--- legal history, and the entry breaks the rule after them.
+-- The i-th entry is the first bad one: the entries before it are a legal history, and after them
+-- the entry breaks the rule of this number.
 pub record IsFirstBad (holder : Holder) (stripes : ℕ) (h : List Entry) (i rule : ℕ) : Type 0 where
   pub front : List Entry
   pub entry : Entry
@@ -40,7 +40,7 @@ bad_from {holder} stripes g (e ∷ h) j i rule legal index bad =
           subst (λ w. IsFirstBad holder stripes w i rule) (append_assoc g (e ∷ []) h) next
     ]) refl bad
 
--- The search finds only the first bad entry.
+-- The index and the rule that the search finds are those of the first bad entry.
 pub first_bad_is : {holder : Holder} (stripes : ℕ) (h : List Entry) (i rule : ℕ) → first_bad holder stripes [] h 0 ≡ Some (i, rule) → IsFirstBad holder stripes h i rule
 first_bad_is stripes h i rule bad = bad_from stripes [] h 0 i rule (legal_none stripes) refl bad
 
@@ -63,7 +63,7 @@ found_after {holder} stripes g (f ∷ front) e back j rule legal breaks =
     let index : j + 1 + length front ≡ j + suc (length front) = omega arith in
     rw (fine, first_bad) (later ∙ ap (λ i. Some (i, rule)) index)
 
--- The search finds the first bad entry.
+-- The search finds the first bad entry, if there is one.
 pub first_bad-found : {holder : Holder} (stripes : ℕ) (h : List Entry) (i rule : ℕ) → IsFirstBad holder stripes h i rule → first_bad holder stripes [] h 0 ≡ Some (i, rule)
 first_bad-found {holder} stripes h i rule bad =
     let index : 0 + length bad.front ≡ i = (let n = bad.index in omega arith) in

@@ -7,8 +7,9 @@ use Rattle.txn_words.specs.declared.entry.Entry.{Entry}
 use Rattle.txn_words.specs.declared.entry.Entry.TheVariants.{Asked, Did, Saved, Undone, Returned}
 use Rattle.txn_words.specs.Map.{Map, reply_of, after, is_change}
 
--- A run is a list of maps, the newest separate; the operation that waits for its reply; and for
--- each level the number of maps that was noted there, 1 at level 0.
+-- A run has its last map; its earlier maps, newest first; the operation that waits for its reply,
+-- if there is one; and for each level the number of maps that the run had when the level was set,
+-- which is 1 for level 0.
 pub record Run : Type 0 where
   pub last : Map
   pub earlier : List Map
@@ -38,7 +39,7 @@ act_did run (Some op) r =
     then Some (record (with_op run op) { pending = None })
     else None
 
--- Undone: the last map is dropped; the first may not be.
+-- Undone: the last map is dropped. A run that has only its first map allows no Undone.
 abbrev pub act_undone : Run → List Map → Option Run
 act_undone run [] = None
 act_undone run (m ∷ ms) = Some (record run { last = m; earlier = ms })

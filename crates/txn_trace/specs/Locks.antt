@@ -30,7 +30,7 @@ holders stripes s h =
     map (λ line. caller_of line.entry)
     (filter (λ line. asks_in stripes s line.entry && is_in_open h line) (lines_of h))
 
--- The caller that holds a stripe, if one does: in a legal history no stripe has two.
+-- The caller that holds a stripe, if a caller does. In a legal history no stripe has two holders.
 abbrev pub holder_of : ℕ → ℕ → List Entry → Option ℕ
 holder_of stripes s h = slice_get (holders stripes s h) 0
 
@@ -44,8 +44,8 @@ abbrev pub may_name : Holder → ℕ → ℕ → List Entry → ℕ → Bool
 may_name Now stripes s g x = list_any (λ y. y == x) (holders stripes s g)
 may_name Begun stripes s g x = has_begun x g
 
--- Whether the rule of locks allows an entry after g: an Asked if no other caller holds the stripe,
--- a Busy if the caller that it names is another one and may be named, and every other entry.
+-- Whether the rule of locks allows an entry after g. It allows an Asked if no other caller holds
+-- the stripe, a Busy if it names another caller that it may name, and every entry of another kind.
 abbrev pub is_locked : Holder → ℕ → List Entry → Entry → Bool
 is_locked holder stripes g (Asked c op) =
     list_all (λ x. x == c) (holders stripes (stripe_of stripes (key_of op)) g)

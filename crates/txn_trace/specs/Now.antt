@@ -23,7 +23,7 @@ first_differing base (m ∷ ms) k =
 abbrev pub now_at : List Entry → ℕ → Option ℕ
 now_at h k = first_differing (serial h) (open_maps h) k
 
--- The map of a function at these keys; it has no others.
+-- The map that has the values of a function at these keys, and has no other keys.
 abbrev pub map_of : List ℕ → (ℕ → Option ℕ) → Map
 map_of ks f = fold (λ m k. set_at m k (f k)) empty ks
 

@@ -1,6 +1,6 @@
 //! The laws of histories: functions that do nothing, whose contracts are the laws. So a crate above
-//! can cite a law without naming a lemma of `proofs/`. The one here holds for both rules of holders
-//! and any number of stripes: aborted transactions leave nothing behind.
+//! can cite a law without naming a lemma of `proofs/`. The only law here is that aborted
+//! transactions leave nothing behind. It holds for both rules of holders and any number of stripes.
 
 ghost use Rattle.std.specs.Prelude.{◌≡◌, ℕ, List};
 ghost use Rattle.txn_trace.specs.Erase.{erase};
@@ -11,8 +11,8 @@ ghost use Rattle.txn_trace.specs.Serial.{serial};
 ghost use Rattle.txn_words.specs.declared.entry.Entry.{Entry};
 ghost use Rattle.txn_words.specs.declared.holder.Holder.{Holder};
 
-/// A legal history without the entries of its aborted transactions has the same map now and the
-/// same committed map, and its replies hold.
+/// If the entries of its aborted transactions are left out, a legal history still has the same map
+/// now and the same committed map, and its replies still hold.
 ///
 /// The contract is the law; the function does nothing.
 pub fn erased()

@@ -1,4 +1,4 @@
--- The effect of an operation on a map: none if it is no change, and none on any other key.
+-- The effect of an operation: only a change alters the map, and only at the operation's key.
 use Rattle.std.proofs.Common.{◌≡◌, ℕ, ◌==◌, ◌≢◌, true, false, cond, refl, ap, sym, subst, ◌∙◌, Some, None}
 use Rattle.std.specs.Prelude.{nat_eq}
 use Rattle.std.specs.Option.{option_eq}
@@ -46,7 +46,7 @@ get-after_same m n (PutIf k expected v) q same at =
       | false ↦ same
     ])
 
--- A change by its reply is a change on the map.
+-- The operation's reply shows whether the operation is a change on the map.
 pub changes-reply : (m : Map) (op : Op) → changes op (reply_of m op) ≡ is_change m op
 changes-reply m (Put k v) = refl
 changes-reply m (Take k) = refl

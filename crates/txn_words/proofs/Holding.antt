@@ -1,4 +1,4 @@
--- Words that name a seat, stripes in a list, and lists of words and of seats' views by position.
+-- Words that name a seat, how often a stripe occurs in a list, and a list's elements by position.
 use Rattle.std.proofs.Common.{replicate, ◌≡◌, ◌≢◌, ℕ, zero, suc, ◌+◌, ◌-◌, ◌<◌, ◌≤◌, ◌⊎◌, List, [], ◌∷◌, ◌++◌, length, get_or, reverse, Some, slice_get, sym, refl, ◌∙◌, ap, subst, inl, inr, ⊎_elim, arith, cond, eqb, eq-eqb, ne_eqb}
 use Rattle.std.proofs.lemmas.List.{reverse-append}
 use Rattle.std.proofs.lemmas.Option.{none-some, same_Some}
@@ -78,7 +78,8 @@ times_removed_le k j ks = dite (ℕ_discrete j k)
 
 -- f and g are the words of the stripes before and after a step that changes at most the word of stripe i.
 module _ (f g : ℕ → ℕ) (i : ℕ) (other : (k : ℕ) → k ≢ i → g k ≡ f k) where
-  -- A seat that this word names neither before nor after has the same words.
+  -- If the word of stripe i does not name a seat before or after the step, the step does not change
+  -- which words name this seat.
   pub once_kept : (a : ℕ) → f i ≢ a + 1 → g i ≢ a + 1 → (k : ℕ) → once_for a (g k) ≡ once_for a (f k)
   once_kept a was is k = dite (ℕ_discrete k i)
       (λ (y : k ≡ i). subst (λ (j : ℕ). once_for a (g j) ≡ once_for a (f j)) (sym y) (once_no a (g i) is ∙ sym (once_no a (f i) was)))
@@ -111,13 +112,13 @@ module _ {A : Type 0} where
   within (x ∷ xs) zero a e = omega arith
   within (x ∷ xs) (suc i) a e = let h : i < length xs = within xs i a e in omega arith
 
-  -- An element of a list to which one was added is an old one or the new one.
+  -- After an element is added at the end of a list, each element is an old element or the new one.
   pub at_end : (l : List A) (a b : A) (i : ℕ) → get_elem? (l ++ a ∷ []) i ≡ some b → (get_elem? l i ≡ some b) ⊎ ((i ≡ length l) × (a ≡ b))
   at_end [] a b zero e = inr (refl, some-injective a b e)
   at_end [] a b (suc i) e = absurd (some-ne-none b (sym e))
   at_end (x ∷ xs) a b zero e = inl e
   at_end (x ∷ xs) a b (suc i) e = ⊎_elim (λ (t : get_elem? xs i ≡ some b). inl t) (λ (t : (i ≡ length xs) × (a ≡ b)). inr (omega arith, t.1)) (at_end xs a b i e)
 
-  -- The element of a list of one is that one, at position 0.
+  -- A list of one element has only this element, at position 0.
   pub only : (a b : A) (i : ℕ) → get_elem? (a ∷ []) i ≡ some b → (i ≡ 0) × (a ≡ b)
   only a b i e = ⊎_elim (λ z. absurd (some-ne-none b (sym z))) (λ t. t) (at_end [] a b i e)

@@ -21,7 +21,7 @@ IsRisingList kept = (i j : ℕ) → i ≤ j → j < length kept → get_or kept 
 abbrev pub AreWithin : ℕ → List ℕ → Type 0
 AreWithin standing kept = (i : ℕ) → i < length kept → get_or kept i 0 ≤ standing
 
--- A phase, as a statement about the standing changes and the levels.
+-- The statement about the standing changes and the levels that holds in a phase.
 abbrev pub IsLevelIn : Phase → ℕ → List ℕ → Type 0
 IsLevelIn Closed standing kept = (standing ≡ 0) × (kept ≡ 0 ∷ [])
 IsLevelIn Opened standing kept = AreWithin standing kept
@@ -149,6 +149,6 @@ fold_leveled [] o is = is
 fold_leveled (e ∷ es) None is = fold_leveled es None tt
 fold_leveled (e ∷ es) (Some s) is = fold_leveled es (row s s.phase e) (row_leveled s s.phase e refl is.rising is.within)
 
--- The savepoints of the seat after any entries have these properties.
+-- After any entries the seat is `Leveled`.
 pub seat_leveled : (es : List Entry) (s : Seat) → seat_after es ≡ Some s → Leveled s
 seat_leveled es s is = subst LeveledAfter is (fold_leveled es (Some closed_seat) closed_leveled)

@@ -43,7 +43,7 @@ get-insert-here m k v = get-insert m k v k ∙ ap (λ b. cond b (Some v) (get m 
 pub get-remove-here : (m : Map) (k : ℕ) → get (remove m k) k ≡ None
 get-remove-here m k = get-remove m k k ∙ ap (λ b. cond b None (get m k)) (eq-eqb k k refl)
 
--- The map with a value at one key, or without the key.
+-- After `set_at` the key has the value that was set, or none, and every other key is unchanged.
 pub get-set_at : (m : Map) (j : ℕ) (o : Option ℕ) (k : ℕ) → get (set_at m j o) k ≡ cond (k == j) o (get m k)
 get-set_at m j None k = get-remove m j k
 get-set_at m j (Some v) k = get-insert m j v k

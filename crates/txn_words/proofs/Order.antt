@@ -94,7 +94,7 @@ none_below k (row ∷ rows) is =
     let parts = pair_parts (is_lt (nat_cmp k row.0)) (below_all nat_cmp k rows) is in
     ap (λ b. cond b (Some row.1) (find nat_cmp k rows)) (unsigned_tied k row.0 ∙ ne_eqb k row.0 (λ same. not_below_itself k (subst (λ x. T (is_lt (nat_cmp k x))) (sym same) parts.0))) ∙ none_below k rows parts.1
 
--- The first option, or the second if there is none.
+-- The first option if it has a value, else the second.
 abbrev pub or_else : Option ℕ → Option ℕ → Option ℕ
 or_else None y = y
 or_else (Some v) y = Some v

@@ -10,7 +10,7 @@ use Rattle.txn_words.specs.Ordered.{split_cmp, ordered}
 use Rattle.txn_words.proofs.Maps.{get-insert, get-remove}
 use Rattle.txn_words.proofs.Order.{split_cmp_total, split_cmp_tied, value_at, IsSortedBySplit, value_at-put, sorted-ordered, pair_parts, pair_both, value_at-ordered, ordered_is}
 
--- A pair is linked into the list, written or unlinked.
+-- The next lemmas are about sorted lists in which one pair is linked, written or unlinked.
 below_middle : (x k v : ℕ) (front back : List (ℕ × ℕ)) → T (below_all split_cmp x (front ++ (k, v) ∷ back)) → T (is_lt (split_cmp x k))
 below_middle x k v [] back below = (pair_parts (is_lt (split_cmp x k)) (below_all split_cmp x back) below).0
 below_middle x k v (pair ∷ front) back below = below_middle x k v front back (pair_parts (is_lt (split_cmp x pair.0)) (below_all split_cmp x (front ++ (k, v) ∷ back)) below).1
@@ -70,8 +70,8 @@ value_at-without k v (pair ∷ front) back sorted =
     ap (λ b. cond b (Some pair.1) (value_at k (front ++ back))) (split_cmp_tied k pair.0 ∙ ne_eqb k pair.0 (λ is. less_apart pair.0 k (below_middle pair.0 k v front back parts.0) (sym is)))
     ∙ value_at-without k v front back parts.1
 
--- A pair with a new key, put so that the list still rises: the ordered pairs of the map with the
--- key.
+-- If a pair with a new key is linked into a map's ordered pairs so that the list still rises, these
+-- are the ordered pairs of the map with the new pair.
 pub ordered-linked : (m : Map) (k v : ℕ) (front back : List (ℕ × ℕ)) → front ++ back ≡ ordered m → IsSortedBySplit (front ++ (k, v) ∷ back) → front ++ (k, v) ∷ back ≡ ordered (insert m k v)
 ordered-linked m k v front back is sorted = ordered_is (insert m k v) (front ++ (k, v) ∷ back) sorted (λ q.
     value_at-middle q k v front back sorted ∙ ap (λ es. cond (q == k) (Some v) (value_at q es)) is ∙ ap (cond (q == k) (Some v)) (value_at-ordered m q) ∙ sym (get-insert m k v q))
@@ -79,7 +79,8 @@ ordered-linked m k v front back is sorted = ordered_is (insert m k v) (front ++ 
 value_in : (m : Map) (k v : ℕ) (front back : List (ℕ × ℕ)) → front ++ (k, v) ∷ back ≡ ordered m → (q : ℕ) → get m q ≡ cond (q == k) (Some v) (value_at q (front ++ back))
 value_in m k v front back is q = sym (value_at-ordered m q) ∙ ap (value_at q) (sym is) ∙ value_at-middle q k v front back (subst IsSortedBySplit (sym is) (sorted-ordered m))
 
--- A pair written with another value: the ordered pairs of the map with that value at the key.
+-- If one of a map's ordered pairs gets another value, these are the ordered pairs of the map with
+-- this value at the key.
 pub ordered-written : (m : Map) (k v w : ℕ) (front back : List (ℕ × ℕ)) → front ++ (k, v) ∷ back ≡ ordered m → front ++ (k, w) ∷ back ≡ ordered (insert m k w)
 ordered-written m k v w front back is =
     let sorted : IsSortedBySplit (front ++ (k, w) ∷ back) = subst T (sorted_written k v w front back) (subst IsSortedBySplit (sym is) (sorted-ordered m)) in
@@ -90,7 +91,8 @@ ordered-written m k v w front back is =
     twice true rest = refl
     twice false rest = refl
 
--- A pair taken out: the ordered pairs of the map without the key.
+-- If a pair is taken out of a map's ordered pairs, these are the ordered pairs of the map without
+-- the pair's key.
 pub ordered-unlinked : (m : Map) (k v : ℕ) (front back : List (ℕ × ℕ)) → front ++ (k, v) ∷ back ≡ ordered m → front ++ back ≡ ordered (remove m k)
 ordered-unlinked m k v front back is =
     let sorted : IsSortedBySplit (front ++ (k, v) ∷ back) = subst IsSortedBySplit (sym is) (sorted-ordered m) in
@@ -101,7 +103,7 @@ ordered-unlinked m k v front back is =
           ∙ sym (get-remove m k q ∙ ap (λ b. cond b None (get m q)) (ne_eqb q k away))
     ])
 
--- The ordered pairs of a map with one more key, and without a key.
+-- An insert into the map puts the pair into the ordered pairs.
 pub ordered-insert : (m : Map) (k v : ℕ) → ordered (insert m k v) ≡ put split_cmp k v (ordered m)
 ordered-insert m k v = sym (ordered_is (insert m k v) (put split_cmp k v (ordered m)) (is_sorted-put split_cmp split_cmp_total k v (ordered m) (sorted-ordered m)) (λ q.
     value_at-put q k v (ordered m) ∙ ap (cond (q == k) (Some v)) (value_at-ordered m q) ∙ sym (get-insert m k v q)))

@@ -59,8 +59,8 @@ key_of (PutIf k expected v) = k
 abbrev pub reply_of : Map → Op → Option ℕ
 reply_of m op = get m (key_of op)
 
--- The map after an operation. A PutIf puts its value exactly if the key has the expected value, or
--- none if none is expected.
+-- The map after an operation. A PutIf puts its value exactly if the key's value is the expected
+-- one; None expects that the key is not there.
 abbrev pub after : Map → Op → Map
 after m (Put k v) = insert m k v
 after m (Take k) = remove m k
@@ -68,7 +68,7 @@ after m (Get k) = m
 after m (PutIf k expected v) = if option_eq nat_eq (get m k) expected then insert m k v else m
 
 -- Whether an operation is a change: a Put, a Take of a key that is there, or a PutIf whose key has
--- the expected value, or none if none is expected.
+-- the expected value. None expects that the key is not there.
 abbrev pub is_change : Map → Op → Bool
 is_change m (Put k v) = true
 is_change m (Take k) = is_some (get m k)

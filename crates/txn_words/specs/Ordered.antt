@@ -7,8 +7,8 @@ use Rattle.std.specs.declared.cmp.Ordering.{Ordering}
 use Rattle.split_key.specs.Split.{split}
 use Rattle.txn_words.specs.Map.{Map}
 
--- Keys are compared by their split keys, and by themselves if these are equal: the order of their
--- sort keys.
+-- Compares keys by their split keys and, if the split keys are equal, by the keys themselves. This
+-- is the order of the sort keys.
 abbrev pub split_cmp : ℕ → ℕ → Ordering
 split_cmp = then_cmp (λ a b. nat_cmp (split a) (split b)) nat_cmp
 

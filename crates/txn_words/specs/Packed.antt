@@ -68,8 +68,8 @@ is_small e = nat_lt (caller_of e) 65536 && nat_lt (holder_in e) 65536
 abbrev pub small_entry : Entry → Option Entry
 small_entry e = if is_small e then Some e else None
 
--- The step of this kind, with the number `c` of its caller, its helper or its size, and the number
--- `n` or the operation at key `n`.
+-- The step of this kind. `c` is its caller, its helper or the size of a `Double`; `n` is its level,
+-- its bucket or its operation's key.
 abbrev pub packed_step : StepKind → OpKind → ℕ → ℕ → ℕ → ℕ → Step
 packed_step step_kinds.Begin op c n v e = steps.Begin c
 packed_step step_kinds.Ask op c n v e = steps.Ask c (packed_op op n v e)

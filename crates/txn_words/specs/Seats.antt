@@ -25,7 +25,7 @@ is_leaving (LeavingTo n) = true
 is_leaving LeavingToEnd = true
 is_leaving _ = false
 
--- Whether the caller takes changes back, and one is left to take back.
+-- Whether the caller is taking changes back, and a change is left to take back.
 abbrev pub has_job : Seat → Bool
 has_job seat = elim seat.phase [
   | LeavingTo n ↦ nat_lt (slice_index seat.kept n) seat.standing

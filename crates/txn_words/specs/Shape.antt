@@ -24,7 +24,7 @@ pub record RoomySeat : Type 0 where
   pub seat : Seat
   pub room : ℕ
 
--- The number of levels that it has memory for, including level 0.
+-- The number of levels that the seat has memory for, including level 0.
 abbrev pub capacity : RoomySeat → ℕ
 capacity roomy = length roomy.seat.kept + roomy.room
 
@@ -39,8 +39,7 @@ changes (Take k) r = is_some r
 changes (Get k) r = false
 changes (PutIf k expected v) r = option_eq nat_eq r expected
 
--- The seat after an entry, for each phase and each entry that is allowed in it, and None for all
--- others.
+-- The seat after an entry, or None if the entry is not allowed in this seat and phase.
 abbrev pub row : Seat → Phase → Entry → Option Seat
 row s Closed (Began c t) = Some (record closed_seat { phase = Opened })
 row s Opened (Asked c op) = Some (record s { phase = Waiting op })

@@ -11,7 +11,7 @@ pub enum Action {
     Op(Op),
     /// Sets a savepoint.
     Save,
-    /// Goes back to the savepoint of this number, or to the start at 0.
+    /// Goes back to the savepoint of this number; 0 is the start of the transaction.
     Back(u64),
     /// Helps the table along for this key: doubles it if that is due, and initialises the key's
     /// bucket.

@@ -15,8 +15,8 @@ pub enum Op {
     Take(u64),
     /// Looks a key up.
     Get(u64),
-    /// Puts a value at a key exactly if the key has the expected value, or none if none is
-    /// expected: the key, the expected value, the new value.
+    /// Puts a value at a key exactly if the key's value is the expected one; `None` expects that
+    /// the key is not there. The fields are the key, the expected value and the new value.
     PutIf(u64, Option<u64>, u64),
 }
 

@@ -25,7 +25,7 @@ enum ActionKind {
 pub struct PackedAction {
     kind: ActionKind,
     op: OpKind,
-    /// The key of its operation or its help, or its level.
+    /// The key of an operation or of a `Help`, or the level of a `Back`.
     number: u64,
     value: u64,
     expected: u64,

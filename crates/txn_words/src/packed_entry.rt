@@ -43,7 +43,7 @@ pub struct PackedEntry {
     pub(crate) kind: Kind,
     pub(crate) op: OpKind,
     pub(crate) caller: u64,
-    /// The key of its operation, or its one other number.
+    /// The key of an operation; or the number of a transaction or a commit, a reply or a level.
     pub(crate) number: u64,
     pub(crate) value: u64,
     pub(crate) expected: u64,
@@ -149,7 +149,7 @@ impl PackedEntry {
     }
 }
 
-/// The kind of an operation, its key, its value and the value that it expects; 0 if it has none.
+/// An operation's kind, key, value and expected value; a number that the operation lacks is 0.
 pub(crate) fn parts_of(op: Op) -> (OpKind, u64, u64, u64)
     ensures { packed_op result.0 result.1 result.2 result.3 ≡ op }
 {

@@ -32,9 +32,9 @@ enum StepKind {
 pub struct PackedStep {
     kind: StepKind,
     op: OpKind,
-    /// Its caller or its helper, or the size of a doubling.
+    /// The caller or the helper, or the size that a `Double` names.
     first: u64,
-    /// The key of its operation, its level or its bucket.
+    /// The key of an operation, a level or a bucket.
     second: u64,
     value: u64,
     expected: u64,

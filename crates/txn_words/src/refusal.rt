@@ -17,8 +17,8 @@ use std::fmt;
 pub enum Refusal {
     /// 1: the key is 2^63 or more, and the limits take only half keys.
     BadKey,
-    /// 2: the caller's number is not below the number of callers; or, at a join in C, no caller of
-    /// the striped map waits.
+    /// 2: the caller's number is not below the number of callers; or a join in C finds no caller of
+    /// the striped map that still waits to be joined.
     NoSuchCaller,
     /// 3: the caller has no transaction.
     NotOpen,
@@ -44,8 +44,8 @@ pub enum Refusal {
     HelperOutOfOrder,
     /// 14: memory was refused.
     NoMemory,
-    /// 15: a caller's token does not agree with the core or with its own side value, or did not
-    /// before; or the map does not close.
+    /// 15: a caller's token does not agree with the core or with its own side value, now or at an
+    /// earlier call; or the map does not close.
     OutOfStep,
     /// 16: no stamp below 2^64 - 1 is left.
     StampsUsedUp,

@@ -9,8 +9,8 @@ use crate::packed_action::PackedAction;
 use std::alloc::{AllocError, Global};
 use std::marker::Model;
 
-/// The actions of one transaction, in order, which are kept packed. A contract sees it as the list
-/// of them.
+/// The actions of one transaction, in order and packed. A contract sees the script as the list of
+/// these actions.
 #[derive(Drop)]
 pub struct Script {
     actions: Vec<PackedAction>,

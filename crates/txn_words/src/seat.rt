@@ -34,8 +34,9 @@ pub enum Phase {
 
 /// A caller's seat: its phase, how many of its changes stand, and how many stood at each savepoint.
 ///
-/// A contract sees it as two things: `seat`, the seat of the definitions, in which level 0 is noted
-/// too, with no change; and `room`, the number of further `Saved` entries that it has memory for.
+/// A contract sees it as two things: `seat`, the seat of the definitions, which also lists level 0,
+/// at which no change stood; and `room`, the number of further `Saved` entries that the seat has
+/// memory for.
 #[derive(Drop)]
 pub struct Seat {
     phase: Phase,
@@ -67,14 +68,14 @@ impl Seat {
         }
     }
 
-    /// Its phase.
+    /// The caller's phase.
     pub fn phase(&self) -> Phase
         ensures { result ≡ self.now.seat.phase }
     {
         self.phase
     }
 
-    /// How many of its changes stand.
+    /// How many of the caller's changes stand.
     pub fn standing(&self) -> u64
         ensures { result ≡ self.now.seat.standing }
     {
@@ -88,7 +89,7 @@ impl Seat {
         self.savepoints.len() as u64
     }
 
-    /// How many changes stood at a level, which is 0 at level 0. `None` if there is no such level.
+    /// How many changes stood at a level: 0 at level 0. Answers `None` if there is no such level.
     pub fn kept(&self, level: u64) -> Option<u64>
         ensures { result ≡ slice_get self.now.seat.kept level }
     {
@@ -98,7 +99,7 @@ impl Seat {
         }
     }
 
-    /// Whether it takes changes back and one is left to take back.
+    /// Whether the caller is taking changes back, and a change is left to take back.
     pub fn has_job(&self) -> bool
         ensures { result ≡ has_job self.now.seat }
     {
@@ -197,8 +198,8 @@ impl Seat {
         }
     }
 
-    /// Makes room for one more savepoint, if there is none. The seat is unchanged, and the room
-    /// never shrinks.
+    /// Makes room for one more savepoint, unless there is room already. The seat is unchanged, and
+    /// the room never shrinks.
     ///
     /// # Errors
     ///

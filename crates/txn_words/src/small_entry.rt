@@ -38,7 +38,8 @@ impl Model for SmallEntry {
 }
 
 impl SmallEntry {
-    /// The entry, packed; none if its caller, or the holder that it names, is 65,536 or more.
+    /// Packs an entry. Answers `None` if the caller, or the holder that the entry names, is 65,536
+    /// or more.
     #[inline(always)]
     pub fn new(entry: Entry) -> Option<SmallEntry>
         ensures { result ≡ small_entry entry }
@@ -92,8 +93,8 @@ impl SmallEntry {
         self.has_fields_of(other) || self.is_same_unpacked(other)
     }
 
-    /// Whether another small entry has the same in each field, so that it is the same entry. A
-    /// field that the kind does not use can differ between two that are the same.
+    /// Whether another small entry is equal in each field; if so, both are the same entry. A field
+    /// that the kind does not use may differ between two small entries that are the same entry.
     #[inline(always)]
     fn has_fields_of(&self, other: &SmallEntry) -> bool
         ensures { result ≡ true → self.now ≡ other.now }

@@ -1,6 +1,6 @@
 //! The steps of callers, of helpers and of the table, and the entries that they add to a history.
 //! These rules need no core: a step and its answer determine the entry, at most one, and the step
-//! tells for how many entries room is reserved before it is taken.
+//! determines how many entries the history must have room for before the step is taken.
 ghost use Rattle.std.specs.Prelude.{◌≡◌, option_to_list};
 ghost use Rattle.txn_words.specs.Entries.{entries_of};
 ghost use Rattle.txn_words.specs.Owed.{reserved};

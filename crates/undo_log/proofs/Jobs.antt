@@ -12,7 +12,7 @@ module _ {J : Type 0} where
   length_jobs_in (None ∷ rest) there = absurd there
   length_jobs_in (Some job ∷ rest) there = ap suc (length_jobs_in rest there)
 
-  -- One more job is the newest.
+  -- A job in one more place at the end is the newest job.
   pub jobs_in-push : (places : List (Option J)) (job : J) → jobs_in (places ++ Some job ∷ []) ≡ jobs_in places ++ job ∷ []
   jobs_in-push [] job = refl
   jobs_in-push (None ∷ rest) job = jobs_in-push rest job

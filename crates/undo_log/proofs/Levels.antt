@@ -37,26 +37,27 @@ map_rising f g low (k ∷ ks) high rising same =
     let rest : map f (k ∷ ks) ≡ map g (k ∷ ks) = map_rising f g k ks high rising.1 same in cc
 
 module _ {J : Type 0} (before after : J → List ℕ) where
-  -- Beyond the jobs, the words are those now.
+  -- If all jobs are left, the words are the current words.
   words_at_end : (now : List ℕ) (jobs : List J) (k : ℕ) → length jobs ≤ k → words_at before now jobs k ≡ now
   words_at_end now [] k past = refl
   words_at_end now (job ∷ jobs) zero past = absurd (omega (arith, past))
   words_at_end now (job ∷ jobs) (suc k) past = words_at_end now jobs k (omega (arith, past))
 
-  -- Below the newest job the words are as if the words before that job were the words now.
+  -- If the newest job is not left, the words are those that the other jobs give with the words
+  -- before the newest job as the current words.
   words_at-push : (now : List ℕ) (jobs : List J) (job : J) (k : ℕ) → k ≤ length jobs → words_at before now (jobs ++ job ∷ []) k ≡ words_at before (before job) jobs k
   words_at-push now [] job zero within = refl
   words_at-push now [] job (suc k) within = absurd (omega (arith, within))
   words_at-push now (first ∷ jobs) job zero within = refl
   words_at-push now (first ∷ jobs) job (suc k) within = words_at-push now jobs job k (omega (arith, within))
 
-  -- One more job, whose words before are the words now, keeps the chain.
+  -- A chain goes on with one more job if the words before this job are the current words.
   IsChain-push : (jobs : List J) (job : J) → IsChain before after (before job) jobs → IsChain before after (after job) (jobs ++ job ∷ [])
   IsChain-push [] job chain = (refl, tt)
   IsChain-push (first ∷ jobs) job chain =
       (chain.0 ∙ sym (words_at-push (after job) jobs job 0 (omega arith)), IsChain-push jobs job chain.1)
 
-  -- The words after the newest job are the words now.
+  -- The words after the newest job are the current words.
   newest_fits : (now : List ℕ) (jobs : List J) (job : J) → IsChain before after now (jobs ++ job ∷ []) → now ≡ after job
   newest_fits now [] job chain = sym chain.0
   newest_fits now (first ∷ jobs) job chain = newest_fits now jobs job chain.1
@@ -67,7 +68,7 @@ module _ {J : Type 0} (before after : J → List ℕ) where
   IsChain_pop now (first ∷ jobs) job chain =
       (chain.0 ∙ words_at-push now jobs job 0 (omega arith), IsChain_pop now jobs job chain.1)
 
-  -- A log stays undoable with one more job, whose change led from the words `was` to the words now.
+  -- A log stays undoable with one more job, whose change led from the words `was` to `now`.
   pub IsUndoable-push : (was now : List ℕ) (log pushed : Log J) (job : J) → was ≡ before job → now ≡ after job → pushed.jobs ≡ log.jobs ++ job ∷ [] → pushed.kept ≡ log.kept → IsUndoable before after was log → IsUndoable before after now pushed
   IsUndoable-push was now log pushed job fits gives jobs kept undoable =
       let chain : IsChain before after (before job) log.jobs = subst (λ w. IsChain before after w log.jobs) fits undoable.chain in
@@ -85,14 +86,14 @@ module _ {J : Type 0} (before after : J → List ℕ) where
       λ k within. ap (λ js. words_at before now js k) jobs ∙ words_at-push now log.jobs job k within ∙ ap (λ w. words_at before w log.jobs k) (sym fits) in
       ap (λ ks. map (words_at before now pushed.jobs) (0 ∷ ks)) kept ∙ map_rising (words_at before now pushed.jobs) (words_at before was log.jobs) 0 log.kept (length log.jobs) nested same
 
-  -- A savepoint here keeps all jobs.
+  -- A log stays undoable with one more savepoint, which keeps all jobs.
   IsUndoable-save : (now : List ℕ) (log saved : Log J) → saved.jobs ≡ log.jobs → saved.kept ≡ log.kept ++ length log.jobs ∷ [] → IsUndoable before after now log → IsUndoable before after now saved
   IsUndoable-save now log saved jobs kept undoable = record {
     chain = subst (IsChain before after now) (sym jobs) undoable.chain;
     nested = subst (λ ks. IsRising 0 ks (length saved.jobs)) (sym kept) (subst (λ js. IsRising 0 (log.kept ++ length log.jobs ∷ []) (length js)) (sym jobs) (IsRising-push 0 log.kept (length log.jobs) undoable.nested));
   }
 
-  -- A savepoint here has the words now.
+  -- The level of one more savepoint, which keeps all jobs, has the current words.
   pub levels_of-save : (now : List ℕ) (log saved : Log J) → saved.jobs ≡ log.jobs → saved.kept ≡ log.kept ++ length log.jobs ∷ [] → levels_of before now saved ≡ levels_of before now log ++ now ∷ []
   levels_of-save now log saved jobs kept =
       ap (λ js. map (words_at before now js) (0 ∷ saved.kept)) jobs
@@ -105,15 +106,15 @@ module _ {J : Type 0} (before after : J → List ℕ) where
   IsUndoable-saved now log saved (Ok x) jobs kept err undoable = IsUndoable-save now log saved jobs kept undoable
   IsUndoable-saved now log saved (Err e) jobs kept err undoable = subst (IsUndoable before after now) (sym err) undoable
 
-  -- Some of the newest jobs have been run, none of those that the level keeps; they led from the
-  -- words `start` to the words now.
+  -- Some of the newest jobs have been run, but no job that the level keeps; these runs led from the
+  -- words `start` to the words `now`.
   pub record IsOnTheWay (start now : List ℕ) (old new : Log J) (level : ℕ) : Type 0 where
     pub kept : new.kept ≡ old.kept
     pub chain : IsChain before after now new.jobs
     pub enough : kept_at old.kept level ≤ length new.jobs
     pub words : (k : ℕ) → k ≤ length new.jobs → words_at before now new.jobs k ≡ words_at before start old.jobs k
 
-  -- At its start no job has been run.
+  -- At the start of the way, no job has been run.
   pub on_the_way_start : (start : List ℕ) (log : Log J) (level : ℕ) → level ≤ length log.kept → IsUndoable before after start log → IsOnTheWay start start log log level
   on_the_way_start start log level there undoable = record {
     kept = refl;
@@ -122,7 +123,7 @@ module _ {J : Type 0} (before after : J → List ℕ) where
     words = λ k within. refl;
   }
 
-  -- One more job leads to the words before it.
+  -- The run of one more job leads to the words before that job.
   pub on_the_way_step : (start now next : List ℕ) (old log popped : Log J) (job : J) (level : ℕ) → IsOnTheWay start now old log level → kept_at log.kept level < length log.jobs → log.jobs ≡ popped.jobs ++ job ∷ [] → popped.kept ≡ log.kept → next ≡ before job → IsOnTheWay start next old popped level
   on_the_way_step start now next old log popped job level way above jobs kept gives =
       let shorter : length log.jobs ≡ length popped.jobs + 1 = ap length jobs ∙ length_push popped.jobs job in
@@ -138,7 +139,7 @@ module _ {J : Type 0} (before after : J → List ℕ) where
             ∙ way.words k (omega (arith, within, shorter));
       }
 
-  -- The words after the job that is taken out are the words now.
+  -- The words after the job that is taken out are the current words.
   pub on_the_way_fits : (start now : List ℕ) (old log : Log J) (jobs : List J) (job : J) (level : ℕ) → IsOnTheWay start now old log level → log.jobs ≡ jobs ++ job ∷ [] → now ≡ after job
   on_the_way_fits start now old log jobs job level way is = newest_fits now jobs job (subst (IsChain before after now) is way.chain)
 

@@ -19,7 +19,7 @@ AreThere [] = Unit {0}
 AreThere (None ∷ rest) = ⊥
 AreThere (Some job ∷ rest) = AreThere rest
 
--- Each place has its job, all of them fit, and the inline ones take no allocation.
+-- Each place has its job, the places in use are within the capacity, and so are the inline places.
 pub record IsSound {J : Type 0} (inline : ℕ) (places : SmallVec (Option J)) : Type 0 where
   pub there : AreThere places.items
   pub fits : small_vec_len places ≤ places.capacity

@@ -13,7 +13,8 @@ pub record Leveled (S : Type 0) : Type 0 where
   pub room : ℕ
   pub save_room : ℕ
 
--- The words if only the first k jobs are left: those before the next job, or the words now.
+-- The words if only the first k jobs are left: the words before the job that follows them, or the
+-- current words (`now`) if no job follows.
 abbrev pub words_at : {J : Type 0} → (J → List ℕ) → List ℕ → List J → ℕ → List ℕ
 words_at before now [] k = now
 words_at before now (job ∷ jobs) zero = before job
@@ -23,18 +24,19 @@ words_at before now (job ∷ jobs) (suc k) = words_at before now jobs k
 abbrev pub levels_of : {J : Type 0} → (J → List ℕ) → List ℕ → Log J → List (List ℕ)
 levels_of before now log = map (words_at before now log.jobs) (0 ∷ log.kept)
 
--- The words after each job are those before the next newer one, and after the newest the words now.
+-- The words after each job are the words before the next newer job, and the words after the newest
+-- job are the current words.
 abbrev pub IsChain : {J : Type 0} → (J → List ℕ) → (J → List ℕ) → List ℕ → List J → Type 0
 IsChain before after now [] = Unit {0}
 IsChain before after now (job ∷ jobs) =
     (after job ≡ words_at before now jobs 0) × IsChain before after now jobs
 
--- The numbers never fall, from low to high.
+-- The numbers never fall, and lie between low and high.
 abbrev pub IsRising : ℕ → List ℕ → ℕ → Type 0
 IsRising low [] high = low ≤ high
 IsRising low (k ∷ ks) high = (low ≤ k) × IsRising k ks high
 
--- From the words now, the jobs lead back through the words of each level.
+-- The jobs lead from the current words back through the words of each level.
 pub record IsUndoable {J : Type 0} (before after : J → List ℕ) (now : List ℕ)
     (log : Log J) : Type 0 where
   pub chain : IsChain before after now log.jobs

@@ -9,14 +9,16 @@ pub record IsSameSide {S : Type 0} (a b : Leveled S) : Type 0 where
   pub changes : b.changes ≡ a.changes
   pub kept : b.kept ≡ a.kept
 
--- The value is unchanged, and is level 0 and the only level; no change can be taken back.
+-- The value is unchanged, the only level is level 0 with the value's words, and no change can be
+-- taken back.
 pub record IsSettled {S : Type 0} (words : S → List ℕ) (a b : Leveled S) : Type 0 where
   pub value : b.value ≡ a.value
   pub levels : b.levels ≡ words a.value ∷ []
   pub changes : b.changes ≡ 0
   pub kept : b.kept ≡ 0 ∷ []
 
--- The value is unchanged, and is one more level, which keeps all changes.
+-- The value is unchanged, and there is one more level, which has the value's words and keeps all
+-- changes.
 pub record HasLevel {S : Type 0} (words : S → List ℕ) (a b : Leveled S) : Type 0 where
   pub value : b.value ≡ a.value
   pub levels : b.levels ≡ a.levels ++ words a.value ∷ []

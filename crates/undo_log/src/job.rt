@@ -22,7 +22,7 @@ pub trait UndoJob: Drop {
     /// unchanged.
     ghost takes_back: { Self → Self.World → Self.World → Type 0 };
 
-    /// Takes the change back. Its cost is the job's.
+    /// Takes the change back. The job's type determines the cost.
     fn run(self, world: Self::World) -> Self::World
         requires { shows_after self world }
         ensures before { shows_before self result }

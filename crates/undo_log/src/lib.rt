@@ -2,8 +2,9 @@
 //! Methodology for Highly-Concurrent Transactional Objects", PPoPP 2008, rule 3, compensating
 //! actions): one inverse for each change, run newest first when the transaction goes back.
 //!
-//! - `UndoJob`: an inverse. It names what its world, such as a table, shows after the change and
-//!   before it. `run` takes a world that shows the first, and answers one that shows the second.
+//! - `UndoJob`: an inverse. It names the state of its world, such as a table, after the change and
+//!   before it. `run` takes a world that shows the state after the change, and answers one that
+//!   shows the state before it.
 //! - `UndoLog`: contracts see its jobs, oldest first, and how many of them each savepoint keeps.
 //!   Savepoints are numbered 1, 2, ..; level 0 is the beginning, which keeps none. Jobs are taken
 //!   out newest first, each once, and only above the level that is named. Up to eight are kept in

@@ -53,7 +53,7 @@ impl<J: UndoJob, const INLINE: usize> JobLog<InlineJobs<J, INLINE>> {
     ///
     /// # Errors
     ///
-    /// `AllocError` if memory is refused, so never if there are at most `INLINE` jobs.
+    /// `AllocError` if memory is refused, which never happens for at most `INLINE` jobs.
     ///
     /// # Cost
     ///
@@ -124,12 +124,13 @@ impl<S: JobStore> JobLog<S> {
         }
     }
 
-    /// Makes room for one more job, if there is none. The room stays until a job is pushed into it.
+    /// Makes room for one more job, unless there is room already. The room stays until a job is
+    /// pushed into it.
     ///
     /// # Errors
     ///
-    /// `AllocError` if memory is refused, which happens only if there was no room, so never while
-    /// there are fewer than `S.inline` jobs. Then nothing has changed.
+    /// `AllocError` if memory is refused; then nothing has changed. It happens only if there was no
+    /// room, so never while there are fewer than `S.inline` jobs.
     ///
     /// # Cost
     ///
@@ -158,7 +159,8 @@ impl<S: JobStore> JobLog<S> {
         self.jobs.add(job);
     }
 
-    /// Makes room for one more savepoint, if there is none, so that the next `save` succeeds.
+    /// Makes room for one more savepoint, unless there is room already, so that the next `save`
+    /// succeeds.
     ///
     /// # Errors
     ///
@@ -221,11 +223,11 @@ impl<S: JobStore> JobLog<S> {
         }
     }
 
-    /// Takes out the newest job, or answers `None` if only those are left that the level keeps.
+    /// Takes out the newest job. Answers `None` if only the jobs that the level keeps are left.
     ///
     /// Savepoints stay until `cut`, also those above the level. The job's place is room again, into
-    /// which the job may be pushed back. A transaction that commits takes out all its jobs by level
-    /// 0, discards them and cuts at 0.
+    /// which the job may be pushed back. A transaction that commits takes out all its jobs above
+    /// level 0, discards them and cuts at 0.
     pub fn pop_above(&mut self, level: usize) -> Option<S::Job>
         requires { level ≤ length self.old.kept }
         ensures newest { result ≡ newest_above self.old level }
@@ -239,7 +241,8 @@ impl<S: JobStore> JobLog<S> {
         self.jobs.take_newest()
     }
 
-    /// Drops the savepoints above the level and keeps the level's, once no job above it is left.
+    /// Drops the savepoints above the level, and keeps the level's savepoint. No job above the
+    /// level may be left.
     ///
     /// # Cost
     ///

@@ -23,12 +23,12 @@ pub trait Side: Drop + Send {
     /// The words that a job names as after its change.
     ghost after: { Self.Job → List ℕ };
 
-    /// The four words of the value. The cost is the side type's.
+    /// The four words of the value. The side type determines the cost.
     fn words(&self) -> [u64; 4]
         ensures { result ≡ words_of self.now };
 
-    /// The value without the job's change, restored from what the job keeps. The cost is the side
-    /// type's.
+    /// The value without the job's change, restored from what the job keeps. The side type
+    /// determines the cost.
     fn undo(self, job: Self::Job) -> Self
         requires { words_of self ≡ after job }
         ensures { words_of result ≡ before job };

@@ -77,9 +77,9 @@ impl<S: Side> SideValue<S> {
 
     /// Changes the value, and logs the job that takes the change back.
     ///
-    /// The value now must meet what `change` requires. The words that the job names as before its
-    /// change must be those of the value now, and the words that it names as after its change must
-    /// be those of the value that `change` answers.
+    /// The current value must meet what `change` requires. The words that the job names as before
+    /// its change must be those of the current value, and the words that it names as after its
+    /// change must be those of the value that `change` answers.
     ///
     /// # Errors
     ///
@@ -127,7 +127,8 @@ impl<S: Side> SideValue<S> {
         Ok(())
     }
 
-    /// Makes room for one more savepoint, if there is none, so that the next `save` succeeds.
+    /// Makes room for one more savepoint, unless there is room already, so that the next `save`
+    /// succeeds.
     ///
     /// # Errors
     ///

@@ -29,7 +29,7 @@ pub trait JobStore: Drop {
     fn count(&self) -> usize
         ensures { result ≡ length (jobs_of self.now) };
 
-    /// Makes room for one more job, if there is none.
+    /// Makes room for one more job, unless there is room already.
     ///
     /// # Errors
     ///
@@ -67,8 +67,8 @@ pub trait JobStore: Drop {
         ensures room { room_of self.new ≡ room_of self.old + length (option_to_list result) };
 }
 
-/// All jobs are in an allocation. So the size of a log does not depend on that of a job, which for
-/// a side value is the caller's choice.
+/// All jobs are in an allocation. So the size of a log does not depend on the size of a job, which
+/// for a side value is the caller's choice.
 impl<J: UndoJob> JobStore for Vec<J> {
     type Job = J;
 

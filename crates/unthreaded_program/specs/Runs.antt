@@ -65,8 +65,8 @@ status_after (Ok true) = 0
 status_after (Ok false) = 1
 status_after (Err fault) = status_of fault
 
--- Standard error after a run: the line of a fault, unless standard error did not take all of it,
--- and nothing if there was none.
+-- Standard error after a run. If there was a fault and standard error took its whole line, the line
+-- was added; if there was no fault, standard error is unchanged.
 abbrev pub Tells : Option (List ℕ) → Option (List ℕ) → Bool → Outcome → Type 0
 Tells old new is_told (Ok well) = Keeps old new × (is_told ≡ true)
 Tells old new is_told (Err fault) = is_told ≡ true → Appends old new (line (message_of fault))

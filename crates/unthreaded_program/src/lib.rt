@@ -1,4 +1,4 @@
-//! The program `boostmap` but for the engine of `run`: from the words of a call to its exit status.
+//! The program `boostmap` without the engine of `run`: from the words of a call to its exit status.
 //!
 //! A program opens the file that the words name (`open`), runs the command on it (`run_command`),
 //! and ends with the line of a fault and a status (`end`). `boostmap_program` does so with an

@@ -40,11 +40,12 @@ fn fault_of(reason: NoCall) -> Fault
     }
 }
 
-/// Reads the words of the call and opens the file that they name: the command, with that file.
+/// Reads the words of the call and opens the file that they name. Answers the command and the open
+/// file.
 ///
 /// # Errors
 ///
-/// - `Usage` if the words are no call of the program, or no texts.
+/// - `Usage` if the words are not texts, or are no call of the program.
 /// - `Read` if the file cannot be opened.
 /// - `NoMemory` if memory is refused.
 ///

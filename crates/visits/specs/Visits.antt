@@ -39,7 +39,8 @@ pub record IsAnswered (h : List Entry) (visit : Visit) (reply : Option ℕ) : Ty
   pub whole : of txn h ≡ visiting caller visit txn before reply place
   pub got : reply ≡ Some visit.value
 
--- Each visit has an answer, in their order, and each answer that is a reply is that of the history.
+-- There is an answer for each visit, in the order of the visits. If the answer is a reply, the
+-- visit has committed in the history with this reply, and got what it put.
 pub record AreAnswered (h : List Entry) (visits : List Visit)
     (answers : List (Result (Option ℕ) Stop)) : Type 0 where
   pub count : length answers ≡ length visits

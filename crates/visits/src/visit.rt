@@ -85,8 +85,8 @@ impl<R: Wait> Work<R> for Visit {
 ///
 /// # Cost
 ///
-/// A thread and a transaction for each visit, begun again as long as its stripe is held, and that
-/// of the map's `new` and `close`.
+/// A thread for each visit, and a transaction, begun again as long as its stripe is held; and the
+/// cost of the map's `new` and `close`.
 pub fn visit_all<R: Threads + Wait + Sync>(
     rt: &R,
     alloc: Global,

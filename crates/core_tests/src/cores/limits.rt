@@ -1,6 +1,6 @@
-//! Cores at their limits. The contracts let any call that takes memory be refused it, so a body
-//! that gives up at a limit would be proved. With enough memory these calls must have the same
-//! answers as elsewhere.
+//! Cores at their limits. By contract any call that takes memory may be refused memory, so a body
+//! that gives up at a limit would meet its contract. With enough memory calls at a limit must have
+//! the same answers as elsewhere.
 use super::{Call, begin, help_is, large_core, play_calls, put, put_helped, small_core};
 use crate::devices::{
     abort, back, core_with, has_map, limits_of, operate, pairs_of, run_steps, sizes_of, step_is,
@@ -126,7 +126,7 @@ fn save_all(rt: &impl Abort, core: &mut Core, levels: u64) -> Result<(), Fail> {
     Ok(())
 }
 
-/// Levels to go back to, one after the other: as many keys are left.
+/// Levels to go back to, one after the other. After the return to level n, n keys are left.
 static LEVELS: [u64; 7] = [1_000, 999, 500, 11, 10, 1, 0];
 
 fn levels_are(rt: &impl Abort, core: &mut Core, levels: &[u64]) -> Result<(), Fail> {
@@ -147,7 +147,7 @@ fn levels_to_a_thousand(rt: HostRuntime) -> Result<(), Fail> {
     levels_are(&rt, &mut small_core(&rt, rt.alloc()), &LEVELS)
 }
 
-/// Caller 0 changes a key this number of times, from 0 on, each time to one more.
+/// Caller 0 changes key 5 this number of times: its value is 0 at first, and each change adds 1.
 fn change_often(rt: &impl Abort, core: &mut Core, times: u64) -> Result<(), Fail> {
     let mut value: u64 = 0;
     for _ in 0..times {
@@ -258,8 +258,8 @@ fn largest_table(rt: HostRuntime) -> Result<(), Fail> {
     fill_and_run(&rt, alloc, &mut large_core(&rt, alloc))
 }
 
-/// Room for more entries than memory can hold is refused, and room for some is made: with either
-/// the core goes on.
+/// Room for more entries than memory can hold is refused, and room for fewer is made. The core
+/// works as usual after both.
 #[test]
 fn room_for_entries(rt: HostRuntime) -> Result<(), Fail> {
     let alloc = rt.alloc();
@@ -268,7 +268,7 @@ fn room_for_entries(rt: HostRuntime) -> Result<(), Fail> {
     fill_and_count(&rt, &mut core)
 }
 
-/// Asks for the least room, for some and for too much, before and in a transaction.
+/// Asks for no room, for some room and for too much room, before a transaction and in it.
 fn makes_room(rt: &impl Abort, core: &mut Core) -> Result<(), Fail> {
     has_room(rt, core);
     begin(rt, core)?;
@@ -276,8 +276,8 @@ fn makes_room(rt: &impl Abort, core: &mut Core) -> Result<(), Fail> {
     Ok(())
 }
 
-/// Room for no entry and for a few thousand is made, written or not, and room for 2^64 - 1 is
-/// refused.
+/// Room for 0, 1,000 and 2,000 entries is made, whether or not it is also written, and room for
+/// 2^64 - 1 entries is refused.
 fn has_room(rt: &impl Abort, core: &mut Core) {
     assert!(rt; core.reserve(0, true).is_ok());
     assert!(rt; core.reserve(1_000, false).is_ok());

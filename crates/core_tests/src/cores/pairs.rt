@@ -1,6 +1,7 @@
-//! Pairs of keys that share a split key, a key below 2^63 and the one with 2^63 more: two callers'
-//! steps in every order, each compared with a plain map that has its own undo. Two lists of seven
-//! steps have 3,432 orders, too many for a table, so no answer here was worked out by hand.
+//! Pairs of keys that share a split key: a key below 2^63, and that key plus 2^63. Two callers take
+//! their steps in every order, and each answer is compared with that of a plain map that has its
+//! own undo. Two lists of seven steps have 3,432 orders, too many for a table, so no answer here
+//! was worked out by hand.
 use super::plain_map::{PlainMap, Stage};
 use crate::devices::{core_with, limits_of, pairs_of, sizes_of, step_is, take_step};
 use boost_core::Core;
@@ -12,8 +13,8 @@ use txn_words::{Answer, Op, Step};
 /// The number of pairs on which the orders are tried, one after the other.
 const PAIRS: u64 = 24;
 
-/// The orders of two lists of seven steps are the numbers below this one with seven bits set. They
-/// say, bit by bit, whose step is next.
+/// An order of two lists of seven steps is a number below `ORDERS` with seven bits set. From the
+/// lowest bit on, each bit says whose step is next.
 const ORDERS: u32 = 1 << 14;
 
 /// The operations of a caller on its own key, or on both keys of the pair.
@@ -27,7 +28,8 @@ enum Plan {
 }
 
 impl Plan {
-    /// The plan as steps. Those of an abort or a return take one change back and then end.
+    /// The plan as steps. After an abort or a return, the steps take one change back, and the last
+    /// step ends the abort or the return.
     fn steps(self, caller: u64, own: u64, other: u64) -> [Step; 7] {
         let value = caller.wrapping_add(100);
         let put = Op::Put(own, value);
@@ -61,8 +63,8 @@ struct Compared {
     last: Option<u64>,
 }
 
-/// Takes a step of a caller. A position that no longer fits is sought again at once: that may be
-/// needed only if the other caller, whose step was the last, acted in between.
+/// Takes a step of a caller. If the caller's position no longer fits, the caller seeks again at
+/// once. That may be needed only if the last step, by caller `last`, was the other caller's.
 fn take_anew(
     rt: &impl Abort,
     core: &mut Core,
@@ -223,7 +225,7 @@ fn lower_of(pair: u64) -> u64 {
     (pair % PAIRS).wrapping_mul(401)
 }
 
-/// The upper key of a pair, 2^63 more.
+/// The upper key of a pair: the lower key plus 2^63.
 fn upper_of(pair: u64) -> u64 {
     lower_of(pair) | 1 << 63
 }

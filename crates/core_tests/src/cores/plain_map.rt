@@ -1,6 +1,7 @@
-//! The answers to the steps of two callers on a plain map that has stripes, and an undo for each
-//! caller. It is apart from `pairs`, which compares, so that it uses nothing of the core. It has no
-//! cursors, so it never answers `Again`, and it refuses only by a caller's stage and undo.
+//! A plain map that has stripes, and an undo for each caller: it answers the steps of two callers.
+//! This module uses nothing of the core; `pairs` compares the map's answers with those of the core.
+//! The map has no cursors, so it never answers `Again`. It refuses a step only because of the
+//! caller's stage or undo.
 use std::alloc::{AllocError, Global};
 use std::collections::BTreeMap;
 use txn_words::{Answer, Op, Refusal, Step};
@@ -15,8 +16,8 @@ pub(super) enum Stage {
     Aborting,
 }
 
-/// A caller: its stage, the stripes that it holds, and of each change the key with the value before
-/// it.
+/// A caller: its stage, the stripes that it holds, and for each change the key and the value before
+/// the change.
 #[derive(Drop)]
 struct Player {
     stage: Stage,
@@ -93,7 +94,7 @@ impl PlainMap {
         self.map.len() as u64
     }
 
-    /// The pairs, by the keys' reversed bits with bit 63 set, and then by the keys.
+    /// The pairs, sorted by split key (set bit 63 of the key, then reverse its bits), then by key.
     pub(super) fn in_split_order(&self, alloc: Global) -> Result<Vec<(u64, u64)>, AllocError> {
         let mut sorted = Vec::new(alloc);
         for (key, value) in &self.map {

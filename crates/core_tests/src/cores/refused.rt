@@ -1,7 +1,7 @@
-//! The state of a core after memory was refused: tests that are also run with each allocation
-//! refused in turn, and with all refused from one of them on. The runs of `cores` fail if memory is
-//! refused; these go on. The numbers compared take no memory to read, and pairs are compared if
-//! there is some.
+//! Tests of the state of a core after memory was refused. They are also run with each allocation
+//! refused in turn, and with all allocations refused from each of them on. The runs of `cores` fail
+//! if memory is refused; these tests go on. They compare numbers, which take no memory to read, and
+//! also the pairs if there is memory for their lists.
 use crate::devices::{
     abort, core_if_made, limits_of, owed_by, pairs_of, sizes_of, step_is, take_step, trace_of,
 };
@@ -60,7 +60,7 @@ fn try_step(
     try_beside(rt, alloc, core, &pairs, step, wanted)
 }
 
-/// Takes steps up to one that is refused memory, which changes nothing: then the answer is false.
+/// Takes steps until one is refused memory, which changes nothing. Answers whether all were taken.
 fn try_steps(
     rt: &impl Abort,
     alloc: Global,

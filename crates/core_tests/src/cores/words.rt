@@ -78,9 +78,9 @@ fn answer(core: &mut Core, right: &StripeRight, ask: Ask) -> Result<Answer, Fail
     }
 }
 
-/// Caller 0 puts with the right to stripe 1. For caller 1 a right to that stripe, the word of
-/// caller 2, which has never begun, and the word of caller 1 itself are stale. With the word of
-/// caller 0 it is busy.
+/// Caller 0 puts with the right to stripe 1. Then caller 1 asks for key 9, of the same stripe. The
+/// right to the stripe, the word of caller 2, which has never begun, and the word of caller 1
+/// itself are refused as stale. With the word of caller 0 the answer is busy.
 static ASKS: [(Ask, Answer); 11] = [
     (Ask::Step(Step::Begin(0)), Answer::Began(1)),
     (Ask::Right(0, Op::Put(1, 10)), Answer::Asked),
@@ -157,8 +157,8 @@ fn rights_and_words(rt: HostRuntime) -> Result<(), Fail> {
     play(&rt, alloc, &mut core_with_words(&rt, alloc))
 }
 
-/// A core that was made with room for less than it needs, or for more, written or not, answers the
-/// same.
+/// A core that was made with less room than it needs, or with more, gives the same answers, also if
+/// the room was written.
 #[test]
 fn cores_with_room(rt: HostRuntime) -> Result<(), Fail> {
     let alloc = rt.alloc();

@@ -13,7 +13,7 @@ const CALLERS: [u64; 4] = [0, 1, 7, 63];
 pub(super) struct Draws(pub(super) u64);
 
 impl Draws {
-    /// A number below the bound, if that is not 0.
+    /// A number below the bound, or 0 if the bound is 0.
     pub(super) fn below(&mut self, bound: u64) -> u64 {
         self.0 = self
             .0
@@ -22,7 +22,7 @@ impl Draws {
         (self.0 >> 33).checked_rem(bound).unwrap_or(0)
     }
 
-    /// One of this number of first callers.
+    /// One of the first `callers` numbers of `CALLERS`.
     fn caller(&mut self, callers: u64) -> u64 {
         let place = self.below(callers);
         CALLERS.get(place as usize).copied().unwrap_or(0)
@@ -132,8 +132,9 @@ fn next_in_open(
     }
 }
 
-/// The entry for an operation in an open transaction: it is asked for, or its stripe is held. If
-/// its stripe was tested early, the holder may be any other caller that has begun.
+/// The entry for an operation in an open transaction: a Busy if another caller holds the stripe,
+/// else an Asked. If the stripe was tested early, any other caller that has begun counts as its
+/// holder.
 fn next_operation(history: &[Entry], caller: u64, op: Op, stripes: u64, is_early: bool) -> Entry {
     let stripe = plain::stripe_of(op, stripes);
     for other in CALLERS {

@@ -287,7 +287,7 @@ impl Running {
         })
     }
 
-    /// Lets entries act; answers the last map, or `None` if one of them may not.
+    /// Lets entries act. Answers the last map, or `None` if one of the entries may not act.
     fn act_all(&mut self, entries: &[Entry]) -> Result<Option<Values>, AllocError> {
         for entry in entries {
             if !self.act(entry)? {
@@ -317,7 +317,7 @@ impl Running {
         Ok(true)
     }
 
-    /// Takes in the reply of the pending operation; answers whether that is the last map's.
+    /// Takes in the reply of the pending operation. Answers whether the last map gives this reply.
     fn reply(&mut self, reply: Reply) -> Result<bool, AllocError> {
         let (Some(op), Some(last)) = (self.pending.take(), self.maps.last()) else {
             return Ok(false);
@@ -333,7 +333,7 @@ impl Running {
     }
 }
 
-/// The last map of a transaction that runs alone on these values; `None` if it has a wrong reply.
+/// The last map of a transaction that runs alone on these values; `None` if an entry may not act.
 fn run_alone(
     start: &Values,
     entries: &[Entry],

@@ -1,6 +1,7 @@
 //! Readers and writers that fail at each call in turn, memory that is refused, and the lines of
-//! faults. No contract counts calls: here no call is made again after it failed. If memory is
-//! refused, by `docs/tests/refused.sh`, the output is empty or one of a few worked out by hand.
+//! faults. No contract counts the calls of a reader or a writer; the tests here check that none is
+//! made after one has failed. If memory is refused, by `docs/tests/refused.sh`, the output is empty
+//! or one of a few that were worked out by hand.
 
 use super::checks::{CHECKED, LEGAL};
 use super::mixes::{EMPTY_SCRIPT, SHORT_HISTORY};
@@ -104,8 +105,8 @@ fn is_among(known: &[&str], text: &str) -> bool {
     known.iter().any(|one| *one == text)
 }
 
-/// Checks that one of these texts is printed; or nothing, if memory is refused, or if a thread is
-/// refused to a run.
+/// Checks that one of these texts is printed, or that nothing is printed because memory was refused
+/// or, for `run`, a thread.
 fn refuse_memory<T: Abort + Threads + Wait + Sync>(
     rt: &T,
     alloc: Global,
@@ -150,9 +151,9 @@ const TWO_SCRIPTS: &str =
     "{\"version\":1,\"workers\":1,\"stripes\":8,\"buckets\":8,\"tries\":0,\"scripts\":[[[\"put\",1,\
     10],[\"save\"]],[[\"get\",1]]]}";
 
-/// The histories of these scripts: the whole one, and those in which memory was refused to one
-/// step, which ended its script: to the begin, the ask or the save of the first script, or to the
-/// begin or the ask of the second.
+/// The histories of these scripts. The first is the whole one. In each of the others memory was
+/// refused to one step, which ended its script: the begin, the ask or the save of the first script,
+/// or the begin or the ask of the second.
 const TWO_SCRIPTS_HISTORIES: &[&str] = &[
     "{\"entries\":[[\"began\",0,1],[\"asked\",0,\"put\",1,10],[\"did\",0,null],[\"saved\",0],\
         [\"committed\",0,1],[\"began\",0,2],[\"asked\",0,\"get\",1],[\"did\",0,10],\
@@ -208,7 +209,7 @@ const LINES: &[(Fault, &str, u8)] = &[
     (Fault::OutOfStep, "out of step", 4),
 ];
 
-/// The text of a fault, which is its message too, and its status.
+/// The text, the message and the status of a fault.
 fn line_of(alloc: Global, fault: &Fault) -> Result<(String, String, u8), Fail> {
     let message = fault.message().to_string(alloc)?;
     Ok((fault.to_string(alloc)?, message, fault.status()))

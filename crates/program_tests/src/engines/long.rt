@@ -10,10 +10,10 @@ use std::io::Write;
 use std::process::Abort;
 use std::test::Fail;
 
-/// Numbers of puts, each with the least and the greatest number of digits beyond four that the keys
-/// of the four gets have together. With the first number of puts the last entry ends within 10
-/// bytes of the border of a piece, so the end of the line is before the border or behind it. With
-/// the second the border is at each byte of an entry in turn.
+/// Each row has a number of puts, and the least and the greatest `digits` for `key`. In the first
+/// row the last entry ends within 10 bytes of the border of a piece, so the end of the line is
+/// before the border or behind it. In the second row the border is at each byte of an entry in
+/// turn.
 const LENGTHS: [(u64, u32, u32); 2] = [(1916, 36, 56), (1930, 0, 36)];
 
 /// The number of puts whose history fills two pieces and a part.
@@ -25,7 +25,7 @@ const MANY: u64 = 4000;
 struct Expecting<'a> {
     /// The part of the text that it has not taken yet.
     rest: &'a [u8],
-    /// Whether all that it has taken was the text.
+    /// Whether all bytes that it has taken were those of the text.
     is_right: bool,
     most: usize,
     calls: usize,
@@ -63,8 +63,7 @@ impl Write for Expecting<'_> {
     }
 }
 
-/// The key of a get: a power of ten. The keys of the four gets have together this many digits and
-/// four more.
+/// The key of a get: a power of ten. Together the keys of the four gets have `digits` + 4 digits.
 fn key(get: u32, digits: u32) -> u64 {
     let more = digits.saturating_sub(get.saturating_mul(18)).min(18);
     10u64.checked_pow(more).unwrap_or(0)
@@ -112,14 +111,14 @@ fn mixed<'a>(
     (result, output)
 }
 
-/// The whole line is written, whatever the writer takes at a time.
+/// The whole line is written, however many bytes the writer takes at a time.
 fn compare_whole(rt: &impl Abort, alloc: Global, file: &str, line: &str, most: usize) {
     let (result, output) = mixed(alloc, file, Expecting::new(line, most, usize::MAX));
     let is_whole = result.is_ok() && output.is_right && output.rest.is_empty();
     assert!(rt; is_whole, "{most}");
 }
 
-/// The writes before the one that fails are a beginning of the line, and none follows it.
+/// The writes before the failing one wrote a beginning of the line, and no write follows it.
 fn compare_failed(rt: &impl Abort, alloc: Global, file: &str, line: &str, fails_at: usize) {
     let (result, output) = mixed(alloc, file, Expecting::new(line, 10_000, fails_at));
     let is_told = matches!(result, Err(Fault::Write)) && output.is_right;

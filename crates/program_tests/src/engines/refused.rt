@@ -12,11 +12,11 @@ use std::process::Abort;
 use std::test::Fail;
 use txn_words::{Answer, Entry, Holder, Limits, Op, Refusal, SmallEntry, Step, Unpacked};
 
-/// The number of times that a call is tried before memory is taken to be refused for good: once
-/// more than `docs/tests/refused.py` refuses in a row, unless it refuses all from one on.
+/// The number of times that a call is tried before memory is taken to be refused for good: one more
+/// than the allocations that `docs/tests/refused.py` refuses in a row, if it does not refuse all.
 const TRIES: usize = 9;
 
-/// The caller that looks on. Each caller below it changes the key that is one above its number.
+/// The caller that looks on. Each caller `n` below it changes the key `n + 1`.
 const ONLOOKER: u64 = 5;
 
 const NO_MEMORY: Answer = Answer::Refused(Refusal::NoMemory);
@@ -235,7 +235,7 @@ fn pairs_of(alloc: Global, core: &Core) -> Option<Vec<(u64, u64)>> {
     None
 }
 
-/// Takes a step; `None` if memory is refused.
+/// Takes a step. Answers `None` if memory is refused.
 fn answer_if_given(rt: &impl Abort, core: &mut Core, step: Step) -> Option<Answer> {
     for _ in 0..TRIES {
         let answer = take(rt, core, step);
@@ -301,7 +301,7 @@ fn state_of(caller: u64, entries: &[Entry]) -> CallerState {
     state
 }
 
-/// The value of a caller's key, with this number of its changes.
+/// The value of a caller's key if this number of the caller's changes stands.
 fn value_with(changes: u64) -> Option<u64> {
     match changes {
         1 => Some(10),
@@ -391,9 +391,9 @@ fn compare(rt: &impl Abort, alloc: Global, core: &mut Core, entries: &[Entry], l
     }
 }
 
-/// Takes steps up to the first that is refused memory, which only a begin and an ask may be, and
-/// compares the state after each that adds an entry, except after an ask. `before` entries were
-/// there before. Answers how many there are then.
+/// Takes steps until one is refused memory; only a begin or an ask may be. Compares the state after
+/// each step that adds an entry, except after an ask. `before` is the number of entries at the
+/// beginning. Answers their number at the end. Neither number counts the onlooker's entries.
 fn play(
     rt: &impl Abort,
     alloc: Global,
@@ -512,7 +512,7 @@ fn play_beside(rt: &impl Abort, alloc: Global, core: &mut Core) {
     }
 }
 
-/// Plays all steps, or the steps beside.
+/// Plays all steps of the five callers, or the two steps of a caller beside another's put.
 fn play_on(rt: &impl Abort, alloc: Global, core: &mut Core, is_all: bool) {
     if is_all {
         play_all(rt, alloc, core);

@@ -64,8 +64,8 @@ pub const FILES: &[Files] = &[
         printed: FIRST_REPORT,
         status: 0,
     },
-    // Bad input: a file that ends too early, a step whose number is a text, and too many callers;
-    // and other similar files.
+    // Bad input: a file that ends too early, a step with a text instead of a number, too many
+    // callers or none, and a text instead of the number of callers.
     Files {
         command: Command::Replay,
         frame: "#",

@@ -16,7 +16,7 @@ const SIZES: &str = r#""version":1,"workers":1,"stripes":8,"buckets":8"#;
 const SCRIPTS_IN_VERSION: &str =
     r#"{"version":@,"workers":1,"stripes":2,"buckets":8,"tries":3,"scripts":#}"#;
 
-/// These files with a gap for one script.
+/// A file with gaps for its version and for one script, between good scripts and a wrong one.
 const BETWEEN_SCRIPTS: &str =
     "{\"version\":@,\"workers\":1,\"stripes\":2,\"buckets\":8,\"tries\":3,\"scripts\":[[],\
     [[\"get\",1]],#,[0]]}";
@@ -113,7 +113,7 @@ fn are_actions(packed: &[PackedAction], wanted: &[Action]) -> bool {
             .all(|(packed, action)| packed.action() == *action)
 }
 
-/// Whether the scripts are those of these actions.
+/// Whether the scripts have exactly the wanted actions.
 fn are_scripts(scripts: &[Script], wanted: &[&[Action]]) -> bool {
     scripts.len() == wanted.len()
         && scripts
@@ -122,7 +122,8 @@ fn are_scripts(scripts: &[Script], wanted: &[&[Action]]) -> bool {
             .all(|(script, actions)| are_actions(script.actions(), actions))
 }
 
-/// The actions of a script, by value, and how many it says there are.
+/// Makes a script of these actions. Answers how many actions the script says it has, and the
+/// actions that it gives back.
 fn given_back(alloc: Global, actions: &[Action]) -> Result<(usize, Vec<PackedAction>), Fail> {
     let script = Script::of_actions(alloc, actions)?;
     Ok((script.actions().len(), script.into_actions()))

@@ -50,7 +50,7 @@ const BEFORE_MEMBERS: &str =
 const BEYOND_MEMBERS: &str =
     r#"{"version":1,"callers":1,"stripes":8,"buckets":8,"steps":[["sweep"]]#}"#;
 
-/// These files with a gap for the value of a member that no step file has.
+/// Files of one step with a gap for the value of `x`, a member that no step file has.
 const BEFORE_STEPS: &str =
     r#"{"x":#,"version":1,"callers":1,"stripes":8,"buckets":8,"steps":[["sweep"]]}"#;
 
@@ -151,7 +151,7 @@ fn content_of(alloc: Global, bytes: &[u8]) -> Result<((u32, u32, u32, bool), Vec
     Ok((sizes, steps))
 }
 
-/// Compares the content of the file with this piece.
+/// Compares the content of the file that has this piece in its gap.
 fn compare(rt: &impl Abort, alloc: Global, read: Read, piece: &str) -> Result<(), Fail> {
     let text = read.frame.replace(alloc, "#", piece)?;
     let (sizes, steps) = content_of(alloc, text.as_bytes())?;
@@ -265,7 +265,7 @@ null
         fillings: "",
         fault: Some(FileFault::NotJson),
     },
-    // Steps that are no steps.
+    // Wrong steps.
     Files {
         kind: Kind::Steps,
         frame: STEPS_OF_TWO,
@@ -348,7 +348,7 @@ null
         fillings: "",
         fault: Some(FileFault::NotJson),
     },
-    // A `put_if` that is none in any version; and one that version 1 does not have.
+    // Steps that are a `put_if` in no version; then a good `put_if`, which version 1 does not have.
     Files {
         kind: Kind::Steps,
         frame: STEPS_IN_VERSION,

@@ -95,8 +95,8 @@ fn put(
 
 impl Home {
     /// A list that has the dummy of bucket 0, with this stamp, and two buckets on it, which can
-    /// grow to `max`. `None` if memory is refused, if the stamp is 2^64 - 1, or if `max` is neither
-    /// 2 nor 8.
+    /// grow to `max`. Answers `None` if memory is refused, if the stamp is 2^64 - 1, or if `max` is
+    /// neither 2 nor 8.
     pub fn new(alloc: Global, first_stamp: u64, max: u32, helpers: u32) -> Option<Home> {
         if first_stamp == u64::MAX {
             return None;
@@ -136,7 +136,8 @@ impl Home {
         (self.buckets.size(), self.list.count(), self.list.changes())
     }
 
-    /// The split key of the dummy of a bucket, or of that of its nearest stored ancestor.
+    /// The split key of the bucket's dummy. If the bucket is not stored, that of the dummy of its
+    /// nearest stored ancestor.
     pub fn nearest(&self, bucket: u32) -> Option<u64> {
         let node = self.list.linked_node(self.buckets.nearest(bucket))?;
         match node.kind {

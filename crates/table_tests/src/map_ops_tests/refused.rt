@@ -1,6 +1,7 @@
 //! The state of a table after memory was refused: tests that are also run with each allocation
 //! refused in turn. A call that is refused is followed by a look at the whole table, unlike in
-//! `runs`. An operation that was prepared before keeps its spare, and a helper its cursor.
+//! `runs`. An operation that was prepared before the refusal keeps its spare, and a helper keeps
+//! its cursor.
 use super::{do_at_once, figures, finish, has_pairs, small_table};
 use map_ops::{InitLink, InitSeek, Table};
 use std::alloc::{AllocError, Global};
@@ -148,7 +149,7 @@ fn do_second(
     }
 }
 
-/// An operation that was prepared before keeps its spare.
+/// An operation that was prepared before the refusal keeps its spare.
 #[test]
 fn refused_memory_for_a_preparation(rt: HostRuntime) -> Result<(), Fail> {
     refuse(&rt, rt.alloc(), first_pairs(2), Refused::Preparation)
@@ -180,12 +181,13 @@ fn link_beside_a_put(
     }
 }
 
-/// Whether helper 0 links its dummy and stores it.
+/// Lets helper 0 link its dummy and store its bucket. Answers whether both steps succeeded.
 fn is_linked_and_stored(table: &mut Table) -> bool {
     table.init_link(0) == Ok(InitLink::Linked) && table.init_store(0) == Ok(())
 }
 
-/// An operation that was prepared before keeps its spare, and the helper its cursor.
+/// An operation that was prepared before the refusal keeps its spare, and the helper keeps its
+/// cursor.
 #[test]
 fn refused_memory_for_a_link(rt: HostRuntime) -> Result<(), Fail> {
     refuse(&rt, rt.alloc(), second_and_third(), Refused::Link)

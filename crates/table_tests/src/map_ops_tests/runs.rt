@@ -1,6 +1,6 @@
 //! Runs of steps on a table, in tables of rows: each step with its answer. A step is one call, or a
 //! few whose jobs or cursors belong together. The answers, the order of the pairs and the change
-//! numbers were worked out by hand. No contract says that a step is given memory.
+//! numbers were worked out by hand. By contract a step may be refused memory even if there is some.
 ghost use Rattle.std.specs.Prelude.{◌≡◌, true};
 ghost use Rattle.txn_words.specs.Map.{Map, get};
 ghost use Rattle.map_ops.specs.Jobs.{IsDue, key_of_job, spare_of_job};
@@ -54,7 +54,7 @@ enum Step {
     Put(u64, u64),
     /// Takes back the newest of the puts whose jobs are kept.
     TakeBack,
-    /// Takes the one key that is there, and takes that back.
+    /// Takes the only key of the table, and then takes this change back.
     TakeThereAndBack(u64),
     /// Prepares and places a put, puts value 40 at key 4, reads the key of the first put, and then
     /// does that put. Keeps both jobs, that of key 4 as the newer one.
@@ -96,7 +96,7 @@ enum Answer {
     Figures(u32, u64, u64),
 }
 
-/// The answer of a reply.
+/// The answer to a step whose result is a reply.
 fn replied(reply: Result<Reply, Refusal>) -> Result<Answer, Fail> {
     Ok(Answer::Reply(reply?))
 }
@@ -132,7 +132,8 @@ fn withdrawn(table: &mut Table, op: Op) -> Result<Answer, Fail> {
     Ok(Answer::Withdrawn(op, key))
 }
 
-/// The pair of a rank, if the content and the count agree with the list of pairs.
+/// The pair at this rank of the list of pairs. Fails if the content or the count differs from the
+/// list.
 fn pair_of_rank(alloc: Global, table: &Table, rank: usize) -> Result<Answer, Fail> {
     let pairs = pairs_of(alloc, table)?;
     if !has_pairs(alloc, table, &pairs)? {
@@ -204,7 +205,7 @@ fn newest_of(jobs: &[MapJob]) -> Result<Answer, Fail> {
     Ok(Answer::Job(inverse_of(job)))
 }
 
-/// Takes the one key that is there, and takes that back.
+/// Takes the only key of the table, and then takes this change back.
 fn take_there_and_back(alloc: Global, table: &mut Table, key: u64) -> Result<Answer, Fail> {
     let (reply, job) = apply(table, Op::Take(key))?;
     if !has_pairs(alloc, table, &[])? {
@@ -447,7 +448,7 @@ const STEPS: [(Step, Answer); 118] = [
     (Step::Begin, Answer::Done),
     (Step::ReturnAt(Op::Put(2, 20)), Answer::Reply(None)),
     (Step::Pair(0), Answer::End),
-    // The cursor of key 3 is behind key 1, which is behind key 4: it still fits.
+    // The cursor of key 3 still fits: it is behind key 1, and key 4 is put in front of key 1.
     (Step::Begin, Answer::Done),
     (Step::Do(Op::Put(1, 10)), Answer::Reply(None)),
     (Step::PutLate(3, 30), Answer::Late(false, None, None, None)),

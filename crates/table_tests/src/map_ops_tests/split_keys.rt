@@ -16,8 +16,8 @@ fn are_put(table: &mut Table, key: u64) -> Result<bool, Refusal> {
     Ok(higher.is_none() && do_at_once(table, Op::Put(key, key))?.is_none())
 }
 
-/// Takes a key out. Then changes it and the higher one, and takes each of these changes back.
-/// Answers whether each reply is that of the right key.
+/// Takes a key out. Then changes this key and the key that is higher by 2^63, and takes each of
+/// these changes back. Answers whether each reply is that of the right key.
 fn is_one_taken(table: &mut Table, key: u64) -> Result<bool, Refusal> {
     let (high, value) = (key.wrapping_add(HALF), key.wrapping_add(100));
     let low_replies = [
@@ -33,7 +33,7 @@ fn is_one_taken(table: &mut Table, key: u64) -> Result<bool, Refusal> {
     Ok(low_replies == [Some(key), None, None] && high_replies == [Some(value); 3])
 }
 
-/// Puts sixteen keys with the higher ones, and takes the lower ones.
+/// Puts sixteen pairs of keys that differ by 2^63, and takes the lower key of each pair.
 fn share_split_keys(rt: &impl Abort, table: &mut Table) -> Result<(), Fail> {
     for key in 0..16 {
         assert!(rt; are_put(table, key)?, "{key}");

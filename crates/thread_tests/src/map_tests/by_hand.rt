@@ -14,7 +14,8 @@ use std::sync::ledger::Ledger;
 use std::test::Fail;
 use txn_words::{Answer, Entry, Limits, Op, Refusal};
 
-/// Takes the turns of a call until it has ended; `None` if it has not after nine.
+/// Takes the turns of a call until it has ended. Answers `None` if it has not ended after nine
+/// turns.
 fn drive<L: Ledger>(booked: &mut Booked<L>, me: &mut Caller<L, NoSide>, call: Call) -> Option<End>
     requires { HasTried me.old call }
 {
@@ -52,7 +53,7 @@ static TURNS: [(usize, Call, End); 5] = [
     (0, Call::Commit, End::Answered(Answer::Committed(1))),
 ];
 
-/// The entries that caller 0 has then seen.
+/// The entries that caller 0 has seen after `TURNS`.
 static FIRST: [Entry; 4] = [
     Entry::Began(0, 1),
     Entry::Asked(0, Op::Put(1, 10)),
@@ -60,7 +61,7 @@ static FIRST: [Entry; 4] = [
     Entry::Committed(0, 1),
 ];
 
-/// The entries that caller 1 has then seen.
+/// The entries that caller 1 has seen after `TURNS`.
 static SECOND: [Entry; 3] = [
     Entry::Began(1, 2),
     Entry::Busy(1, Op::Get(9), 0),
@@ -136,8 +137,8 @@ fn begin_with_others<L: Ledger, R: Abort>(
     Ok(())
 }
 
-/// There are 8 words. A core of 4 stripes breaks the token: it takes no step then, nor with a core
-/// of 8 stripes later.
+/// The map has 8 words. A core of 4 stripes breaks the token, which takes no step on this core, nor
+/// on a core of 8 stripes later.
 struct OtherStripes;
 
 impl Play for OtherStripes {

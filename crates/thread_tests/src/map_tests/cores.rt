@@ -12,7 +12,7 @@ use std::sync::ledger::Ledger;
 use std::test::Fail;
 use txn_words::{Answer, Limits, Op, Refusal, Step};
 
-/// Takes a step that asks for no operation; `None` for one that does.
+/// Takes a step. Answers `None`, and takes no step, if the step asks for an operation.
 pub(super) fn step(core: &mut Core, step: Step) -> Option<Answer> {
     match step {
         Step::Ask(..) => None,
@@ -135,7 +135,7 @@ fn try_idly<L: Ledger, R: Wait + Abort>(
     Ok(())
 }
 
-/// A token without a transaction tries no word, so no caller finds its stripe held.
+/// A token without a transaction tries no word, so another caller finds the key's stripe free.
 struct Idle;
 
 impl Play for Idle {

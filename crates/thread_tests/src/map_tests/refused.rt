@@ -35,7 +35,8 @@ fn end_of<L: Ledger, R: Wait + Abort>(
     End::Refused(Refusal::NoMemory)
 }
 
-/// Makes the calls up to the first that is refused memory twice. Answers whether none was.
+/// Makes the calls up to the first that is refused memory twice. Answers whether no call
+/// was refused twice.
 fn is_whole<L: Ledger, R: Wait + Abort>(
     rt: &R,
     alloc: Global,
@@ -74,8 +75,8 @@ fn give_up<L: Ledger, R: Wait + Abort>(
 }
 
 /// Calls that are made up to the first that is refused memory twice; then all callers give up. If a
-/// call was refused so, no key is left. If none was, one key is left, and the history has this
-/// number of entries.
+/// call was refused memory twice, no key is left. Otherwise one key is left, and the history has
+/// this number of entries.
 #[derive(Drop)]
 struct Refused {
     calls: &'static [Wanted],

@@ -38,9 +38,9 @@ fn releases_of<L: Ledger, R: Wait>(
     count.releases.load(Ordering::SeqCst)
 }
 
-/// Calls of one caller, each with its releases. A call that its token refuses takes no lock. A
-/// bucket is initialised by three holds, an operation takes three, and taking changes back takes
-/// three and two for each change.
+/// Calls of one caller, each with its releases. A call that its token refuses takes no lock. The
+/// initialisation of a bucket takes three holds, and so does an operation. Taking changes back
+/// takes three holds, and two more for each change.
 static RELEASES: [(Call, u64); 16] = [
     (Call::Commit, 0),
     (Call::Help(0), 1),

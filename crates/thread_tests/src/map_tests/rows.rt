@@ -252,7 +252,7 @@ static KEYS_OF_64_BITS: Worked = Worked {
     seeks: &[],
 };
 
-/// Two keys of one split key, and puts under a condition.
+/// Puts two keys that have the same split key, and puts under a condition.
 #[test]
 fn keys_of_64_bits(rt: HostRuntime) -> Result<(), Fail> {
     play_with(&rt, rt.alloc(), 2, &KEYS_OF_64_BITS)

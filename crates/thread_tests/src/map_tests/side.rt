@@ -1,6 +1,6 @@
 //! A side value that is rolled back with its caller's transaction. The functions take any side
-//! value that can be made of words; the test gives them a `Register`. Each call must be given
-//! memory, which no contract says. The words were worked out by hand.
+//! value that can be made of words; the test gives them a `Register`. No contract says that a call
+//! is given memory while there is some; here it must be. The words were worked out by hand.
 ghost use Rattle.std.specs.Prelude.{◌≡◌, [], ◌∷◌, IfSome};
 
 use super::register::{OfWords, Register, RegisterJob};
@@ -22,8 +22,8 @@ fn marks_of<L: Ledger, S: Side>(me: &Caller<L, S>) -> Marks {
     (me.seen().len(), me.words())
 }
 
-/// Makes a call, once more if it is refused memory; `None` if it is refused again. A refused call
-/// leaves its caller's marks unchanged.
+/// Makes a call, and makes it once more if it is refused memory. Answers `None` if it is refused
+/// again. A refused call leaves its caller's marks unchanged.
 fn try_call<L: Ledger, S: Side, R: Wait + Abort>(
     rt: &R,
     shared: &Shared<L>,
@@ -42,8 +42,8 @@ fn try_call<L: Ledger, S: Side, R: Wait + Abort>(
     None
 }
 
-/// Changes the first word of the side value, whose others are 0. If that is refused memory, nothing
-/// has changed, and the returned change is tried once more; `None` if it is refused again.
+/// Changes the first word of the side value, whose other words are 0. If the change is refused
+/// memory, nothing has changed, and it is tried once more. Answers `None` if it is refused again.
 fn change<L: Ledger, S: OfWords, R: Abort>(
     rt: &R,
     shared: &Shared<L>,
@@ -70,8 +70,9 @@ fn change<L: Ledger, S: OfWords, R: Abort>(
     None
 }
 
-/// The words after a change from 0 to 1, a savepoint and two more changes, and back at the
-/// savepoint; `None` if a call is refused memory twice.
+/// Changes the first word from 0 to 1, sets a savepoint, changes the word twice more, and returns
+/// to the savepoint. Answers the words before and after the return, or `None` if a call is refused
+/// memory twice.
 fn words_there<L: Ledger, S: OfWords, R: Wait + Abort>(
     rt: &R,
     shared: &Shared<L>,
@@ -113,7 +114,8 @@ fn give_up<L: Ledger, S: Side, R: Wait + Abort>(
     assert_eq!(rt; me.words(), [0, 0, 0, 0]);
 }
 
-/// A list with room for one caller, asked for once more if memory is refused.
+/// A list with room for one caller. If memory is refused, the room is asked for once more. Answers
+/// `None` if it is refused again.
 fn room_for_one<T: Drop>(alloc: Global) -> Option<Vec<T>> {
     let mut list = Vec::new(alloc);
     if list.reserve(1).is_err() && list.reserve(1).is_err() {
@@ -177,7 +179,7 @@ fn there_and_back<L: Ledger, S: OfWords, R: Wait + Abort>(
     close_alone(rt, alloc, shared, me)
 }
 
-/// Boxes a value, once more if memory is refused; `None` if it is refused again.
+/// Boxes a value, and tries once more if memory is refused. Answers `None` if it is refused again.
 fn make_box<T: Drop>(alloc: Global, value: T) -> Option<Box<T>>
     ensures { IfSome result (λ block. block.value ≡ value) }
 {
@@ -194,8 +196,8 @@ fn register(words: [u64; 4]) -> Register
     Register { words }
 }
 
-/// Runs `there_and_back` with a register, whose jobs are boxed; nothing was done if they are
-/// refused memory.
+/// Runs `there_and_back` with a register, whose jobs are boxed. If memory for a box is refused,
+/// does nothing and answers `None`.
 fn register_returns<L: Ledger, R: Wait + Abort>(
     rt: &R,
     alloc: Global,

@@ -1,6 +1,7 @@
 //! Callers that each run in a thread, one after the other or all at the same time. No contract says
-//! that their calls do not give up. In turn they have one history, which was worked out by hand. At
-//! the same time the history depends on the threads, so it is only judged.
+//! that their calls do not give up. If the callers run one after the other, they have one history,
+//! which was worked out by hand. If they run at the same time, the history depends on the threads,
+//! so it is only judged.
 ghost use Rattle.std.specs.Prelude.{◌≡◌};
 
 use super::rows::{Row, play_row};
@@ -22,10 +23,10 @@ use txn_words::{Entry, Limits, Op};
 /// The work of a map's callers in their threads.
 #[derive(Clone, Copy)]
 enum Plan<'a> {
-    /// Each makes its calls of these, and its thread begins when that of the caller before has
-    /// ended.
+    /// Each caller makes its own calls of these rows. Its thread begins when the thread of the
+    /// caller before it has ended.
     InTurn(&'a [Row]),
-    /// All make calls at the same time. The calls look random, by a seed.
+    /// All callers make calls at the same time: calls that look random, made from this seed.
     AtOnce(u64),
 }
 
@@ -44,7 +45,7 @@ fn play_own<L: Ledger, R: Wait + Abort>(
     }
 }
 
-/// One caller's thread after the other's.
+/// Makes the calls of each caller in a thread, which begins when the thread before it has ended.
 fn work_in_turn<L: Ledger + Send + Sync, R: Threads + Wait + Abort + Sync>(
     rt: &R,
     shared: &Shared<L>,

@@ -9,7 +9,8 @@ use Rattle.boostmap_c.specs.Members.{IsFirst}
 use Rattle.boostmap_c.specs.declared.member.Member.{Member}
 use Rattle.boostmap_c.proofs.striped.first_member.Goals as goal
 
--- The last of a map's callers, with those before it waiting, is its first member.
+-- A member is the first of its map if its caller is the map's last, and the callers before that one
+-- wait in the member.
 first_of : (map : StripedMap) (callers stripes : ℕ) (before : List Caller) (last : Caller) → length before + 1 ≡ callers
     → ((place : ℕ) → place < callers → HoldsAt (IsNew map stripes (place + 1)) (before ++ last ∷ []) place)
     → (m : Member) → m.caller ≡ last → m.waiting.items ≡ before → IsFirst callers stripes m

@@ -10,7 +10,7 @@ own_ancestor : (bucket : ℕ) → IsAncestor bucket bucket
 unfolding ancestor_of
 own_ancestor bucket = record { steps = 0; reached = refl }
 
--- A statement about the value of an option, applied to a `Some`.
+-- A statement that holds of an option's value holds of `x` if the option is `Some x`.
 at_some : {A : Type 0} (P : A → Type 0) (o : Option A) (x : A) → o ≡ Some x → IfSome o P → P x
 at_some {A = A} P o x is holds = subst (λ (o : Option A). IfSome o P) is holds
 

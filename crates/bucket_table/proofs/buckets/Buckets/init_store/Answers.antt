@@ -10,7 +10,7 @@ use Rattle.bucket_table.proofs.DirectoryLemmas.{helper_found}
 use Rattle.bucket_table.proofs.HomeLemmas.{home_with_dummy, home_with_helper}
 use Rattle.bucket_table.proofs.buckets.Buckets.init_store.Goals as goal
 
--- The dummy of a helper is linked, and its bucket is one of the table's.
+-- The dummy that a helper holds is linked, and the helper's bucket is below the limit.
 holding_home : (l : Listing) (d : Directory) (helper : Helper) (bucket dummy : ℕ) → d.size ≤ limit_of d → IsHelperHome l helper → IsInOrder d helper → holding_of helper ≡ Ok (bucket, dummy) → IsDummyAt l.nodes dummy bucket × (bucket < limit_of d)
 holding_home l d Idle bucket dummy most home order is = absurd (cc is)
 holding_home l d (Seeking own cursor) bucket dummy most home order is = absurd (cc is)

@@ -4,7 +4,7 @@ use Rattle.key_locks.specs.Locks.{is_caller, without_caller}
 use Rattle.key_locks.specs.Chains.{AreChained}
 use Rattle.key_locks.proofs.key_locks.KeyLocks.release_all.Given as goal
 
--- The holders after the release are the same at each round.
+-- From the list of each round the release leaves the same holders as from the first.
 abbrev pub invariant-loop-stripe : goal.invariant-loop-stripe
 invariant-loop-stripe l = record {
   are_chained : AreChained l.self-inside.holders.items l.self-inside.older.items l.self-inside.newest.items;

@@ -11,7 +11,7 @@ pub take-requires-clause-free : goal.take-requires-clause-free
 take-requires-clause-free c = let me = c.args.self.now in let n = me.seat.seat.table_id.slots in let v = known me.seat in
     not_held n v (parts_of me.seat me.held.items) (now v.seen) me.sound.parts c.args.stripe (none_in me.seat me.held.items c.args.stripe (c.place_of.ensures.none c.in_default.is))
 
--- The stripes differ, and there are 4,096 at most.
+-- No stripe is twice in the list, so the list has at most 4,096 stripes.
 pub overflow_cast-place : goal.overflow_cast-place
 overflow_cast-place c = let me = c.args.self.now in let n = c.args.map.now.table.shared.table_id.slots in let v = known me.seat in let ks = me.held.items in
     let parts : AreHeld n v (parts_of me.seat ks) (now v.seen) = subst (λ z. AreHeld z.slots v (parts_of me.seat ks) (now v.seen)) c.requires.map me.sound.parts in
@@ -20,7 +20,7 @@ overflow_cast-place c = let me = c.args.self.now in let n = c.args.map.now.table
     (λ i stripe at. subst (λ z. stripe < z.slots) c.requires.map (me.seat.inside stripe (holds_in n v me.seat ks (now v.seen) parts i stripe at))) in
     let most = c.args.map.now.few in omega arith
 
--- Memory was refused: the room for the stripe, or the index.
+-- Memory was refused, for one more stripe or for the index.
 pub invariant_of-self-then-is_err : goal.invariant_of-self-then-is_err
 invariant_of-self-then-is_err c = let me = c.args.self.now in record {
   sound = subst (λ (l : List ℕ). IsSound me.seat.seat.table_id.slots (known me.seat) (parts_of me.seat l) me.order.items me.levels.items) (sym c.reserve.ensures.items) me.sound;

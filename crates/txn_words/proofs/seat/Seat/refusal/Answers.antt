@@ -5,7 +5,7 @@ use Rattle.txn_words.specs.declared.refusal.Refusal.{Refusal}
 use Rattle.txn_words.specs.Seats.{first_of, unready_tests}
 use Rattle.txn_words.proofs.seat.Seat.refusal.Goals as goal
 
--- One more test after all others.
+-- To try one more test if no other holds is to append it to the list of tests.
 one_more : (tests : List (Bool × Refusal)) (is_bad : Bool) (refusal : Refusal)
     → option_or (first_of tests) (then_some is_bad refusal) ≡ first_of (tests ++ (is_bad, refusal) ∷ [])
 one_more [] true refusal = refl
