@@ -20,8 +20,8 @@ use Rattle.core_tokens.specs.Tokens.{HasTried, HasTriedNext, Token}
 use Rattle.txn_drive.specs.declared.call.Call.TheVariants as calls
 use Rattle.txn_words.specs.declared.answer.Answer.TheVariants as answers
 
--- A move or a stale word leaves the limits unchanged, adds the entries of its step, and leaves
--- stripes words.
+-- A move or a stale word adds the entries of its step to the history, and changes neither the
+-- limits nor whether stripes are words.
 no_entries : (step : Step) (r : Refusal) → entries_of step (answers.Refused r) ≡ []
 no_entries (Begin c) r = refl
 no_entries step r = refl
@@ -82,7 +82,8 @@ tried_next k d has = tried_in k.claims.tried k.limits.stripes d.caller d.call d.
 pub tried_step : (tried : Option Trial) (stripes : ℕ) (d : Drive) (step : Step) → step_of d ≡ Some step → HasTriedIf tried stripes (step_of d) → HasTriedStep tried stripes step
 tried_step tried stripes d step is = subst (HasTriedIf tried stripes) is
 
--- This still holds after the drive has noted a size.
+-- If the word for a drive's next step was tried, it was also tried for the next step after the
+-- drive has noted a size.
 tried_sized_in : (tried : Option Trial) (stripes c size : ℕ) (call : Call) (phase : Phase) → HasTriedIf tried stripes (step_in c call phase) → HasTriedIf tried stripes (step_in c call (sized_in size phase))
 tried_sized_in tried stripes c size call (Doubling seen) has = tt
 tried_sized_in tried stripes c size call phase has = has
@@ -91,7 +92,8 @@ tried_sized_in tried stripes c size call phase has = has
 pub may_next : {S : Type 0} (t k : Token S) (stripes size : ℕ) (d d' : Drive) → t ≡ k → stripes ≡ t.limits.stripes → d' ≡ sized_of size d → HasTriedNext k d → HasTriedIf t.claims.tried stripes (step_of d')
 may_next t k stripes size d d' view as_many sized has = rw (sized, as_many, view) (tried_sized_in k.claims.tried k.limits.stripes d.caller size d.call d.phase has)
 
--- A stale word ends an operation, since only its first step asks.
+-- Only a step that asks for an operation is refused with a stale word. Such a step is the first of
+-- its call, so a stale word ends the call.
 stale_asks : (claim : Claim) (m : State) (step : Step) → IsTrue (is_stale claim m step) → is_ask step ≡ true
 stale_asks claim m (Ask c op) stale = refl
 stale_asks Lock m step stale = absurd (false≢true stale)

@@ -13,7 +13,8 @@ use Rattle.core_tokens.specs.Suits.{Fits, IsInStep, IsSized}
 use Rattle.txn_words.specs.declared.answer.Answer.TheVariants as answers
 use Rattle.txn_words.specs.declared.step.Step.TheVariants as steps
 
--- What holds of each turn that may be taken holds of a seek that may be one of two steps.
+-- `paired` gives the turn of the seek, or the turn of seek and act. So a statement that holds of
+-- both turns holds of the turn that it gives.
 pub at_paired : (P : Turn → Type 0) (again : ℕ) (seeking acting : Step) → P (One seeking) → P (Two seeking acting) → P (paired again seeking acting)
 at_paired P again seeking acting one two = elim (nat_lt again 8) as (λ b. P (if b then One seeking else Two seeking acting)) [ true ↦ one | false ↦ two ]
 
@@ -32,7 +33,8 @@ goes_told base seen seen' d e step a is whole seen_is told goes =
       fits = subst (λ o. FitsIf o d.call (told_in d.call d.phase a)) (sym (seat_on_more seen es s seat)) (fits_on s d step a (seat_on s es) is (subst (λ o. FitsIf o d.call d.phase) seat goes.fits) refl);
     })
 
--- The second step of a turn is the drive's step after `placed`, and no doubling.
+-- The second step of a turn is the drive's next step after `placed`, and this step does not double
+-- the table.
 second_in : (size c : ℕ) (call : Call) (phase : Phase) (step next : Step) → turn_in c call phase ≡ Two step next → (step_in c call (told_in call phase answers.Placed) ≡ Some next) × IsSized size (told_in call phase answers.Placed)
 second_in size c call (Seeking work again) step next = at_paired (λ t. t ≡ Two step next → (Some (steps.Act c) ≡ Some next) × Unit) again (steps.Seek c) (steps.Act c) (λ is. absurd (cc is)) (λ is. (cc is, tt))
 second_in size c call (Initialising way again) step next =

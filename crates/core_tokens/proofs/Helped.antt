@@ -17,7 +17,7 @@ use Rattle.txn_drive.specs.declared.«end».End.TheVariants as ends
 use Rattle.txn_words.specs.declared.answer.Answer.TheVariants as answers
 use Rattle.txn_words.specs.declared.step.Step.TheVariants as steps
 
--- A hold that did not end its call, or ended it well, has taken its turn.
+-- A hold has taken its turn if its call goes on after it or has ended with `Helped`.
 abbrev IsPlain : Option End → Type 0
 IsPlain None = Unit {0}
 IsPlain (Some ends.Helped) = Unit {0}
@@ -46,7 +46,8 @@ helping_is d key is = λ i. record { caller = d.caller; call = is i; phase = d.p
 moved : (tried : Option Trial) (m n : State) (step : Step) (a : Answer) → is_ask step ≡ false → Goes (claim_in tried m step) m step a n → Move m step a n
 moved tried m n step a plain goes = subst (λ (claim : Claim). Goes claim m step a n) (plain_claim tried m step (λ x op is. absurd (false≢true (sym plain ∙ ap is_ask is)))) goes
 
--- A call for help with this key keeps to a bucket, which, if `known`, is stored at its end.
+-- A call for help with this key keeps to this bucket. If `known`, the bucket is stored when the
+-- call has ended with `Helped`.
 abbrev Told : Type 0 → State → ℕ → ℕ → Drive → Type 0
 Told known n key bucket e = (e.call ≡ calls.Help key) × Reaches known n bucket e.phase
 
@@ -80,7 +81,8 @@ begun : (known : Type 0) (tried : Option Trial) (m n : State) (seen seen' : List
 begun known tried m n seen seen' c key (Doubling size) e first doubling turned = took_last known tried c key (key % n.size) n seen' e refl turned.1 (double_reaches known m n key turned.0 (λ k same. first k))
 begun known tried m n seen seen' c key phase e first doubling turned = absurd doubling
 
--- Such a call that has not ended is on its way, and one that has ended well is at its end.
+-- If such a call has not ended, it is on its way to the bucket. If it has ended with `Helped`, the
+-- bucket is stored.
 going : (known : Type 0) (n : State) (c bucket : ℕ) (call : Call) (phase : Phase) → Reaches known n bucket phase → ended_by (turn_in c call phase) ≡ None → IsTo bucket phase
 going known n c bucket call Helped reaches none = absurd (cc none)
 going known n c bucket call (Refused r) reaches none = absurd (cc none)
@@ -95,7 +97,8 @@ at_end n c bucket call Helped reaches well = reaches tt
 at_end n c bucket call (Refused r) reaches well = absurd (cc well)
 at_end n c bucket call phase reaches well = absurd reaches
 
--- The first hold of a call, and a later one.
+-- The first hold of a call for help gives the call the bucket of its key, and each later hold keeps
+-- to this bucket.
 first_hold : {S : Type 0} (known : Type 0) (key : ℕ) (m n : State) (k l : Token S) (d e : Drive) (outcome : Option End) → IsPlain outcome → (known → is_set n.stored 0 ≡ true) → Begins key d → Held m k d outcome n l e → Told known n key (key % n.size) e × (end_of e ≡ outcome)
 first_hold {S} known key m n k l d e outcome plain first begins held =
     let turned = took m n k l d e outcome plain held in

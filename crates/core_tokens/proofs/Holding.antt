@@ -14,19 +14,20 @@ use Rattle.core_tokens.specs.Tokens.{Token}
 use Rattle.txn_drive.specs.declared.call.Call.TheVariants as calls
 use Rattle.txn_drive.specs.declared.«end».End.TheVariants as ends
 
--- The end of a hold that took its turn.
+-- No call may have `OutOfStep` as the end of its drive.
 no_out : (call : Call) → is_odd call (ends.Refused OutOfStep) ≡ true
 no_out calls.Begin = refl
 no_out call = refl
 
--- An end that the call may have: it may end so, whatever it has committed, and not out of step.
+-- If an end is not odd, the call may have it, whatever entries the call has added. Such an end is
+-- not `OutOfStep`.
 plain_end : (call : Call) (outcome : End) (es : List Entry) → is_odd call outcome ≡ false → MayEnd call outcome × IsQuiet outcome es × (false ≡ is_out outcome)
 plain_end call (ends.Refused OutOfStep) es plain = absurd (false≢true (sym plain ∙ no_out call))
 plain_end call (ends.Refused r) es plain = (plain, tt, refl)
 plain_end call outcome es plain = (plain, tt, refl)
 
--- A call that ends out of step has committed nothing; nor has one whose drive has an end that it
--- may not have.
+-- A call that ends out of step has committed nothing. A drive with an end that its call may not
+-- have has committed nothing either.
 pub out_run : (base seen : List Entry) (e : Drive) → GoesOn base seen e → (is_some (seat_after seen) ≡ true → CommitNothing (made e)) → HasRun base seen e.caller e.call (ends.Refused OutOfStep)
 out_run base seen e goes quiet = record { added = made e; entries = goes.entries; made = tt; may = tt; quiet = quiet }
 
@@ -67,14 +68,15 @@ not_out call (Some outcome) plain = λ is. false≢true (sym plain ∙ ap (is_od
 pub no_room_run : (base seen seen' : List Entry) (d e : Drive) → seen' ≡ seen → e ≡ d → (made d ≡ []) × (may_refuse d.call NoMemory ≡ true) → GoesOn base seen d → HasRun base seen' e.caller e.call (ends.Refused NoMemory)
 no_room_run base seen seen' d e same is starts goes = rw is (record { added = []; entries = cc; made = refl; may = ap not starts.1; quiet = λ whole. tt })
 
--- The drive was told the size before its hold.
+-- A hold first tells the drive the core's size. So a course that begins with `d'`, the drive that
+-- was told the size, is the course of a hold that begins with `d`.
 pub held_sized : {S : Type 0} (how : How) (m n : State) (k l : Token S) (d d' e : Drive) (size : ℕ) (r : Option End) → size ≡ m.size → d' ≡ sized_of size d → HeldBy how m k d' r n l e → Held m k d r n l e
 held_sized how m n k l d d' e size r size_is is held = (how, subst (λ x. HeldBy how m k x r n l e) (is ∙ ap (λ z. sized_of z d) size_is) held)
 
 pub other_in_step : {S : Type 0} (m : State) (t k : Token S) (d : Drive) → t ≡ k → (m.limits.stripes ≡ t.limits.stripes → ⊥) → InStep m k d → ⊥
 other_in_step {S} m t k d view other ins = other (ap (λ (z : Sizes). z.stripes) (ins.1.same_limits ∙ ap (λ (x : Token S). x.limits) (sym view)))
 
--- A core and a token that are in step stay so, and the end is not that they are out of step.
+-- A core and a token that are in step stay so, and their hold does not end with `OutOfStep`.
 pub held_in_step : (n : State) (limits : Sizes) (number : ℕ) (seen : List Entry) (b : Bool) (e : Drive) (end r : Option End) (whole : Bool) → IsInStep n limits number seen e → IsShaped n.history
     → whole ≡ is_some (seat_after seen) → end ≡ end_of e → b ≡ (not whole || odd_if e.call end) → r ≡ end_in b end → ((b ≡ false) × IsInStep n limits number seen e) × IfSome r (λ x. x ≢ ends.Refused OutOfStep)
 held_in_step n limits number seen b e end r whole ins shape whole_is end_is broken ends_is =

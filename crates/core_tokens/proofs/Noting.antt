@@ -11,12 +11,13 @@ use Rattle.core_tokens.proofs.Phases.{seat_on_more}
 use Rattle.core_tokens.specs.Noted.{HasRoomFor, IsNoted, adds_entry, began_by, last_txn}
 use Rattle.txn_words.specs.declared.seat.Phase.TheVariants as seats
 
--- A step that has an entry may add one, and reserves enough for it.
+-- If a step adds an entry with this answer, it is one of the steps that may add an entry.
 adds_if : (step : Step) (a : Answer) (e : Entry) → e ∷ [] ≡ entries_of step a → adds_entry step ≡ true
 adds_if (Begin c) a e is = refl
 adds_if step a e is = cc
 
--- The number of entries owed after the entry.
+-- If there is room for the owed entries and for all that an entry reserves, there is room for this
+-- entry and for the entries that are owed after it.
 owed_row : (s : Seat) (e : Entry) (room : ℕ) (next : Option Seat) → row s s.phase e ≡ next → owed_by (Some s) + reserved_for e ≤ room → 0 < room → owed_by next + 1 ≤ room
 owed_row s e room None is all one = omega (arith, one)
 owed_row s e room (Some next) is all one = omega (arith, owed_by-row s next e is, all)
@@ -28,7 +29,8 @@ owed_noted es s e step a room at is all one =
     let kept = (subst (AllByRecursion (λ e. reserved_for e ≤ reserved step)) (sym is) (reserved_enough step a)).0 in
     subst (λ o. owed_by o + 1 ≤ room) (sym (seat_on_more es (e ∷ []) s at)) (owed_row s e room (row s s.phase e) refl (omega (arith, before, kept, all)) (one (adds_if step a e is)))
 
--- At most as many changes stand as entries are owed, for which there is room.
+-- A seat has at most as many standing changes as it owes entries. There is room for the entries
+-- that it owes, so the number of its changes fits in 64 bits.
 standing_owed : (q : Standing) (standing : ℕ) (kept : List ℕ) → IsLevelIn q standing kept → standing ≤ owed_in standing q
 standing_owed seats.Closed standing kept is = let none = is.0 in omega (arith, none)
 standing_owed q standing kept is = omega arith

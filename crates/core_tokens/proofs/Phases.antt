@@ -14,7 +14,8 @@ use Rattle.txn_words.specs.declared.answer.Answer.TheVariants as answers
 use Rattle.txn_words.specs.declared.entry.Entry.TheVariants as entries
 use Rattle.txn_words.specs.declared.seat.Phase.TheVariants as seats
 
--- The phase after an entry with which a call goes on, if the entry has a row.
+-- If an entry with which a call goes on has a row, `phase_after` gives the seat's phase after the
+-- entry. For all other entries it gives None.
 abbrev left_for : Option ℕ → Standing
 left_for None = seats.LeavingToEnd
 left_for (Some n) = seats.LeavingTo n
@@ -68,8 +69,8 @@ fits_first s next c (calls.Back n) answers.Leaving is = row_phase s next (entrie
 fits_first s next c calls.Abort answers.Leaving is = row_phase s next (entries.Leave c None) seats.LeavingToEnd refl is
 fits_first s next c call a is = tt
 
--- What holds of each phase that may come next holds of the next one: after a seek, and after one
--- more change is taken back.
+-- A statement that holds of both phases that may follow a seek holds of the phase that follows it.
+-- The same for the two phases that may follow when one more change is taken back.
 at_seek : (P : Phase → Type 0) (work : Work) (again : ℕ) (a : Answer) → P (Acting work again) → P (Lost work) → P (told_seek work again a)
 at_seek P work again answers.Placed acting lost = acting
 at_seek P (Busy x k) again (answers.Refused NothingToSeek) acting lost = acting
@@ -93,8 +94,8 @@ fits_undone s call Operation fits = tt
 fits_undone s call (Busy x k) fits = at_counted (Fits s call) k (Busy x (k + 1)) (Busy x k) (work_more call x k (k + 1) ∙ fits) tt
 fits_undone s call (Leaving k) fits = at_counted (Fits s call) k (Leaving (k + 1)) (Leaving k) (leave_more call k (k + 1) ∙ fits) tt
 
--- The phases in which no work is done: no call comes back to its work from them, so they fit each
--- seat, and no change was taken back.
+-- The phases other than `Fresh` in which no work is done. No call comes back to its work from such
+-- a phase. So the phase that follows it fits each seat, and counts no change as taken back.
 abbrev Aside : Phase → Type 0
 Aside (Seeking work again) = ⊥
 Aside (Acting work again) = ⊥
@@ -149,7 +150,8 @@ fits_told s next c call (Acting work again) answers.Undone fits is = fits_undone
 fits_told s next c call (Acting work again) a fits is = tt
 fits_told s next c call phase a fits is = (free_told phase call a tt).0 next call
 
--- The number of changes that a drive has taken back rises with the entries.
+-- With each step, the number of changes that a drive has taken back rises by at most the number of
+-- entries that the step adds.
 undone_first : (call : Call) (a : Answer) → undone_of (told_first call a) ≡ 0
 undone_first (calls.Op op) answers.Asked = refl
 undone_first call answers.Leaving = refl

@@ -35,7 +35,8 @@ room_for_none n step adds owes =
       save = λ is. absurd (false≢true (sym none.1 ∙ is));
     }
 
--- A step needs no more room either if a transaction is open, since something is owed then.
+-- If a transaction is open, at least one entry is owed. So a step of an open transaction that
+-- reserves nothing needs no more room than is owed, also if it adds an entry.
 open_owes : (standing : ℕ) (q : Standing) → is_closed q ≡ false → 0 < owed_in standing q
 open_owes standing seats.Closed is = absurd (false≢true (sym is))
 open_owes standing q is = omega arith

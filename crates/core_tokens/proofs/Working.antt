@@ -49,7 +49,8 @@ seek_refused m c r within there (inl is) =
     ∙ (λ i. cond (within i) (Some refusals.NoSuchCaller) (or_else (cond (there i) (Some refusals.NotOpen) (cond (not (has_target (seat_in m.history c))) (Some NothingToSeek) None)) None))) ∙ is)
 seek_refused m c r within there (inr lack) = absurd lack.1
 
--- The end of a call by an act. The work has a phase, and it passes the test of the answer.
+-- If an act ends a call, the call may have this end, since the phase of its work passes the test of
+-- the act's answer.
 abbrev passes : (Standing → Bool) → Option Standing → Bool
 passes test None = false
 passes test (Some q) = test q
@@ -95,7 +96,8 @@ module _ (m n : State) (c : ℕ) (s : Seat) (call : Call) (within : nat_le m.lim
       subst (λ r. Suits n s c call (told_seek work again (answers.Refused r))) (sym nothing.1) (nothing_suits work again fits (ap has_target is ∙ nothing.0))
   suits_seek work again a there is fits move = absurd move.allowed.1
 
-  -- A count that fits in 64 bits goes on.
+  -- While fewer than 2^64 - 1 changes were taken back, the call goes on after one more, and its
+  -- next phase suits the seat and the core.
   counted_suits : (k : ℕ) (more work : Work) → k < 2 ^ 64 - 1 → Fits s call (counted k more work) → Suits n s c call (counted k more work)
   counted_suits k more work few =
       subst (λ b. Fits s call (if b then Seeking more 0 else Last work answers.Undone) → Suits n s c call (if b then Seeking more 0 else Last work answers.Undone)) (sym (lt-ltb k (2 ^ 64 - 1) few))

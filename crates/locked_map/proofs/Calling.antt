@@ -26,8 +26,8 @@ follows_on : {S : Type 0} (words : S → List ℕ) (outcome : End) (a b c : Leve
 follows_on words (ends.Answered (answers.Began t)) a b c same on = record { value = cc; levels = cc; changes = cc; kept = cc }
 follows_on words outcome a b c same on = record { value = cc; levels = cc; changes = cc; kept = cc }
 
--- A call that its token lets pass: `r` was ready for its holds, which left `h`, and `l` followed
--- its end.
+-- A call that its token `k` lets pass: `r` is the token when it was ready for the call's holds, `h`
+-- is the token after these holds, and `l` is the token after it has followed the call's end.
 module _ {S : Type 0} (words : S → List ℕ) (k r h l : Token S) (call : Call) (free : refused_by k call ≡ None) (same : IsSameSeen k r) (side : IsSameSide k.side r.side) (readied : Readies k.claims call r.claims) (held_side : h.side ≡ r.side)
     (caller : IsSameCaller r h) (kept : h.claims ≡ r.claims) (followed : IsSameSeen h l) where
   whose : IsSameCaller k l

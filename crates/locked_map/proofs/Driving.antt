@@ -36,7 +36,7 @@ starts k call d limits number limits_are number_is drive none fits =
       holding = record { holds = 0; held = (refl, new) };
     }
 
--- A hold that has not ended it, and the one that has.
+-- A hold after which the call goes on, and the hold that ends the call.
 pub holds_on : {S : Type 0} (k between l : Token S) (call : Call) (half e : Drive) (m n : State) (r : Option End) → IsHolding k call between half → r ≡ None → Held m between half r n l e → IsHolding k call l e
 holds_on k between l call half e m n r on none held =
     record { holds = suc on.holds; held = (between, half, m, n, on.held, rw none at held) }

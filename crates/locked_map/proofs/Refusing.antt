@@ -1,4 +1,4 @@
--- The refusal of help for its key.
+-- The refusal of a call for help because of its key.
 use Rattle.std.proofs.Common.{◌≡◌, ◌↔◌, ◌∙◌, ℕ, Bool, true, false, if◌then◌else◌, List, Option, Some, None, Result, Err, inl, inr}
 use Rattle.std.proofs.Common.{is_some, refl, sym, ap}
 use Rattle.std.proofs.lemmas.Bool.{false≢true}

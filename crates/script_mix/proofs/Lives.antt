@@ -29,7 +29,8 @@ one_live w ws is = ap (λ b. cond b (suc (live ws)) (live ws)) is
 none_live : (w : Worker) (ws : List Worker) → lives w ≡ false → live (w ∷ ws) ≡ live ws
 none_live w ws is = ap (λ b. cond b (suc (live ws)) (live ws)) is
 
--- The list has at a place the number of the worker at this place among the live ones.
+-- At each place the list of numbers has the number of a live worker, and the place is the number of
+-- live workers before this worker.
 abbrev Stands : List Worker → ℕ → List ℕ → ℕ → ℕ → Type 0
 Stands ws n numbers place d =
     (i : ℕ) × (get_or numbers place d ≡ n + i) × (i < length ws) × (live (take i ws) ≡ place) × (live (take (suc i) ws) ≡ suc place)
@@ -80,8 +81,8 @@ lives_at ws place i d at = elim (cases_Bool (lives (get_or ws i d))) [
 pub drawn_lives : (ws : List Worker) (place i : ℕ) (w : Worker) → w ≡ get_or ws i w → IsAtPlace ws place i → lives w ≡ true
 drawn_lives ws place i w at found = ap lives at ∙ lives_at ws place i w found
 
--- The list once the worker at a place has taken a turn: it is the same if the worker has a step left,
--- and else the place is removed.
+-- The list after the worker at a place has taken a turn: if the worker has a step left, the list is
+-- unchanged; if not, the number at this place is removed.
 still_live : (n : ℕ) (ws : List Worker) (i : ℕ) (d after : Worker) → i < length ws → lives (get_or ws i d) ≡ true → lives after ≡ true
     → live_from n (set ws i after) ≡ live_from n ws
 still_live n [] i d after within was is = refl
@@ -127,7 +128,7 @@ all_done (w ∷ ws) ready none = elim (cases_Bool (lives w)) [
       (all_done ws (λ i d within. ready (suc i) d (omega (arith, within))) (sym (none_live w ws idle) ∙ none))
 ]
 
--- The list of numbers, as one more worker is gone over.
+-- The list of numbers that the loop has made, after it has looked at one more worker.
 pub next_number : (n : ℕ) (ws : List Worker) (numbers more : List ℕ) (w : Worker) (b : Bool) → n < length ws → w ≡ get_or ws n w
     → lives w ≡ b
     → more ≡ cond b (numbers ++ n ∷ []) numbers → numbers ++ live_from n (drop n ws) ≡ live_from 0 ws

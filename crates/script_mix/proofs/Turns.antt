@@ -74,7 +74,7 @@ own-mine w h es all = filter-append (λ e. caller_of e == w) h es ∙ ap (λ xs.
 own-others : (w c : ℕ) (h es : List Entry) → c ≢ w → AreOf w es → own c (h ++ es) ≡ own c h
 own-others w c h es other all = filter-append (λ e. caller_of e == c) h es ∙ ap (λ xs. own c h ++ xs) (own_none w c es other all) ∙ append-nil (own c h)
 
--- The step of a worker that keeps to its scripts is a step of its caller.
+-- If a worker keeps to its scripts, all entries that its step adds are entries of this worker.
 step_mine : (tries workers : ℕ) (scripts : List (List Action)) (w : ℕ) (task : Option Task) (seen : List Entry) (step : Step) (answer : Answer)
     → KeepsAt tries workers scripts w task seen → task_step task ≡ Some step → AreOf w (entries_of step answer)
 step_mine tries workers scripts w None seen step answer keeps is = absurd (cc is)
@@ -134,7 +134,8 @@ module _ (scripts : List (List Action)) (tries : ℕ) where
   turn_goes_in old (Some (One step)) new is keeps (answer, takes) = one_goes old step answer new is keeps takes
   turn_goes_in old (Some (Two first second)) new is keeps (answer, between, takes, then) = second_goes old first second answer between new is.0 is.1 keeps takes then
 
-  -- A worker that has noted the table's size moves on as the worker itself does.
+  -- A worker notes the table's size, and then takes its turn. This adds only entries of the worker,
+  -- and the worker still keeps to its scripts.
   pub turn_goes : (size : ℕ) (old new : State) (before after : Worker) (finish : Option Finish) → IsTurnBy (sized_by size before) (turn_by (sized_by size before)) → Keeps scripts tries before (own before.number old.history)
       → TakesNext Move size scripts tries old before finish new after → Goes scripts tries old new before after
   turn_goes size old new before after finish is keeps takes =

@@ -1,4 +1,5 @@
--- The accounts of a caller's scripts, with one more script, and the scripts that they play.
+-- The accounts of a caller's scripts, with one more script; and the scripts that the caller's
+-- committed transactions play.
 use Rattle.std.proofs.Common.{◌≡◌, ℕ, suc, ◌+◌, ◌*◌, ◌%◌, ◌<◌, ◌≤◌, List, [], ◌∷◌, ◌++◌, length, slice_get, filter_map, Some, refl, sym, ap, ◌∙◌, arith, suc-mul, mod-eq_of_lt}
 use Rattle.script_worker.proofs.Vocabulary.{AllByRecursion, slice_get_within, Action, Entry, PlayRising, commits_of}
 use Rattle.std.proofs.Math.Nat.{add-mul-mod_self_right}

@@ -35,7 +35,8 @@ none_left script i is = drop_all i script (get_none script i is)
 pub chunk_begun : (c : ℕ) (script : List Action) → IsChunk c script first_heard []
 chunk_begun c script = record { before = []; part = []; whole = refl; busy = busy_none; at = refl }
 
--- The chunk after a call: of the same attempt, of the next one, or the account of the script.
+-- The entries since the script began, after a call: if the attempt goes on or a new one follows,
+-- they are its chunk; if the script is over, they are the account of the script.
 abbrev pub ChunkAfter : ℕ → ℕ → List Action → Heard → List Entry → End → Progress → Type 0
 ChunkAfter c tries script heard chunk end (Next attempt) = IsChunk c script (heard_then heard end attempt) chunk
 ChunkAfter c tries script heard chunk end (Over finish) = IsAccount c tries script (outcome_by finish end heard) chunk
@@ -94,7 +95,8 @@ module _ (c tries : ℕ) (script : List Action) (heard : Heard) (before part : L
   aborted added made quiet =
       all_quiet added quiet (ap (filter is_commit) made.1 ∙ filter_undone is_commit c made.0 (entries.Aborted c ∷ []) refl)
 
-  -- A call that is done, by its stage; an action, and the commit, by the answer.
+  -- A call that did what it was asked to do, by the stage; at the stage of the actions, by the
+  -- action (or the commit, after the last) and the answer.
   done_told : (stage : Stage) (a : Answer) (added : List Entry) → IsMade c (call_at script stage) (ends.Answered a) added → IsAtStage c script heard part stage → After added (ends.Answered a) (done_at script again stage)
   done_told Beginning (answers.Began t) added made none = record {
     before = before;

@@ -5,7 +5,7 @@ use Rattle.std.proofs.Math.Nat.{mod-add-div', add-mul-mod_self_right}
 use Rattle.script_worker.specs.Accounts.{every}
 use Rattle.script_worker.proofs.Places.{get_empty, get_none, get_within}
 
--- The element with a number among every n-th.
+-- Element `k` of `every n after xs` is element `after + k * n` of `xs`.
 pub get-every : {X : Type 0} (n : ℕ) → 0 < n → (xs : List X) (after k : ℕ) → slice_get (every n after xs) k ≡ slice_get xs (after + k * n)
 get-every n some [] after k = get_empty k ∙ sym (get_empty (after + k * n))
 get-every n some (x ∷ xs) zero zero = let none : 0 ≡ 0 + 0 * n = omega arith in ap (slice_get (x ∷ xs)) none
@@ -16,7 +16,8 @@ get-every n some (x ∷ xs) (suc after) k =
     let same : suc (after + k * n) ≡ suc after + k * n = omega arith in
     get-every n some xs after k ∙ ap (slice_get (x ∷ xs)) same
 
--- One more element is among these, if its position is theirs.
+-- An element is appended to the list. If its position is `after + k * n`, it is also appended to
+-- the list of every n-th.
 pub every-hit : {X : Type 0} (n : ℕ) → 0 < n → (xs : List X) (x : X) (after k : ℕ) → length xs ≡ after + k * n → every n after (xs ++ x ∷ []) ≡ every n after xs ++ x ∷ []
 every-hit n some [] x zero k at = refl
 every-hit n some [] x (suc after) k at = absurd (omega arith)
@@ -26,7 +27,7 @@ every-hit n some (y ∷ xs) x zero (suc k) at =
     ap (λ ys. y ∷ ys) (every-hit n some xs x (n - 1) k (omega (arith, suc-mul k n)))
 every-hit n some (y ∷ xs) x (suc after) k at = let one : suc (length xs) ≡ suc after + k * n = at in every-hit n some xs x after k (omega arith)
 
--- If its position is not, it is not among them.
+-- If its position is no such number, the list of every n-th is unchanged.
 pub every-miss : {X : Type 0} (n : ℕ) → 0 < n → (xs : List X) (x : X) (after : ℕ) → ((k : ℕ) → length xs ≡ after + k * n → ⊥) → every n after (xs ++ x ∷ []) ≡ every n after xs
 every-miss n some [] x zero never = absurd (never 0 (omega arith))
 every-miss n some [] x (suc after) never = refl
@@ -37,7 +38,7 @@ every-miss n some (y ∷ xs) x zero never =
 every-miss n some (y ∷ xs) x (suc after) never =
     every-miss n some xs x after (λ k at. let here : suc (length xs) ≡ suc after + k * n = omega arith in never k here)
 
--- Lists of the same length have equally many of these.
+-- Of lists of the same length, the lists of every n-th have the same length too.
 pub every-length : {X Y : Type 0} (n : ℕ) (xs : List X) (ys : List Y) (after : ℕ) → length xs ≡ length ys → length (every n after xs) ≡ length (every n after ys)
 every-length n [] [] after same = refl
 every-length n (x ∷ xs) (y ∷ ys) zero same = let one : suc (length xs) ≡ suc (length ys) = same in ap (λ (k : ℕ). suc k) (every-length n xs ys (n - 1) (omega arith))
@@ -49,16 +50,17 @@ every-map f n [] after = refl
 every-map f n (x ∷ xs) zero = ap (λ ys. f x ∷ ys) (every-map f n xs (n - 1))
 every-map f n (x ∷ xs) (suc after) = every-map f n xs after
 
--- The position of a number among those with its remainder.
+-- A number is its remainder modulo `n`, plus its quotient times `n`.
 pub number_at : (number n : ℕ) → number ≡ number % n + number / n * n
 number_at number n = sym (mod-add-div' number n)
 
--- Two remainders of the same number are equal.
+-- A number has only one remainder below `n`.
 pub one_remainder : (n a b k j : ℕ) → a < n → b < n → a + k * n ≡ b + j * n → a ≡ b
 one_remainder n a b k j low high same =
     sym (add-mul-mod_self_right a k n ∙ mod-eq_of_lt low) ∙ ap (λ m. m % n) same ∙ add-mul-mod_self_right b j n ∙ mod-eq_of_lt high
 
--- A shorter list has fewer of these, if its next element would be among them.
+-- A shorter list has fewer elements in `every n c` than a longer list, if `c` is the remainder of
+-- the shorter list's length modulo `n`.
 pub every-fewer : {X Y : Type 0} (n : ℕ) → 0 < n → (xs : List X) (ys : List Y) → length xs < length ys → length (every n (length xs % n) xs) < length (every n (length xs % n) ys)
 every-fewer n some xs ys fewer =
     let c : ℕ = length xs % n in

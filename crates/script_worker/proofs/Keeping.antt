@@ -53,7 +53,8 @@ module _ (tries workers : ℕ) (half : Bool) (scripts : List (List Action)) (w :
       }
       at false is = (outcomes, told)
 
-  -- A task whose entries are those of its script's chunk, which may have grown, and of another drive.
+  -- A task gets another attempt and another drive. It keeps to its scripts if the entries of its
+  -- present script are a chunk, which may have grown, and then those of the new drive.
   moved_to : (task : Task) (attempt : Attempt) (drive : Drive) (txn : ℕ) (replies : List (Option ℕ)) (chunk seen later : List Entry)
       → (at : KeepsTask tries workers scripts w task seen) → drive.caller ≡ w → drive.call ≡ call_at at.script attempt.stage
       → later ≡ at.earlier ++ (chunk ++ made drive) → IsChunk w at.script (heard_at attempt txn replies) chunk
@@ -74,7 +75,8 @@ module _ (tries workers : ℕ) (half : Bool) (scripts : List (List Action)) (w :
     so_far = so_far;
   }
 
-  -- An answer that the drive is told, and the table's size.
+  -- A task keeps to its scripts when its drive is told an answer, and when it notes the table's
+  -- size.
   drive_keeps : (task : Option Task) (step : Step) (answer : Answer) (seen : List Entry) → task_step task ≡ Some step → KeepsAt tries workers scripts w task seen
       → KeepsAt tries workers scripts w (drive_told task answer) (seen ++ entries_of step answer)
   drive_keeps None step answer seen is at = absurd (cc is)

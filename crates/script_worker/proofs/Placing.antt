@@ -1,4 +1,4 @@
--- A committed transaction has its commit number as its position among the commits.
+-- The commit number of a committed transaction is its position among the commits, counted from 1.
 use Rattle.std.proofs.Common.{◌≡◌, ℕ, ◌+◌, ◌-◌, ◌<◌, true, List, [], ◌∷◌, ◌++◌, length, length-append, slice_get, Some, sym, ap, ◌∙◌, inl, inr, arith, eqb-true}
 use Rattle.script_worker.proofs.Vocabulary.{same_from_push, get_or_append_left, slice_get_within, get_or_from_slice_get, slice_get-get_or, Entry, Committed, of, txns_of, commits, is_commit, how_many, is_shaped, is_numbered, IsShaped, txn_at, of-push_in, of-push_out}
 use Rattle.txn_trace.proofs.Callers.{Callers, shaped_number, in_or_out}
@@ -7,7 +7,7 @@ use Rattle.txn_trace.proofs.Steps.{txns_of-push, commits_are}
 use Rattle.txn_trace.proofs.Counts.{length-commits}
 use Rattle.script_worker.proofs.Places.{get_last}
 
--- An element of a list is at the same position of a longer one.
+-- An element of a list keeps its position when other elements are appended.
 get_front : {X : Type 0} (xs ys : List X) (i : ℕ) (x : X) → slice_get xs i ≡ Some x → slice_get (xs ++ ys) i ≡ Some x
 get_front xs ys i x is =
     let within : i < length xs = slice_get_within xs i x is in

@@ -8,8 +8,8 @@ use Rattle.txn_trace.proofs.Inductions.{by_entries}
 use Rattle.txn_trace.proofs.Steps.{txns_of-push}
 use Rattle.script_worker.proofs.Parts.{BeginNothing}
 
--- The committed transactions, from a caller's own entries: at each Committed that of the last
--- Began.
+-- The committed transactions, read from a caller's own entries: each Committed entry commits the
+-- transaction of the last Began entry before it.
 abbrev pub next_txn : Option ℕ → Entry → Option ℕ
 next_txn o (Began c t) = Some t
 next_txn o _ = o

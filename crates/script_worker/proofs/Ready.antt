@@ -52,7 +52,7 @@ called_started half scripts w n =
     elim (nat_lt n (length scripts)) as (λ b. IsCalledIfAny scripts (if b then Some (record { script = n; attempt = first_attempt; drive = new_drive half w calls.Begin }) else None)) [ true ↦ inl refl | false ↦ tt ]
 
 module _ (scripts : List (List Action)) (tries w : ℕ) (limits : Sizes) where
-  -- The first settling.
+  -- After the first settling the task's drive has a step to take, or is new.
   called_followed : (task : Task) (script : List Action) (progress : Progress) → slice_get scripts task.script ≡ Some script → IsCalledIfAny scripts (followed scripts w limits task script progress)
   called_followed task script (Next attempt) there = inr (record { half = limits.half; caller = w; script = script; there = there; drive = refl })
   called_followed task script (Over outcome) there = called_started limits.half scripts w (task.script + limits.callers)
@@ -92,7 +92,7 @@ module _ (scripts : List (List Action)) (tries w : ℕ) (limits : Sizes) where
   ready_stage half again task script c (stages.Acting i) outcome ended = ready_action half again task script i c (slice_get script i) outcome refl ended
   ready_stage half again task script c stage outcome ended = absurd (cc ended)
 
-  -- The second settling.
+  -- After the second settling the task's drive has a step to take.
   ready_progressed : (task : Task) (outcome : End) → end_of task.drive ≡ Some outcome → HasStep task.drive ⊎ IsCalled scripts task → IsReadyTask (progressed scripts tries w limits task outcome)
   ready_progressed task outcome ended (inl steps) = absurd (cc (ended, steps_ended (step_of task.drive) task.drive refl steps))
   ready_progressed task outcome ended (inr called) =

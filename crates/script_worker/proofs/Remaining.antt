@@ -12,8 +12,8 @@ use Rattle.script_worker.proofs.Chunks.{chunk_quiet}
 use Rattle.script_worker.proofs.Every.{get-every}
 use Rattle.script_worker.proofs.Ready.{steps_ended}
 
--- The entries of a worker are the accounts of its scripts. Those of a script that is not over
--- commit nothing, as if it had aborted.
+-- The entries of a worker are the accounts of its scripts. If the last script is not over, its
+-- entries commit nothing, so they are the account of a script that has aborted.
 module _ (tries workers : ℕ) (scripts : List (List Action)) (w : ℕ) (below : w < workers) where
   at_told : (task : Option Task) (seen : List Entry) → IsReadyTask task → KeepsAt tries workers scripts w task seen
       → (outcomes : List Outcome) × AreAccounts w tries (tolds_of (every workers w scripts) outcomes) seen

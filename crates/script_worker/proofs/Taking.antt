@@ -9,7 +9,8 @@ use Rattle.txn_drive.proofs.TurnLemmas.{turn_maps}
 use Rattle.script_worker.specs.declared.attempt.Finish.{Finish}
 use Rattle.script_worker.specs.Workers.{Standing, sized_by, turn_by, told_by, finish_told, IsTurnBy, Working, TakesStep, TakesIn, TakesNext}
 
--- A step of the worker, told by scripts and tries that are those of the turn.
+-- A step of the worker. The scripts and tries by which the worker is told the answer equal those of
+-- the turn.
 pub told_step : {X : Type 0} (takes : X → Step → Answer → X → Type 0) (scripts : List (List Action)) (tries : ℕ) (x : Working X)
     (s : Step) (a : Answer) (y : Working X) (each : List (List Action)) (times : ℕ) → each ≡ scripts → times ≡ tries
     → takes x.taker s a y.taker → y.worker ≡ told_by each times x.worker a
@@ -20,7 +21,7 @@ told_step takes scripts tries x s a y each times each_is times_is taken told end
   ended = rw (each_is, times_is) at ended;
 }
 
--- A turn that the worker takes is its next.
+-- If the turn that `turn_by` names is taken, the worker has taken its next turn.
 module _ {X : Type 0} (takes : X → Step → Answer → X → Type 0) (size : ℕ) (scripts : List (List Action)) (tries : ℕ) (old : X)
     (before : Standing) where
   abbrev begun : Standing → Option Finish → Working X
@@ -41,7 +42,8 @@ module _ {X : Type 0} (takes : X → Step → Answer → X → Type 0) (size : �
         (taken_in w (begun w None) turn y (subst (IsTurnBy w) some by) (rw (none, ← v_is) at taken)));
   }
 
--- A turn of which each step is one of the worker's is the worker's next.
+-- The same for a turn on another state: `p` gives the worker's state, and each step of the turn is
+-- a step of the worker on the state that `p` gives.
 pub turn_next : {X F : Type 0} (takes : X → Step → Answer → X → Type 0) (R : F → Step → Answer → F → Type 0) (I : F → F → Type 0)
     (p : F → Working X) (size : ℕ) (scripts : List (List Action)) (tries : ℕ) (before w : Standing) (o : Option Turn) (turn : Turn)
     (x y : F) → w ≡ sized_by size before → o ≡ turn_by w → IsTurnBy w o → o ≡ Some turn → w ≡ (p x).worker → (p x).finish ≡ None
@@ -55,7 +57,8 @@ turn_next takes R I p size scripts tries before w o turn x y w_is turn_is by som
       mapped.1,
     )
 
--- A worker's turn, as a turn on the part that each step changes.
+-- A worker's turn on a state is also its turn on a part of the state, which `p` gives, if each step
+-- on the state is a step on the part.
 module _ {X F : Type 0} (takes : X → Step → Answer → X → Type 0) (R : F → Step → Answer → F → Type 0) (I : F → Type 0) (p : F → X)
     (each : (x : F) (s : Step) (a : Answer) (y : F) → I x → R x s a y → takes (p x) s a (p y) × I y) (scripts : List (List Action)) (tries : ℕ) where
   abbrev on_part : Working F → Working X
@@ -81,7 +84,7 @@ next_maps takes R I p scripts tries size x before finish y after i taken each =
     (turn_by (sized_by size before)) (record { taker = y; worker = after; finish = finish }) i taken.steps in
     (record { steps = mapped.0 }, mapped.1)
 
--- The worker and the step after a turn, and how the script is over.
+-- The state and the worker after a turn, and how the script is over, replaced by equal values.
 pub next_at : {X : Type 0} (takes : X → Step → Answer → X → Type 0) (size : ℕ) (scripts : List (List Action)) (tries : ℕ) (old : X) (before : Standing) (o p : Option Finish) (y z : X) (v w : Standing)
     → TakesNext takes size scripts tries old before o y v → o ≡ p → y ≡ z → v ≡ w → TakesNext takes size scripts tries old before p z w
 next_at takes size scripts tries old before o p y z v w taken o_is y_is v_is = rw (o_is, y_is, v_is) at taken

@@ -3,7 +3,7 @@ use Rattle.std.proofs.Common.{◌≡◌, ℕ, zero, suc, Bool, false, cond, List
 use Rattle.script_worker.proofs.Vocabulary.{Entry, Undone, undone_by}
 use Rattle.script_worker.specs.Accounts.{replies_in}
 
--- A test that they do not pass finds none of them.
+-- A test that no Undone entry passes finds the same entries without them.
 pub filter_undone : (test : Entry → Bool) (c k : ℕ) (rest : List Entry) → test (Undone c) ≡ false
     → filter test (undone_by c k ++ rest) ≡ filter test rest
 filter_undone test c zero rest never = refl

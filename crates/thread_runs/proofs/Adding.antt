@@ -6,8 +6,8 @@ use Rattle.txn_drive.specs.declared.call.Call.TheVariants as calls
 use Rattle.txn_drive.specs.declared.«end».End.TheVariants as ends
 use Rattle.thread_runs.specs.Runs.{Adds, HasRoomFor, HasRoomAt}
 
--- A call that was refused by its token, or not made, since memory was refused for its reply, adds
--- none.
+-- A call adds no entry if its token refused it, or if it was not made because there was no memory
+-- for its reply.
 pub adds_same : (c : ℕ) (call : Call) (refusal : Refusal) (seen seen' : List Entry) → seen' ≡ seen
     → Adds c call (ends.Refused refusal) seen seen'
 adds_same c call OutOfStep seen seen' is = record { added = []; entries = is ∙ sym (append-nil seen); made = tt; quiet = λ whole. refl }
@@ -17,7 +17,8 @@ failed_adds : {S : Type 0} (k : Token S) (call : Call) (refusal : Refusal) (l : 
 failed_adds k call OutOfStep l fell = (record { added = fell.added; entries = fell.entries; made = tt; quiet = fell.quiet }, fell.whose)
 failed_adds k call refusal l none = (adds_same k.number call refusal k.seen l.seen none.seen, none.whose)
 
--- A call with this end.
+-- A call with this end adds the entries of this end, and its token still belongs to the same
+-- caller.
 pub adds_of : {S : Type 0} (words : S → List ℕ) (k : Token S) (call : Call) (outcome : End) (l : Token S) → Ended words k call outcome l → Adds k.number call outcome k.seen l.seen × IsSameCaller k l
 adds_of {S} words k call (ends.Refused refusal) l ended = elim ended [
   | inl token ↦ (

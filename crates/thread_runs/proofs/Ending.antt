@@ -27,7 +27,7 @@ any_at test (first ∷ script) zero action is passes =
     ap (λ a. test a || list_any test script) same ∙ ap (λ b. b || list_any test script) passes
 any_at test (first ∷ script) (suc i) action is passes = or_right (test first) (list_any test script) (any_at test script i action is passes)
 
--- A stage, as a statement about the refusal for which it leaves.
+-- If a script is leaving because of a refusal, it may have this refusal.
 abbrev pub MayLeave : Bool → List Action → Stage → Type 0
 MayLeave half script (Leaving refusal) = MayBeRefused half script refusal
 MayLeave half script stage = Unit {0}
@@ -43,8 +43,8 @@ abbrev pub Stands : Bool → List Action → Bool → List Entry → Progress �
 Stands half script broken seen (Next attempt) = IsIn (phase_at attempt.stage) broken seen × MayLeave half script attempt.stage
 Stands half script broken seen (Over over) = IsIn Closed broken seen × MayBeOver half script over
 
--- A refusal of this action, or of the begin, that the script may have; the commit and the abort
--- have none.
+-- A refusal of this action that the script may have. The abort has none, and neither has the
+-- commit, for which the action is None.
 abbrev pub IsGood : Bool → List Action → Refusal → Option Action → Type 0
 IsGood half script refusal None = ⊥
 IsGood half script refusal (Some actions.Abort) = ⊥

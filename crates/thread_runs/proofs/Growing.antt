@@ -37,7 +37,8 @@ pub grown_by : {S : Type 0} (words : S → List ℕ) (k : Token S) (last : End) 
 grown_by words k last key (ends.Refused OutOfStep) l done ended = (done, key, words, ended)
 grown_by words k last key outcome l done ended = helped_at words k key outcome l refl ended
 
--- The loop over the calls of a script, before a call and after one, by its progress.
+-- The invariant of the loop over a script's calls: before a call, and after a call with this
+-- progress.
 abbrev pub IsBefore : ℕ → Bool → List Action → List Entry → Heard → Bool → List Entry → Type 0
 IsBefore c half script base heard broken seen = IsRunning c script heard base seen × (IsIn (phase_at heard.attempt.stage) broken seen × MayLeave half script heard.attempt.stage)
 
@@ -49,7 +50,8 @@ pub before_first : (c : ℕ) (half : Bool) (script : List Action) (base : List E
     → IsBefore c half script base heard broken base
 before_first c half script base heard broken is at = rw is (([], sym (append-nil base), chunk_begun c script), (at, tt))
 
--- A call, and a help for growth that did not fall out of step.
+-- The invariant still holds after a call and the help that may follow it, unless this help falls
+-- out of step.
 pub called : {S : Type 0} (c : ℕ) (half : Bool) (tries : ℕ) (script : List Action) (base : List Entry) (heard heard' : Heard) (j k l : Token S) (call : Call) (end : End) (p : Progress)
     → j.number ≡ c → j.limits.half ≡ half → call ≡ call_at script heard.attempt.stage → heard' ≡ heard → p ≡ progress_of script tries heard'.attempt end
     → Adds j.number call end j.seen k.seen → HasEnded j call end k → (k.broken ≡ false → is_some (seat_after k.seen) ≡ true) → Grows k end true l

@@ -3,7 +3,8 @@ use Rattle.std.proofs.Common.{◌≡◌, ℕ, ◌⊎◌, zero, suc, List, [], �
 use Rattle.thread_runs.proofs.Vocabulary.{slice_get_within, slice_get-map, get_or_from_slice_get, get_empty}
 use Rattle.thread_runs.specs.Each.{Each}
 
--- An element of a list with one more is one of the list, or the last.
+-- If an element is appended to a list, each element of the result is one of the list or the new
+-- one.
 pub get_push : {X : Type 0} (xs : List X) (y : X) (i : ℕ) (x : X) → slice_get (xs ++ y ∷ []) i ≡ Some x → (slice_get xs i ≡ Some x) ⊎ ((i ≡ length xs) × (y ≡ x))
 get_push [] y zero x is = inr (refl, cc is)
 get_push [] y (suc i) x is = absurd (cc is)
@@ -19,7 +20,7 @@ each_push {X} P xs y each here i x is = elim (get_push xs y i x is) [
   | inr last ↦ rw (last.0, ← last.1) here
 ]
 
--- An element of a mapped list is that of an element.
+-- An element of a mapped list is the image of the element at the same position.
 pub get_map : {R X : Type 0} (f : R → X) (rs : List R) (k : ℕ) (x : X) → slice_get (map f rs) k ≡ Some x → (r : R) × (slice_get rs k ≡ Some r) × (f r ≡ x)
 get_map f [] k x is = absurd (cc (get_empty k, is))
 get_map f (r ∷ rs) zero x is = (r, refl, cc is)
@@ -28,7 +29,7 @@ get_map f (r ∷ rs) (suc k) x is = get_map f rs k x is
 pub map_get : {R X : Type 0} (f : R → X) (rs : List R) (xs : List X) → xs ≡ map f rs → (k : ℕ) (r : R) → slice_get rs k ≡ Some r → slice_get xs k ≡ Some (f r)
 map_get f rs xs are k r is = ap (λ ys. slice_get ys k) are ∙ slice_get-map f rs k ∙ ap (option_map f) is
 
--- A statement about each element of a mapped list, for the image of each element.
+-- A statement that holds of each element of a mapped list holds of each element's image.
 pub all_at : {R K : Type 0} (P : K → Type 0) (f : R → K) (rs : List R) (ks : List K) → ks ≡ map f rs → All P ks → (i : ℕ) (r : R) → slice_get rs i ≡ Some r → P (f r)
 all_at P f rs ks are all i r is =
     let here = map_get f rs ks are i r is in

@@ -1,5 +1,5 @@
--- Rows, each with its last element first, are merged: one element after the other, from row after
--- row.
+-- Rows, each with its last element first, are merged into one list, which takes one element from
+-- each row in turn.
 use Rattle.std.proofs.Common.{◌≡◌, ℕ, ◌+◌, ◌*◌, ◌/◌, ◌%◌, ◌<◌, List, [], ◌∷◌, ◌++◌, append_assoc, length, length-append, reverse, set, Some, refl, sym, ap, ◌∙◌, inl, inr, arith, slice_get, slice_index_or, append-nil, length-set}
 use Rattle.thread_runs.proofs.Vocabulary.{cases_eq, length-reverse, nil_from_length, reverse-append, slice_get_within, slice_get_read, every, every-hit, every-miss, every-length, every-fewer, number_at, one_remainder, get_within}
 use Rattle.thread_runs.specs.Each.{Each}
@@ -14,7 +14,8 @@ pub record IsLeft {R X : Type 0} (items : R → List X) (n : ℕ) (rows left : L
   pub as_many : length left ≡ length rows
   pub each : Each (HasLeft items n left out) rows
 
--- Each row has one element for each of the numbers that belong to it.
+-- Each row has as many elements as `ys` has at the row's positions, which are those with the row's
+-- number as their remainder modulo `n`.
 abbrev pub AreWholeRows : {R X Y : Type 0} → (R → List X) → ℕ → List R → List Y → Type 0
 AreWholeRows items n rows ys = Each (λ c row. length (items row) ≡ length (every n c ys)) rows
 
@@ -24,7 +25,7 @@ left_none items n rows out none = record { as_many = refl; each = λ i was is. (
 same_row : {R : Type 0} (left : List R) (i : ℕ) (row old : R) → slice_get left i ≡ Some row → slice_get left i ≡ Some old → old ≡ row
 same_row left i row old is was = cc (is, was)
 
--- One more is out, from the row that is next.
+-- One more element is out, taken from the next row.
 pub left_more : {R X : Type 0} (items : R → List X) (n : ℕ) (rows left : List R) (out : List X) (c : ℕ) (row row' : R) (x : X) → 0 < n → length rows ≡ n → c ≡ length out % n → slice_get left c ≡ Some row → items row ≡ items row' ++ x ∷ []
     → IsLeft items n rows left out → IsLeft items n rows (set left c row') (out ++ x ∷ [])
 left_more {R} {X} items n rows left out c row row' x some as_many turn is popped so_far = record {
@@ -60,7 +61,7 @@ left_more {R} {X} items n rows left out c row row' x some as_many turn is popped
       | inr apart ↦ other i was (omega (arith, as_many, slice_get_within rows i was in_rows)) apart (so_far.each i was in_rows)
     ]
 
--- The row that is next has an element left, as long as not all are out.
+-- While some element is not out yet, the next row has an element left.
 left_some : {R X Y : Type 0} (items : R → List X) (n : ℕ) (rows left : List R) (out : List X) (ys : List Y) (c : ℕ) (row : R) → 0 < n
     → length rows ≡ n → c ≡ length out % n → length out < length ys → AreWholeRows items n rows ys
     → slice_get left c ≡ Some row → IsLeft items n rows left out → 0 < length (items row)
@@ -71,7 +72,7 @@ left_some items n rows left out ys c row some as_many turn fewer whole is so_far
     let less : length (every n c out) < length (every n c ys) = rw turn (every-fewer n some out ys fewer) in
     omega (arith, parts, less, whole c was in_rows)
 
--- The row that is next, in terms of the values in the code.
+-- The next row, in terms of the values in the code.
 pub row_at : {R X Y : Type 0} (items : R → List X) (rows left : List R) (out : List X) (ys : List Y) (number workers k : ℕ) (row : R)
     → k ≡ number % workers → 0 < length rows → workers ≡ length rows → length out ≡ number → number < length ys
     → AreWholeRows items (length rows) rows ys → IsLeft items (length rows) rows left out → row ≡ slice_index_or left k row

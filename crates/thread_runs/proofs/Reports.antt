@@ -1,4 +1,5 @@
--- The reports of all workers of a run, and their rows of outcomes, each with its last one first.
+-- The reports of all workers of a run, and the workers' rows of outcomes. Each row has its last
+-- outcome first.
 use Rattle.std.proofs.Common.{◌≡◌, ℕ, ◌+◌, ◌*◌, ◌/◌, ◌%◌, ◌<◌, Bool, List, get_or, length, map, reverse, Some, sym, ap, ◌∙◌, arith, slice_get, All, mod-lt}
 use Rattle.thread_runs.proofs.Vocabulary.{range_with_len, get_or-map, length-map, length-reverse, reverse-reverse, Action, Entry, own, IsShaped, Sizes, Outcome, every, AreAllTrue, every-map, get-every, number_at, get_within, true_plays}
 use Rattle.std.proofs.lemmas.List.FromFn.{length-map-range_with_len, get_or-map-range_with_len}
@@ -15,7 +16,7 @@ use Rattle.thread_runs.specs.Runs.{AreToldIn, HasReported, HasRunScripts, told_o
 use Rattle.thread_runs.proofs.Lists.{all_at, get_map, map_get}
 use Rattle.thread_runs.proofs.Working.{all_true, told_within}
 
--- Reports of a work that has these numbers and scripts.
+-- Reports whose numbers and scripts equal those of a work are reports of this work.
 pub reported_as : {L : Type 0} (half : Bool) (workers workers' tries tries' : ℕ) (scripts scripts' : List (List Action)) (reports : List (WorkerReport L)) → workers' ≡ workers → tries' ≡ tries → scripts' ≡ scripts
     → Each (HasReported half workers' tries' scripts') reports → Each (HasReported half workers tries scripts) reports
 reported_as half workers workers' tries tries' scripts scripts' reports same again all each =
@@ -37,7 +38,8 @@ module _ {L W : Type 0} (items : W → List codes.Outcome) (half : Bool) (worker
   report_at c below = get_within reports c (omega (arith, as_many))
 
   module _ (outcomes : List codes.Outcome) (order : Each (λ c row. every (length rows) c outcomes ≡ reverse (items row)) rows) where
-    -- The outcomes of a worker, out of all, are those that it has reported.
+    -- Among all outcomes, those of a worker's scripts are the outcomes that the worker has
+    -- reported.
     own_outcomes : (c : ℕ) (r : WorkerReport L) → slice_get reports c ≡ Some r → every workers c (map told_of outcomes) ≡ map told_of r.outcomes.items
     own_outcomes c r at =
         let (row, in_rows, row_is) = get_map items rows c (reverse r.outcomes.items) (map_get (λ q. reverse q.outcomes.items) reports _ rows_are c r at) in
@@ -86,7 +88,7 @@ run_true items limits sizes workers tries scripts reports callers rows outcomes 
       allowed = reports_may items limits.half workers tries scripts reports rows as_many each rows_are outcomes order some;
     }
 
--- The element at a position of a list that shows the numbers in order.
+-- If the elements of a list show `f` of 0, 1, 2 and so on, the element at position `k` shows `f k`.
 pub shown_at : {X T : Type 0} (show : X → T) (f : ℕ → T) (n : ℕ) (xs : List X) (k : ℕ) (x : X) → map show xs ≡ map f (range_with_len 0 n) → (k < length xs) × (x ≡ get_or xs k x) → show x ≡ f k
 shown_at show f n xs k x are at =
     let as_many : length xs ≡ n = sym (length-map xs show) ∙ ap length are ∙ length-map-range_with_len f 0 n in

@@ -1,5 +1,5 @@
--- The phase of a caller's seat after each call of a script, and the refusals with which the call
--- may end.
+-- The phase of a caller's seat after each call of a script, unless the call is refused. A call that
+-- adds entries has a last entry that decides the phase.
 use Rattle.std.proofs.Common.{◌≡◌, ℕ, ◌+◌, take, slice_index, ◌==◌, ◌&&◌, Bool, true, false, cond, List, [], ◌∷◌, ◌++◌, append_assoc, Option, Some, None, is_some, refl, sym, ap, ◌∙◌, option_and_then, append-nil}
 use Rattle.thread_runs.proofs.Vocabulary.{false≢true, Entry, Closed, Opened, Waiting, LeavingTo, LeavingToEnd, Seat, row, seat_after, closed_seat, Call, End, undone_by, IsUndone, IsMade}
 use Rattle.txn_words.specs.declared.answer.Answer.TheVariants as answers
@@ -56,8 +56,8 @@ abbrev pub is_refusal : End → Bool
 is_refusal (ends.Refused refusal) = true
 is_refusal outcome = false
 
--- The phase after a call that did what it was asked to do, and after one that may have found a
--- stripe held.
+-- The phase after a call that did what it was asked to do; and the phase after a call that may also
+-- have found a stripe held.
 abbrev pub phase_after : Phase → Call → Phase
 phase_after phase calls.Commit = Closed
 phase_after phase calls.Abort = Closed

@@ -4,7 +4,8 @@ use Rattle.std.specs.Option.{option_or}
 use Rattle.core_tokens.specs.Ready.{refused_at, refused_help}
 use Rattle.core_tokens.proofs.caller.Caller.refusal.Goals as goal
 
--- The refusal of a call, from those of its seat and of help.
+-- A call is refused by the caller's seat or, if the seat does not refuse it, as help with a bad
+-- key.
 refuses : (half b : Bool) (o : Option Seat) (call : Call) (seat help r : Option Refusal) → b ≡ false → is_some o ≡ true
     → ((s : Seat) → o ≡ Some s → seat ≡ refusal_in half s (first_step 0 call)) → help ≡ refused_help half call → r ≡ option_or seat help → r ≡ refused_at half b o call
 refuses half b None call seat help r sound whole seat_is help_is is = absurd (cc whole)
