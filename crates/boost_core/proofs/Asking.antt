@@ -1,38 +1,21 @@
 -- An operation that is asked for.
-use Rattle.std.proofs.Common.{◌≡◌, ℕ, ◌+◌, ◌-◌, ◌^◌, ◌<◌, ◌==◌, ◌||◌, true, false, cond, List, [], ◌++◌, length, Option, Some, None, refl, sym, ap, subst, ◌∙◌, arith, slice_get, slice_set, map, nat_eq, not, eq-eqb, ne_eqb, append-nil, inl, inr, ◌⊎◌}
-use Rattle.boost_core.proofs.Vocabulary.{option_eq, option_map, slice_get_within, Op, Refusal, key_of, takes_node, PendingAt, Step, serial, now, Phase, Opened, Waiting, LeavingToEnd, RoomySeat, Next, TableAt, Cursor, cursor_changes, map_of, nodes_of}
-use Rattle.std.proofs.lemmas.Bool.{false≢true, cases_eq, and_from, or_right}
-use Rattle.txn_words.specs.declared.holder.Holder.TheVariants.{Now}
-use Rattle.txn_words.specs.declared.refusal.Refusal.TheVariants as refusals
-use Rattle.txn_trace.specs.Locks.{stripe_of, is_locked, LocksHold, holder_of}
-use Rattle.txn_trace.proofs.Now.{same_is}
-use Rattle.txn_trace.proofs.Holders.{is_locked-asked, is_locked-busy}
-use Rattle.map_ops.specs.Changes.{Prepares, IsRefused}
-use Rattle.txn_words.specs.declared.entry.Entry.TheVariants as entry
-use Rattle.txn_words.specs.declared.step.Step.TheVariants as steps
-use Rattle.txn_words.specs.declared.answer.Answer.TheVariants as answers
-use Rattle.txn_words.specs.Entries.{entries_of}
-use Rattle.txn_trace.proofs.Entries as laws
-use Rattle.key_locks.specs.Locks.{holder_of as held_by}
-use Rattle.boost_core.specs.declared.session.Session.{Session}
-use Rattle.boost_core.specs.State.{Owner, Caller, Helper, holder_by}
-use Rattle.boost_core.specs.Refusals.{refusal_of, has_stamp_for, MayLack}
-use Rattle.boost_core.specs.Spares.{times_of, times_in, times_out, IsCovered}
-use Rattle.boost_core.specs.Core.{World, Tells, IsFresh, state_of, session_changes, gap_if}
+use Rattle.std.proofs.Common.{◌≡◌, ℕ, ◌+◌, ◌-◌, ◌^◌, ◌<◌, ◌==◌, ◌||◌, true, false, cond, List, [], ◌++◌, length, Option, Some, None, refl, sym, ap, subst, ◌∙◌, arith, slice_get, slice_set, map, nat_eq, not, eq-eqb, ne_eqb, append-nil, inl, inr, ◌⊎◌, option_map}
+use Rattle.boost_core.proofs.Vocabulary.{option_eq, slice_get_within, Op, Refusal, key_of, takes_node, PendingAt, Step, serial, now, Phase, Opened, Waiting, LeavingToEnd, RoomySeat, Next, TableAt, Cursor, cursor_changes, map_of, nodes_of, false≢true, cases_eq, and_from, or_right, Now, stripe_of, is_locked, LocksHold, holder_of, same_is, is_locked-asked, is_locked-busy, Prepares, IsRefused, entries_of, held_by, Session, Owner, Caller, Helper, holder_by, refusal_of, has_stamp_for, MayLack, times_of, times_in, times_out, IsCovered, World, Tells, IsFresh, state_of, session_changes, gap_if, may_stand, Move, Claim, Lock, Goes, Side, side_of, target_in, IsSoughtAt, KeepsPlaced, Waits, spare_if, times_kept, StaysIn, AsksIn, MeetsIn}
 use Rattle.boost_core.proofs.Numbers.{no_more}
 use Rattle.boost_core.proofs.Moves.{Runs, changes_same, gaps_same, lacks, none_dropped}
 use Rattle.boost_core.proofs.Grow.{Stays, world_after, seated_as, set_cases}
 use Rattle.boost_core.proofs.Outcomes.{Comes, Called, CalledBy, same_world, entered}
-use Rattle.boost_core.specs.Answers.{may_stand}
-use Rattle.boost_core.specs.Machine.{Move}
-use Rattle.boost_core.specs.Words.{Claim, Lock, Goes}
-use Rattle.boost_core.specs.Sessions.{Side, side_of, target_in, IsSoughtAt, KeepsPlaced, Waits, spare_if, times_kept, StaysIn, AsksIn, MeetsIn}
 use Rattle.boost_core.proofs.Spares.{spent}
 use Rattle.boost_core.proofs.Refused.{seat_free, three_tests}
 use Rattle.boost_core.proofs.Quiet.{idle_cursor, nothing_waits}
 use Rattle.boost_core.proofs.Gaps.{same_fits}
 use Rattle.boost_core.proofs.HelperGaps.{same_helper}
 use Rattle.boost_core.proofs.Given.{given_for, open_to}
+use Rattle.txn_words.specs.declared.refusal.Refusal.TheVariants as refusals
+use Rattle.txn_words.specs.declared.entry.Entry.TheVariants as entry
+use Rattle.txn_words.specs.declared.step.Step.TheVariants as steps
+use Rattle.txn_words.specs.declared.answer.Answer.TheVariants as answers
+use Rattle.txn_trace.proofs.Entries as laws
 
 module _ (w : World) (tells : Tells w) (c : ℕ) (x : Session) (at : slice_get w.sessions c ≡ Some x) where
   -- The cursor that was placed last still fits if the nodes, the buckets and the caller's cursor are

@@ -1,12 +1,6 @@
 -- The callers that have begun a transaction, noted entry by entry.
 use Rattle.std.proofs.Common.{◌≡◌, ℕ, ◌<◌, ◌||◌, Bool, true, false, cond, List, [], ◌∷◌, ◌++◌, length, set, get_or, replicate, Option, Some, None, refl, sym, ap, subst, ◌∙◌, arith, option_to_list, lt-ltb, append-nil, length-set, get_or-set_same, get_or-set_other, inl, inr}
-use Rattle.std.proofs.Math.Bool.{or-false}
-use Rattle.std.proofs.lemmas.Bool.{cases_eq, cases_lt, or_right}
-use Rattle.std.proofs.lemmas.List.{length-replicate, get_or-replicate, get_or_past}
-use Rattle.boost_core.proofs.Vocabulary.{Entry, caller_of, is_began}
-use Rattle.txn_words.specs.declared.entry.Entry.TheVariants.{Began}
-use Rattle.txn_trace.specs.Locks.{has_begun}
-use Rattle.txn_trace.proofs.Naming.{has_begun-own, has_begun-other}
+use Rattle.boost_core.proofs.Vocabulary.{or-false, cases_eq, cases_lt, or_right, length-replicate, get_or-replicate, get_or_past, Entry, caller_of, is_began, Began, has_begun, has_begun-own, has_begun-other}
 use Rattle.boost_core.specs.Begun.{begun_with, AreNoted}
 
 -- An entry that begins nothing.

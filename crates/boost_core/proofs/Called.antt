@@ -1,19 +1,7 @@
 -- The outcome of each step of a caller.
-use Rattle.std.proofs.Common.{◌≡◌, ℕ, ◌+◌, ◌-◌, ◌^◌, ◌<◌, ◌≤◌, Bool, true, false, List, Option, Some, None, is_some, refl, sym, ap, subst, ◌∙◌, arith, slice_get, slice_set, map, reverse, unwrap_or, inr, length-set, get_or-set_same}
-use Rattle.std.proofs.lemmas.Bool.{leb-false}
-use Rattle.boost_core.proofs.Vocabulary.{option_map, false≢true, slice_get_within, slice_get-map, Step, Answer, TableAt, Cursor, cursor_changes, table_changes, key_of, Op, stripe_of}
-use Rattle.txn_words.specs.declared.step.Step.TheVariants as steps
-use Rattle.txn_words.specs.declared.answer.Answer.TheVariants as answers
-use Rattle.boost_core.specs.declared.counts.Counts.{Counts}
-use Rattle.boost_core.specs.declared.session.Session.{Session}
-use Rattle.boost_core.specs.State.{Caller, caller_changes}
-use Rattle.boost_core.specs.Refusals.{refusal_of, owner_of}
-use Rattle.boost_core.specs.Words.{Claim, Lock, Right, Held, Stale, IsClaim}
-use Rattle.boost_core.specs.Spares.{times_of, times_in, times_out}
-use Rattle.boost_core.specs.Core.{World, Tells, state_of, session_changes, all_times}
+use Rattle.std.proofs.Common.{◌≡◌, ℕ, ◌+◌, ◌-◌, ◌^◌, ◌<◌, ◌≤◌, Bool, true, false, List, Option, Some, None, is_some, refl, sym, ap, subst, ◌∙◌, arith, slice_get, slice_set, map, reverse, unwrap_or, inr, length-set, get_or-set_same, leb-false, option_map}
+use Rattle.boost_core.proofs.Vocabulary.{false≢true, slice_get_within, slice_get-map, Step, Answer, TableAt, Cursor, cursor_changes, table_changes, key_of, Op, stripe_of, Counts, Session, Caller, caller_changes, refusal_of, owner_of, Claim, Lock, Right, Held, Stale, IsClaim, times_of, times_in, times_out, World, Tells, state_of, session_changes, all_times, side_of, Does, ActsIn, ReturnsIn, Saves, IsAsked, AsksBy, unless_busy, KeepsPlaced, Takes, AreDue, spare_if, times_kept}
 use Rattle.boost_core.proofs.Outcomes.{Called, CalledBy, same_world}
-use Rattle.txn_words.specs.declared.refusal.Refusal.TheVariants as refusals
-use Rattle.boost_core.specs.Sessions.{side_of, Does, ActsIn, ReturnsIn, Saves, IsAsked, AsksBy, unless_busy, KeepsPlaced, Takes, AreDue, spare_if, times_kept}
 use Rattle.boost_core.proofs.Spares.{owns_if}
 use Rattle.boost_core.proofs.Grow.{one_of_sum}
 use Rattle.boost_core.proofs.Refused.{caller_in, index_at, free, seat_free, cursor_free}
@@ -22,6 +10,9 @@ use Rattle.boost_core.proofs.Asking.{asked_called, busy_called, ask_refused, sav
 use Rattle.boost_core.proofs.Claims.{stale_called, held_called, word_stale_called}
 use Rattle.boost_core.proofs.Working.{did_called, undone_called}
 use Rattle.boost_core.proofs.Finding.{sought_called, again_called}
+use Rattle.txn_words.specs.declared.step.Step.TheVariants as steps
+use Rattle.txn_words.specs.declared.answer.Answer.TheVariants as answers
+use Rattle.txn_words.specs.declared.refusal.Refusal.TheVariants as refusals
 
 -- An Ask locks its stripe only if stripes are not words.
 no_words : (words : Bool) → (words ≡ true → true ≡ false) → words ≡ false

@@ -1,27 +1,17 @@
 -- An operation that is asked for when stripes are words: the outcome with a stale right, and with a
 -- word.
-use Rattle.std.proofs.Common.{◌≡◌, ℕ, ◌<◌, ◌==◌, ◌||◌, Bool, true, List, [], ◌++◌, length, Option, Some, None, refl, sym, ap, subst, ◌∙◌, arith, slice_get, slice_set, map, not, eq-eqb, ne_eqb, append-nil, inl, inr}
-use Rattle.boost_core.proofs.Vocabulary.{option_map, Op, Phase, Opened, LeavingToEnd, key_of, serial, log_of, stripe_of, holder_of, RoomySeat, PendingAt, TableAt, Cursor, cursor_changes, nodes_of, last_of, map_of}
-use Rattle.std.proofs.lemmas.Bool.{false≢true, and_from, or_left}
-use Rattle.txn_words.specs.declared.entry.Entry.TheVariants as entry
-use Rattle.txn_words.specs.declared.refusal.Refusal.TheVariants.{StaleWord}
-use Rattle.txn_words.specs.declared.step.Step.TheVariants as steps
-use Rattle.txn_words.specs.declared.answer.Answer.TheVariants as answers
-use Rattle.txn_trace.proofs.Entries as laws
-use Rattle.txn_trace.proofs.Holders.{is_locked-asked}
-use Rattle.boost_core.specs.declared.session.Session.{Session}
-use Rattle.boost_core.specs.State.{holder_by}
-use Rattle.boost_core.specs.Refusals.{refusal_of, has_stamp_for}
-use Rattle.boost_core.specs.Answers.{may_stand}
-use Rattle.boost_core.specs.Words.{Right, Held, Stale, is_taken}
-use Rattle.boost_core.specs.Sessions.{Side, target_in, IsSoughtAt, KeepsPlaced, Waits, MeetsIn}
-use Rattle.boost_core.specs.Core.{World, Tells, state_of, session_changes, nodes_at, gap_by, helper_gaps_of}
+use Rattle.std.proofs.Common.{◌≡◌, ℕ, ◌<◌, ◌==◌, ◌||◌, Bool, true, List, [], ◌++◌, length, Option, Some, None, refl, sym, ap, subst, ◌∙◌, arith, slice_get, slice_set, map, not, eq-eqb, ne_eqb, append-nil, inl, inr, option_map}
+use Rattle.boost_core.proofs.Vocabulary.{Op, Phase, Opened, LeavingToEnd, key_of, serial, log_of, stripe_of, holder_of, RoomySeat, PendingAt, TableAt, Cursor, cursor_changes, nodes_of, last_of, map_of, false≢true, and_from, or_left, StaleWord, is_locked-asked, Session, holder_by, refusal_of, has_stamp_for, may_stand, Right, Held, Stale, is_taken, Side, target_in, IsSoughtAt, KeepsPlaced, Waits, MeetsIn, World, Tells, state_of, session_changes, nodes_at, gap_by, helper_gaps_of}
 use Rattle.boost_core.proofs.Numbers.{no_more}
 use Rattle.boost_core.proofs.Moves.{runs_same, state_is, changes_same, none_dropped}
 use Rattle.boost_core.proofs.Grow.{Stays, world_after, seated_as}
 use Rattle.boost_core.proofs.Outcomes.{CalledBy, Called, entered}
 use Rattle.boost_core.proofs.Quiet.{quiet}
 use Rattle.boost_core.proofs.Asking.{opened, nothing, no_cursor_there, busy_runs, busy_covered, busy_stamped, lacking_called, fresh_kept}
+use Rattle.txn_words.specs.declared.entry.Entry.TheVariants as entry
+use Rattle.txn_words.specs.declared.step.Step.TheVariants as steps
+use Rattle.txn_words.specs.declared.answer.Answer.TheVariants as answers
+use Rattle.txn_trace.proofs.Entries as laws
 
 module _ (w : World) (tells : Tells w) (c : ℕ) (x : Session) (at : slice_get w.sessions c ≡ Some x) (op : Op) (none : refusal_of (state_of w) (steps.Ask c op) ≡ None) where
   abbrev stripe : ℕ

@@ -1,29 +1,18 @@
 -- A caller's call for help while nobody else takes steps on the core: the invariant of each phase
 -- of its drive, the number of steps left, a round of the call's loop, and its outcome.
 use Rattle.std.proofs.Common.{◌≡◌, ℕ, ◌+◌, ◌*◌, ◌-◌, ◌^◌, ◌%◌, ◌<◌, ◌≤◌, Bool, true, false, if◌then◌else◌, Option, Some, None, refl, sym, ap, subst, ◌∙◌, arith, nat_le, unwrap_or}
-use Rattle.boost_core.proofs.Vocabulary.{false≢true, Step, Answer, Drive, IsAncestor}
-use Rattle.std.proofs.lemmas.Nat.{mod_below}
-use Rattle.txn_words.specs.declared.step.Step.TheVariants as steps
-use Rattle.txn_words.specs.declared.answer.Answer.TheVariants as answers
-use Rattle.txn_words.specs.declared.refusal.Refusal.TheVariants as refusals
-use Rattle.txn_words.specs.Sizes.{is_bad_key, Sizes, are_limits}
+use Rattle.boost_core.proofs.Vocabulary.{false≢true, Step, Answer, Drive, IsAncestor, mod_below, is_bad_key, Sizes, are_limits, Way, first_phase, step_in, sized_in, towards, told_help, told_init_seek, told_link, told_store, told_in, new_drive, step_of, sized_of, turn_in, ended_by, end_of, told_of, IsAncestor-root, child_towards-le, State, Helper, is_set, Move, IsWhole, IsOnWay, HelpSuits, is_ask, Drives, Helps, outcome_of}
 use Rattle.txn_drive.specs.declared.call.Call.{Call}
-use Rattle.txn_drive.specs.declared.call.Call.TheVariants as calls
 use Rattle.txn_drive.specs.declared.phase.Phase.{Phase}
-use Rattle.txn_drive.specs.declared.phase.Phase.TheVariants as phases
-use Rattle.txn_drive.specs.declared.way.Way.{Way}
-use Rattle.txn_drive.specs.Drives.{first_phase, step_in, sized_in, towards, told_help, told_init_seek, told_link, told_store, told_in, new_drive, step_of, sized_of, turn_in, ended_by, end_of, told_of}
-use Rattle.txn_drive.proofs.WayLemmas.{IsAncestor-root, child_towards-le}
-use Rattle.boost_core.specs.State.{State, Helper, is_set}
-use Rattle.boost_core.specs.Machine.{Move}
-use Rattle.boost_core.specs.Whole.{IsWhole}
-use Rattle.boost_core.specs.Helps.{IsOnWay, HelpSuits}
-use Rattle.boost_core.specs.Words.{is_ask}
-use Rattle.boost_core.specs.Plain.{Drives, Helps, outcome_of}
 use Rattle.boost_core.proofs.InStep.{Sized, sized, is_double, at_towards, at_heading, at_refused, at_double, Reaches, double_reaches, seek_reaches, link_reaches, store_reaches, help_suits_told}
 use Rattle.boost_core.proofs.Ways.{rises}
 use Rattle.boost_core.proofs.Moves.{just_placed}
 use Rattle.boost_core.proofs.Refused.{le_false}
+use Rattle.txn_words.specs.declared.step.Step.TheVariants as steps
+use Rattle.txn_words.specs.declared.answer.Answer.TheVariants as answers
+use Rattle.txn_words.specs.declared.refusal.Refusal.TheVariants as refusals
+use Rattle.txn_drive.specs.declared.call.Call.TheVariants as calls
+use Rattle.txn_drive.specs.declared.phase.Phase.TheVariants as phases
 
 -- The cursor with which a dummy is to be linked is the one placed last.
 abbrev pub IsPlaced : State → ℕ → Phase → Type 0

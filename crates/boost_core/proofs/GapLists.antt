@@ -1,12 +1,6 @@
 -- Two neighbouring nodes, before and after a change of the list.
 use Rattle.std.proofs.Common.{◌≡◌, ℕ, ◌==◌, Bool, true, false, cond, inl, inr, List, [], ◌∷◌, Some, refl, sym, ap, subst, ◌∙◌, arith, nat_lt, eq-eqb, eqb-true, ltb-true}
-use Rattle.boost_core.proofs.Vocabulary.{AllByRecursion, false≢true, cases_Bool}
-use Rattle.split_key.specs.Sort.{is_before, IsBefore}
-use Rattle.node_list.specs.Nodes.{NodeAt, node_of, next_of, first, linked_after, changed_at}
-use Rattle.node_list.specs.Order.{IsRising, IsSpread, IsNodeBefore, AbsentFrom}
-use Rattle.list_steps.specs.Seek.{cleaned, sought}
-use Rattle.list_steps.specs.Steps.{without_first_marked}
-use Rattle.boost_core.specs.State.{SortKey}
+use Rattle.boost_core.proofs.Vocabulary.{AllByRecursion, false≢true, cases_Bool, is_before, IsBefore, NodeAt, node_of, next_of, first, linked_after, changed_at, IsRising, IsSpread, IsNodeBefore, AbsentFrom, cleaned, sought, without_first_marked, SortKey}
 use Rattle.boost_core.proofs.NodeLists.{node_here, node_later, none_of_none}
 
 -- A node that is linked and unmarked is still linked at its place, with its stamp.

@@ -1,29 +1,18 @@
 -- The effect of each step that is no caller's on the cursors.
 use Rattle.std.proofs.Common.{◌≡◌, ◌≢◌, ℕ, Some, None, Result, Ok, Err, refl, sym, ap, subst, map, slice_get, slice_set, slice_index_or}
-use Rattle.boost_core.proofs.Vocabulary.{dummy_at, Refusal, Step, Answer, InitSeek, InitLink, SweepOutcome, IsSound}
-use Rattle.bucket_table.specs.Dummies.{dummy_node}
-use Rattle.txn_words.specs.declared.refusal.Refusal.TheVariants as refusals
-use Rattle.txn_words.specs.declared.step.Step.TheVariants as steps
-use Rattle.map_ops.specs.InitSeek.TheVariants as seeks
-use Rattle.map_ops.specs.InitLink.TheVariants as links
-use Rattle.map_ops.specs.SweepOutcome.TheVariants as outcomes
-use Rattle.map_ops.specs.Changes.{Sweeps}
-use Rattle.list_steps.proofs.CursorLemmas.{found_fits, found_placed}
-use Rattle.bucket_table.specs.declared.helper.Helper.{Helper as TableHelper}
-use Rattle.bucket_table.specs.declared.helper.Helper.TheVariants.{Idle, Seeking, Holding}
-use Rattle.map_ops.specs.Buckets.{SeekChanges, LinkChanges, StoreChanges, link_answer_of, seek_answer}
-use Rattle.map_ops.specs.TableAt.{TableAt, KeepsList, cursor_in, helper_cursor, nodes_of, size_of, stored_of, helps_of}
-use Rattle.boost_core.specs.State.{Caller, Helper}
-use Rattle.boost_core.specs.Nodes.{Cursors, Fits, KeepsGaps, mover_of}
-use Rattle.boost_core.specs.Serves as said
-use Rattle.boost_core.specs.Serves.{Serves}
-use Rattle.boost_core.specs.Core.{World, Tells, state_of}
+use Rattle.boost_core.proofs.Vocabulary.{dummy_at, Refusal, Step, Answer, InitSeek, InitLink, SweepOutcome, IsSound, dummy_node, Sweeps, found_fits, found_placed, TableHelper, Idle, Seeking, Holding, SeekChanges, LinkChanges, StoreChanges, link_answer_of, seek_answer, TableAt, KeepsList, cursor_in, helper_cursor, nodes_of, size_of, stored_of, helps_of, Caller, Helper, Cursors, Fits, KeepsGaps, mover_of, Serves, World, Tells, state_of}
 use Rattle.boost_core.proofs.Linking.{fits_where, stale_where}
 use Rattle.boost_core.proofs.GapLists.{Stay, stay_same, stay_swept, stay_sought}
 use Rattle.boost_core.proofs.Gaps.{gap_kept}
 use Rattle.boost_core.proofs.HelperGaps.{cursors_stay, helper_gap, helper_kept, helper_stands, no_helper_gap}
 use Rattle.boost_core.proofs.Tables.{doubled_helpers, links_node, other_cursor, seeker_is, seeker_there}
 use Rattle.boost_core.proofs.Staying.{linked}
+use Rattle.txn_words.specs.declared.refusal.Refusal.TheVariants as refusals
+use Rattle.txn_words.specs.declared.step.Step.TheVariants as steps
+use Rattle.map_ops.specs.InitSeek.TheVariants as seeks
+use Rattle.map_ops.specs.InitLink.TheVariants as links
+use Rattle.map_ops.specs.SweepOutcome.TheVariants as outcomes
+use Rattle.boost_core.specs.Serves as said
 
 module _ (t t' : TableAt) (sound : IsSound t'.list) where
   kept : KeepsList t t' → Stay (nodes_of t) (nodes_of t')

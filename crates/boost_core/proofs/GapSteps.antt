@@ -1,17 +1,6 @@
 -- The effect of each step of a caller on the cursors.
 use Rattle.std.proofs.Common.{◌≡◌, ◌≢◌, ℕ, inl, inr, List, length, set, Option, Some, is_some, sym, ap, subst, ◌∙◌, arith, map, slice_get, slice_set, length-set, get_or-set_same, get_or-set_other}
-use Rattle.boost_core.proofs.Vocabulary.{cases_lt, regular_at, Op, key_of, stripe_of, Refusal, Step, Answer, nodes_of, IsSound}
-use Rattle.std.proofs.lemmas.Option.{slice_get_within, slice_get_past, slice_get-get_or}
-use Rattle.txn_words.specs.declared.refusal.Refusal.TheVariants as refusals
-use Rattle.txn_words.specs.declared.step.Step.TheVariants as steps
-use Rattle.txn_words.specs.declared.answer.Answer.TheVariants as answers
-use Rattle.boost_core.specs.declared.session.Session.{Session}
-use Rattle.boost_core.specs.State.{State, Gap, Caller, Helper, gap_in, gap_for}
-use Rattle.boost_core.specs.Refusals.{owner_of}
-use Rattle.boost_core.specs.Words.{Claim, Lock, Right}
-use Rattle.boost_core.specs.Nodes.{AreNeighbours, Cursors, Fits, KeepsGaps, StandsAt, mover_of, next_key}
-use Rattle.boost_core.specs.Sessions.{Side, Does, ActsIn, SeeksIn, IsAsked, AsksBy}
-use Rattle.boost_core.specs.Core.{World, Tells, state_of, nodes_at, gap_by, gap_if}
+use Rattle.boost_core.proofs.Vocabulary.{cases_lt, regular_at, Op, key_of, stripe_of, Refusal, Step, Answer, nodes_of, IsSound, slice_get_within, slice_get_past, slice_get-get_or, Session, State, Gap, Caller, Helper, gap_in, gap_for, owner_of, Claim, Lock, Right, AreNeighbours, Cursors, Fits, KeepsGaps, StandsAt, mover_of, next_key, Side, Does, ActsIn, SeeksIn, IsAsked, AsksBy, World, Tells, state_of, nodes_at, gap_by, gap_if}
 use Rattle.boost_core.proofs.Refused.{index_at}
 use Rattle.boost_core.proofs.Moves.{gaps_same}
 use Rattle.boost_core.proofs.NodeSteps.{next_is}
@@ -20,6 +9,9 @@ use Rattle.boost_core.proofs.Neighbours.{fit_of}
 use Rattle.boost_core.proofs.Gaps.{gap_here, no_gap, gap_by_side, gap_kept, stands, same_gap}
 use Rattle.boost_core.proofs.HelperGaps.{cursors_stay, helper_kept}
 use Rattle.boost_core.proofs.Staying.{does_stay}
+use Rattle.txn_words.specs.declared.refusal.Refusal.TheVariants as refusals
+use Rattle.txn_words.specs.declared.step.Step.TheVariants as steps
+use Rattle.txn_words.specs.declared.answer.Answer.TheVariants as answers
 
 -- The cursors after a step of an equal state.
 pub cursors_of : (state old new : State) (step : Step) (answer : Answer) → state ≡ old → Cursors state step answer new → Cursors old step answer new

@@ -1,15 +1,6 @@
 -- The cursors of callers, before and after a step.
-use Rattle.std.proofs.Common.{◌≡◌, ℕ, true, false, cond, inl, inr, List, Option, Some, None, refl, sym, ap, subst, ◌∙◌, ◌&&◌, map, slice_get, unwrap_or}
-use Rattle.boost_core.proofs.Vocabulary.{option_map, cases_Bool, slice_get-map, TableAt, IsPlaced, nodes_of, fits, Cursor}
-use Rattle.split_key.specs.Sort.{IsBefore, IsNotBefore, regular_at}
-use Rattle.node_list.specs.Nodes.{NodeAt, node_of, next_of}
-use Rattle.node_list.specs.Order.{IsRising, IsSpread}
-use Rattle.list_steps.specs.declared.cursor.Noted.{Noted}
-use Rattle.list_steps.specs.Found.{IsPlaced as IsPlacedIn, pred_of, behind, at_of, fits as list_fits, is_noted, is_next_noted}
-use Rattle.boost_core.specs.declared.session.Session.{Session}
-use Rattle.boost_core.specs.State.{SortKey, Gap, Owner, Caller, gap_in, gap_for}
-use Rattle.boost_core.specs.Nodes.{AreNeighbours, IsBetween, StandsAt}
-use Rattle.boost_core.specs.Core.{World, state_of, nodes_at, gap_at, gap_of, gap_if, gap_by}
+use Rattle.std.proofs.Common.{◌≡◌, ℕ, true, false, cond, inl, inr, List, Option, Some, None, refl, sym, ap, subst, ◌∙◌, ◌&&◌, map, slice_get, unwrap_or, option_map}
+use Rattle.boost_core.proofs.Vocabulary.{cases_Bool, slice_get-map, TableAt, IsPlaced, nodes_of, fits, Cursor, IsBefore, IsNotBefore, regular_at, NodeAt, node_of, next_of, IsRising, IsSpread, Noted, IsPlacedIn, pred_of, behind, at_of, list_fits, is_noted, is_next_noted, Session, SortKey, Gap, Owner, Caller, gap_in, gap_for, AreNeighbours, IsBetween, StandsAt, World, state_of, nodes_at, gap_at, gap_of, gap_if, gap_by}
 use Rattle.boost_core.proofs.GapLists.{Stay, next_found}
 use Rattle.boost_core.proofs.Neighbours.{Fit, NextIs, fit_of, fits_of, key_at, neighbours, still_fits}
 

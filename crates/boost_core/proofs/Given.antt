@@ -1,8 +1,6 @@
 -- The spare of a prepared operation, its stamp, and its stripe.
 use Rattle.std.proofs.Common.{◌≡◌, ℕ, ◌+◌, ◌-◌, ◌^◌, ◌≤◌, ◌==◌, ◌||◌, Bool, true, false, cond, Option, Some, None, is_some, refl, sym, ap, subst, ◌∙◌, arith, not, eq-eqb, ne_eqb, inl, inr, ◌⊎◌}
-use Rattle.map_ops.specs.TableAt.{SpareAt, TableAt, last_of}
-use Rattle.map_ops.specs.Changes.{GivesFor}
-use Rattle.boost_core.specs.Spares.{times_of, times_out, IsCovered}
+use Rattle.boost_core.proofs.Vocabulary.{SpareAt, TableAt, last_of, GivesFor, times_of, times_out, IsCovered}
 use Rattle.boost_core.proofs.Spares.{given}
 
 -- What is given to a prepared operation: a spare if it takes a node, which is kept beside the others

@@ -1,21 +1,11 @@
 -- The cursors of helpers, from the table.
-use Rattle.std.proofs.Common.{◌≡◌, ℕ, Bool, true, false, zero, suc, List, [], ◌∷◌, replicate, Option, Some, None, is_some, refl, sym, ap, ◌∙◌, map, slice_index_or, unwrap_or}
-use Rattle.boost_core.proofs.Vocabulary.{option_map, false≢true, slice_get-map, unwrap_or-slice_get, dummy_at}
-use Rattle.std.proofs.Math.ListN as lists
-use Rattle.node_list.specs.Order.{IsRising, IsSpread}
-use Rattle.bucket_table.specs.declared.helper.Helper.{Helper as TableHelper}
-use Rattle.bucket_table.specs.declared.helper.Helper.TheVariants.{Idle, Seeking, Holding}
-use Rattle.bucket_table.specs.Directory.{helper_of}
-use Rattle.bucket_table.specs.Helpers.{cursor_fits}
-use Rattle.list_steps.specs.Found.{IsPlaced, at_of}
-use Rattle.map_ops.specs.Buckets.{helper_fits}
-use Rattle.map_ops.specs.TableAt.{TableAt, Cursor, cursor_in, cursors_of, helper_cursor, nodes_of, fits, Help, Nothing, help_of}
-use Rattle.boost_core.specs.State.{Gap, gap_in, Helper}
-use Rattle.boost_core.specs.Nodes.{AreNeighbours, StandsAt}
-use Rattle.boost_core.specs.Core.{nodes_at, gap_if, helper_gaps_of, World, state_of}
+use Rattle.std.proofs.Common.{◌≡◌, ℕ, Bool, true, false, zero, suc, List, [], ◌∷◌, replicate, Option, Some, None, is_some, refl, sym, ap, ◌∙◌, map, slice_index_or, unwrap_or, option_map}
+use Rattle.boost_core.proofs.Vocabulary.{false≢true, slice_get-map, unwrap_or-slice_get, dummy_at, IsRising, IsSpread, TableHelper, Idle, Seeking, Holding, helper_of, cursor_fits, at_of, helper_fits, TableAt, Cursor, cursor_in, cursors_of, helper_cursor, nodes_of, fits, Help, Nothing, help_of, Gap, gap_in, Helper, AreNeighbours, StandsAt, nodes_at, gap_if, helper_gaps_of, World, state_of}
+use Rattle.list_steps.specs.Found.{IsPlaced}
 use Rattle.boost_core.proofs.GapLists.{Stay}
 use Rattle.boost_core.proofs.Neighbours.{fit_of}
 use Rattle.boost_core.proofs.Gaps.{cursor_still, gap_here, no_gap, stands_at, same_fits}
+use Rattle.std.proofs.Math.ListN as lists
 
 -- The nodes beside a helper's cursor, from that cursor.
 pub helper_gap_is : (t : TableAt) (h : ℕ) → gap_in (helper_gaps_of t) h ≡ gap_if t (helper_cursor t h)

@@ -1,27 +1,18 @@
 -- The steps of the table and of its helpers.
 use Rattle.std.proofs.Common.{◌≡◌, ◌≢◌, ℕ, ◌≤◌, ◌&&◌, Bool, true, false, cond, List, [], ◌++◌, length, Option, Some, None, Result, Ok, Err, refl, sym, ap, subst, ◌∙◌, arith, slice_get, slice_set, unwrap_or, map, nat_le, not, le-leb, append-nil, inl, inr}
-use Rattle.boost_core.proofs.Vocabulary.{false≢true, cases_lt, slice_get_within, slice_get-get_or, unwrap_or-slice_get, InitSeek, Refusal, Entry, Step, Answer}
-use Rattle.map_ops.specs.InitSeek.TheVariants as seeks
-use Rattle.bucket_table.specs.declared.answer.InitRefusal.{InitRefusal}
-use Rattle.bucket_table.specs.declared.answer.InitRefusal.TheVariants as inits
-use Rattle.txn_words.specs.declared.refusal.Refusal.TheVariants as refusals
-use Rattle.map_ops.specs.Buckets.{is_stored, answer_for, seek_answer, store_answer, parent_of, LacksSegment}
-use Rattle.txn_words.specs.declared.step.Step.TheVariants as steps
-use Rattle.txn_words.specs.declared.answer.Answer.TheVariants as answers
-use Rattle.map_ops.specs.TableAt.{TableAt, Help, Nothing, Sought, Dummy, Follows, Keeps, KeepsList, KeepsSpares, content, map_of, regular, size_of, stored_of, linked_of, helps_of, table_changes, last_of, largest_of}
-use Rattle.boost_core.specs.State.{State, Owner, Helper, is_set, help_in, bucket_at}
-use Rattle.boost_core.specs.Refusals.{refusal_of, has_dummy}
-use Rattle.boost_core.specs.Answers.{keeps_list, after}
-use Rattle.boost_core.specs.Machine.{Move, IsAllowed}
-use Rattle.boost_core.specs.Core.{World, Tells, IsFresh, state_of, session_changes, nodes_at, gap_by, helper_gaps_of, all_times}
-use Rattle.bucket_table.specs.declared.helper.Helper.TheVariants.{Idle, Holding}
-use Rattle.bucket_table.specs.Directory.{with_helper}
-use Rattle.bucket_table.specs.Changes.{Seeks, Stores}
+use Rattle.boost_core.proofs.Vocabulary.{false≢true, cases_lt, slice_get_within, slice_get-get_or, unwrap_or-slice_get, InitSeek, Refusal, Entry, Step, Answer, InitRefusal, is_stored, answer_for, seek_answer, store_answer, LacksSegment, TableAt, Help, Nothing, Sought, Dummy, Follows, Keeps, KeepsList, KeepsSpares, content, map_of, regular, size_of, stored_of, linked_of, helps_of, table_changes, last_of, largest_of, State, Owner, Helper, is_set, help_in, bucket_at, refusal_of, has_dummy, keeps_list, Move, IsAllowed, World, Tells, IsFresh, state_of, session_changes, nodes_at, gap_by, helper_gaps_of, all_times, Idle, Holding, with_helper, Seeks, Stores}
+use Rattle.map_ops.specs.Buckets.{parent_of}
+use Rattle.boost_core.specs.Answers.{after}
 use Rattle.boost_core.proofs.Tables.{Becomes, help_is, idle_becomes, sought_becomes, stored_becomes}
 use Rattle.boost_core.proofs.Spares.{still_covered}
 use Rattle.boost_core.proofs.Refused.{le_false}
 use Rattle.boost_core.proofs.Grow.{table_stayed}
 use Rattle.boost_core.proofs.Moves.{keeps_runs, refused, lacks, state_is}
+use Rattle.map_ops.specs.InitSeek.TheVariants as seeks
+use Rattle.bucket_table.specs.declared.answer.InitRefusal.TheVariants as inits
+use Rattle.txn_words.specs.declared.refusal.Refusal.TheVariants as refusals
+use Rattle.txn_words.specs.declared.step.Step.TheVariants as steps
+use Rattle.txn_words.specs.declared.answer.Answer.TheVariants as answers
 
 -- A world after a step that is no caller's.
 abbrev pub served : World → TableAt → Option Owner → World

@@ -1,28 +1,16 @@
 -- A call for help and the core stay in step over each move of the call, whoever else takes steps on
 -- the core between them; and the call keeps to its bucket, which is stored when the call is at its
 -- end.
-use Rattle.std.proofs.Common.{◌≡◌, ◌≢◌, ℕ, ◌*◌, ◌^◌, ◌%◌, ◌<◌, ◌≤◌, ◌==◌, ◌&&◌, nat_lt, Bool, true, false, if◌then◌else◌, List, [], ◌∷◌, length, Some, None, refl, sym, ap, subst, ◌∙◌, arith, nat_le, not, unwrap_or, slice_get, slice_set, eqb-true, lt-ltb, get_or-set_same}
-use Rattle.std.proofs.lemmas.Bool.{false≢true, eqb-false, leb-false}
-use Rattle.std.proofs.lemmas.Nat.{mod_below}
-use Rattle.boost_core.proofs.Vocabulary.{unwrap_or-slice_get, Step, Answer, Refusal}
+use Rattle.std.proofs.Common.{◌≡◌, ◌≢◌, ℕ, ◌*◌, ◌^◌, ◌%◌, ◌<◌, ◌≤◌, ◌==◌, ◌&&◌, nat_lt, Bool, true, false, if◌then◌else◌, List, [], ◌∷◌, length, Some, None, refl, sym, ap, subst, ◌∙◌, arith, nat_le, not, unwrap_or, slice_get, slice_set, eqb-true, lt-ltb, get_or-set_same, leb-false}
+use Rattle.boost_core.proofs.Vocabulary.{false≢true, eqb-false, mod_below, unwrap_or-slice_get, Step, Answer, Refusal, Way, child_towards, step_in, sized_in, towards, heading, refused_help, told_help, told_init_seek, told_link, told_store, told_in, IsAncestor-root, IsAncestor-child_towards, parent_of-child_towards, child_towards-le, parent_of, IsAncestor, State, Help, Nothing, Sought, Dummy, is_set, with_bucket, help_in, bucket_at, refusal_of, MayLack, has_cursor, has_dummy, first_of, Move, IsWhole, IsOnWay, HelpSuits}
+use Rattle.txn_drive.specs.declared.phase.Phase.{Phase}
+use Rattle.txn_drive.specs.declared.phase.Phase.TheVariants.{Doubling, Initialising, Linking, Storing, Helped, Refused}
+use Rattle.boost_core.proofs.Refused.{le_false}
+use Rattle.boost_core.proofs.Calls.{never_refused, and_none}
 use Rattle.txn_words.specs.declared.step.Step.TheVariants as steps
 use Rattle.txn_words.specs.declared.answer.Answer.TheVariants as answers
 use Rattle.txn_words.specs.declared.refusal.Refusal.TheVariants as refusals
 use Rattle.txn_drive.specs.declared.call.Call.TheVariants as calls
-use Rattle.txn_drive.specs.declared.phase.Phase.{Phase}
-use Rattle.txn_drive.specs.declared.phase.Phase.TheVariants.{Doubling, Initialising, Linking, Storing, Helped, Refused}
-use Rattle.txn_drive.specs.declared.way.Way.{Way}
-use Rattle.txn_drive.specs.Ways.{child_towards}
-use Rattle.txn_drive.specs.Drives.{step_in, sized_in, towards, heading, refused_help, told_help, told_init_seek, told_link, told_store, told_in}
-use Rattle.txn_drive.proofs.WayLemmas.{IsAncestor-root, IsAncestor-child_towards, parent_of-child_towards, child_towards-le}
-use Rattle.split_key.specs.Split.{parent_of, IsAncestor}
-use Rattle.boost_core.specs.State.{State, Help, Nothing, Sought, Dummy, is_set, with_bucket, help_in, bucket_at}
-use Rattle.boost_core.specs.Refusals.{refusal_of, MayLack, has_cursor, has_dummy, first_of}
-use Rattle.boost_core.specs.Machine.{Move}
-use Rattle.boost_core.specs.Whole.{IsWhole}
-use Rattle.boost_core.specs.Helps.{IsOnWay, HelpSuits}
-use Rattle.boost_core.proofs.Refused.{le_false}
-use Rattle.boost_core.proofs.Calls.{never_refused, and_none}
 
 -- The size after a move: only a doubling changes it.
 abbrev pub is_double : Step → Bool

@@ -1,26 +1,15 @@
 -- The step by which a helper links a dummy.
 use Rattle.std.proofs.Common.{◌≡◌, ◌≢◌, ℕ, ◌-◌, ◌^◌, ◌<◌, ◌≤◌, ◌==◌, Bool, true, false, cond, List, length, Option, Some, None, Result, Ok, Err, is_some, refl, sym, ap, subst, ◌∙◌, arith, slice_get, slice_set, unwrap_or, map, nat_le, not, ne_eqb, inl, inr}
-use Rattle.boost_core.proofs.Vocabulary.{false≢true, cases_eq, and_from, InitLink, Refusal}
-use Rattle.map_ops.specs.InitLink.TheVariants as links
-use Rattle.bucket_table.specs.declared.answer.InitRefusal.{InitRefusal}
-use Rattle.bucket_table.specs.declared.answer.InitRefusal.TheVariants as inits
-use Rattle.txn_words.specs.declared.refusal.Refusal.TheVariants as refusals
-use Rattle.map_ops.specs.Buckets.{is_stored, answer_for, link_answer, helper_fits, link_answer_of}
+use Rattle.boost_core.proofs.Vocabulary.{false≢true, cases_eq, and_from, InitLink, Refusal, InitRefusal, is_stored, answer_for, link_answer, helper_fits, link_answer_of, Idle, Seeking, with_helper, Holds, LinksDummy, TableAt, Help, Nothing, Sought, Dummy, HasParents, KeepsList, regular, size_of, stored_of, linked_of, helps_of, table_changes, last_of, State, Owner, Caller, Helper, is_set, help_in, bucket_at, helper_changes, refusal_of, has_cursor, has_stamp, lacks_dummy, is_just_placed, may_be_stale, Move, World, IsFresh, state_of, nodes_at, gap_by, helper_gaps_of}
 use Rattle.list_steps.specs.Found.{changes_of}
-use Rattle.bucket_table.specs.declared.helper.Helper.TheVariants.{Idle, Seeking}
-use Rattle.bucket_table.specs.Directory.{with_helper}
-use Rattle.bucket_table.specs.Changes.{Holds, LinksDummy}
-use Rattle.txn_words.specs.declared.step.Step.TheVariants as steps
-use Rattle.txn_words.specs.declared.answer.Answer.TheVariants as answers
-use Rattle.map_ops.specs.TableAt.{TableAt, Help, Nothing, Sought, Dummy, HasParents, KeepsList, regular, size_of, stored_of, linked_of, helps_of, table_changes, last_of}
-use Rattle.boost_core.specs.State.{State, Owner, Caller, Helper, is_set, help_in, bucket_at, helper_changes}
-use Rattle.boost_core.specs.Refusals.{refusal_of, has_cursor, has_stamp, lacks_dummy}
-use Rattle.boost_core.specs.Answers.{is_just_placed, may_be_stale}
-use Rattle.boost_core.specs.Machine.{Move}
-use Rattle.boost_core.specs.Core.{World, IsFresh, state_of, nodes_at, gap_by, helper_gaps_of}
 use Rattle.boost_core.proofs.Moves.{refused, lacks, stale_since}
 use Rattle.boost_core.proofs.Tables.{help_is, idle_becomes, held_becomes, linked_becomes}
 use Rattle.boost_core.proofs.Helping.{served, became, becomes_state, quiet_move, helper_there, helper_none, is_set_is}
+use Rattle.map_ops.specs.InitLink.TheVariants as links
+use Rattle.bucket_table.specs.declared.answer.InitRefusal.TheVariants as inits
+use Rattle.txn_words.specs.declared.refusal.Refusal.TheVariants as refusals
+use Rattle.txn_words.specs.declared.step.Step.TheVariants as steps
+use Rattle.txn_words.specs.declared.answer.Answer.TheVariants as answers
 
 -- InitLink. The refusal that a test gives, from the table's answer: the lack of memory or of stamps
 -- follows all tests.

@@ -1,18 +1,7 @@
 -- Moves of the machine, from the changes of a step to the table and to one caller's side.
-use Rattle.std.proofs.Common.{◌≡◌, ℕ, ◌+◌, ◌≤◌, List, set, Option, Some, None, refl, sym, ap, subst, ◌∙◌, arith, ◌-◌, ◌^◌, ◌<◌, ◌==◌, ◌&&◌, Bool, true, false, map, nat_lt, not, slice_get, slice_set, eq-eqb, eqb-true, ltb-true, inl, inr}
-use Rattle.boost_core.proofs.Vocabulary.{option_map, and_parts, cases_Bool, get_or_from_slice_get, Entry, Refusal, Step, Answer}
-use Rattle.std.proofs.lemmas.List.{map-set}
+use Rattle.std.proofs.Common.{◌≡◌, ℕ, ◌+◌, ◌≤◌, List, set, Option, Some, None, refl, sym, ap, subst, ◌∙◌, arith, ◌-◌, ◌^◌, ◌<◌, ◌==◌, ◌&&◌, Bool, true, false, map, nat_lt, not, slice_get, slice_set, eq-eqb, eqb-true, ltb-true, inl, inr, option_map}
+use Rattle.boost_core.proofs.Vocabulary.{and_parts, cases_Bool, get_or_from_slice_get, Entry, Refusal, Step, Answer, map-set, Refused, cursor_changes, TableAt, Keeps, KeepsBuckets, size_of, stored_of, linked_of, helps_of, table_changes, last_of, Rests, Counts, Session, State, Owner, Caller, Helper, owner_changes, is_just_placed, may_be_stale, refusal_of, MayLack, Move, World, state_of, session_changes, nodes_at, gap_by, helper_gaps_of}
 use Rattle.std.proofs.Math.Seq.{map-set_same}
-use Rattle.txn_words.specs.declared.answer.Answer.TheVariants.{Refused}
-use Rattle.map_ops.specs.TableAt.{cursor_changes, TableAt, Keeps, KeepsBuckets, size_of, stored_of, linked_of, helps_of, table_changes, last_of}
-use Rattle.boost_core.specs.Sessions.{Rests}
-use Rattle.boost_core.specs.declared.counts.Counts.{Counts}
-use Rattle.boost_core.specs.declared.session.Session.{Session}
-use Rattle.boost_core.specs.State.{State, Owner, Caller, Helper}
-use Rattle.boost_core.specs.Answers.{owner_changes, is_just_placed, may_be_stale}
-use Rattle.boost_core.specs.Refusals.{refusal_of, MayLack}
-use Rattle.boost_core.specs.Machine.{Move}
-use Rattle.boost_core.specs.Core.{World, state_of, session_changes, nodes_at, gap_by, helper_gaps_of}
 
 -- A step that is refused leaves the state unchanged.
 pub refused : (state : State) (step : Step) (refusal : Refusal) → refusal_of state step ≡ Some refusal → Move state step (Refused refusal) state

@@ -1,15 +1,7 @@
 -- A cursor still fits if its two nodes are still neighbours.
-use Rattle.std.proofs.Common.{◌≡◌, ℕ, ◌==◌, ◌&&◌, true, false, inl, inr, List, [], ◌∷◌, ◌++◌, Option, Some, None, refl, sym, ap, subst, ◌∙◌, not, eq-eqb, eqb-true}
-use Rattle.std.proofs.lemmas.Bool.{not-true}
-use Rattle.boost_core.proofs.Vocabulary.{option_map, AllByRecursion, false≢true, cases_Bool, and_parts, and_from, IsBefore}
-use Rattle.node_list.specs.Nodes.{NodeAt, Listing, node_of, next_of, first}
-use Rattle.node_list.specs.Order.{IsRising, IsSpread, IsNodeBefore}
-use Rattle.list_steps.specs.declared.cursor.Cursor.{Cursor}
-use Rattle.list_steps.specs.declared.cursor.Noted.{Noted}
-use Rattle.list_steps.specs.Found.{pred_of, behind, fits, is_noted, is_next_noted}
-use Rattle.boost_core.specs.State.{Node, SortKey, plain_node}
-use Rattle.boost_core.specs.Nodes.{StartsAt, AreNeighbours}
-use Rattle.boost_core.specs.Core.{node_at}
+use Rattle.std.proofs.Common.{◌≡◌, ℕ, ◌==◌, ◌&&◌, true, false, inl, inr, List, [], ◌∷◌, ◌++◌, Option, Some, None, refl, sym, ap, subst, ◌∙◌, not, eq-eqb, eqb-true, option_map}
+use Rattle.boost_core.proofs.Vocabulary.{not-true, AllByRecursion, false≢true, cases_Bool, and_parts, and_from, IsBefore, NodeAt, Listing, node_of, next_of, first, IsRising, IsSpread, IsNodeBefore, Cursor, Noted, pred_of, behind, is_noted, is_next_noted, Node, SortKey, plain_node, StartsAt, AreNeighbours, node_at}
+use Rattle.list_steps.specs.Found.{fits}
 use Rattle.boost_core.proofs.NodeLists.{seen, node_here, node_later, none_of_none, order_behind}
 use Rattle.boost_core.proofs.GapLists.{IsStill, Stay, each_at, place_at, next_here, next_later, next_found, one_of_key, apart_keys}
 

@@ -1,14 +1,6 @@
 -- The changes to a list of nodes, as the core's contracts see it.
 use Rattle.std.proofs.Common.{◌≡◌, ℕ, ◌==◌, true, false, cond, inl, inr, List, [], ◌∷◌, ◌++◌, Option, Some, refl, sym, ap, ◌∙◌, map, not, filter, eq-eqb}
-use Rattle.boost_core.proofs.Vocabulary.{AllByRecursion, false≢true, cases_Bool}
-use Rattle.split_key.specs.Sort.{is_before, IsBefore}
-use Rattle.node_list.specs.Nodes.{NodeAt, IsLinked, node_of, linked_after, changed_at, written_at}
-use Rattle.node_list.specs.Order.{IsRising, IsNodeBefore}
-use Rattle.list_steps.specs.Seek.{cleaned, sought}
-use Rattle.list_steps.specs.Steps.{without_first_marked}
-use Rattle.boost_core.specs.State.{Node, SortKey, marked_node}
-use Rattle.boost_core.specs.Nodes.{IsClean, IsInOrder, StopsAt, is_unmarked}
-use Rattle.boost_core.specs.Core.{node_at}
+use Rattle.boost_core.proofs.Vocabulary.{AllByRecursion, false≢true, cases_Bool, is_before, IsBefore, NodeAt, IsLinked, node_of, linked_after, changed_at, written_at, IsRising, IsNodeBefore, cleaned, sought, without_first_marked, Node, SortKey, marked_node, IsClean, IsInOrder, StopsAt, is_unmarked, node_at}
 use Rattle.list_steps.proofs.SeekLemmas.{cleaned_marked}
 
 abbrev pub seen : List NodeAt → List Node

@@ -1,24 +1,16 @@
 -- The effect of each step that is no caller's on the nodes, the change number and the last stamp.
 use Rattle.std.proofs.Common.{◌≡◌, ℕ, Option, Result, Ok, Err, refl, sym, ap, subst, ◌∙◌, unwrap_or}
-use Rattle.boost_core.proofs.Vocabulary.{dummy_at, Step, Answer, InitSeek, InitLink, Refusal, SweepOutcome}
-use Rattle.bucket_table.specs.Dummies.{dummy_node}
+use Rattle.boost_core.proofs.Vocabulary.{dummy_at, Step, Answer, InitSeek, InitLink, Refusal, SweepOutcome, dummy_node, Sweeps, Seeking, SeekChanges, LinkChanges, Help, Nothing, NamesDummies, nodes_of, helps_of, last_of, help_in, bucket_at, Links, Lists, Serves, Sweeping, World, state_of}
+use Rattle.map_ops.specs.Buckets.{parent_of}
+use Rattle.boost_core.proofs.Tables.{help_is, links_node}
+use Rattle.boost_core.proofs.NodeLists.{seen, clean_seen}
+use Rattle.boost_core.proofs.NodeSteps.{kept, links as linked_node, seeks as sought_from}
 use Rattle.txn_words.specs.declared.step.Step.TheVariants as steps
 use Rattle.map_ops.specs.InitSeek.TheVariants as seeks
 use Rattle.map_ops.specs.InitLink.TheVariants as links
 use Rattle.map_ops.specs.SweepOutcome.TheVariants as outcomes
-use Rattle.map_ops.specs.Changes.{Sweeps}
-use Rattle.bucket_table.specs.declared.helper.Helper.TheVariants.{Seeking}
-use Rattle.map_ops.specs.Buckets.{SeekChanges, LinkChanges, parent_of}
-use Rattle.map_ops.specs.TableAt.{Help, Nothing, NamesDummies, nodes_of, helps_of, last_of}
-use Rattle.boost_core.specs.State.{help_in, bucket_at}
-use Rattle.boost_core.specs.Nodes.{Links, Lists}
 use Rattle.boost_core.specs.Serves as said
-use Rattle.boost_core.specs.Serves.{Serves, Sweeping}
-use Rattle.boost_core.specs.Core.{World, state_of}
-use Rattle.boost_core.proofs.Tables.{help_is, links_node}
 use Rattle.boost_core.proofs.NodeLists as lists
-use Rattle.boost_core.proofs.NodeLists.{seen, clean_seen}
-use Rattle.boost_core.proofs.NodeSteps.{kept, links as linked_node, seeks as sought_from}
 
 module _ (w w' : World) (home : NamesDummies w.table) where
   swept : (answer : Answer) (is : Sweeping w.table w'.table answer) (outcome : SweepOutcome) → is.outcome ≡ outcome → Lists (state_of w) steps.Sweep (said.swept outcome) (state_of w')

@@ -1,31 +1,17 @@
 -- The effect of each step on the nodes, the change number and the last stamp.
-use Rattle.std.proofs.Common.{◌≡◌, ◌⊎◌, ℕ, ◌-◌, ◌%◌, ◌<◌, Bool, true, false, cond, List, [], ◌∷◌, ◌++◌, length, Option, Some, None, is_some, inl, inr, refl, sym, ap, subst, ◌∙◌, arith, reverse, slice_get, unwrap_or, nat_lt, nat_eq, IsSome, ltb-true}
-use Rattle.boost_core.proofs.Vocabulary.{option_map, option_eq, false≢true, cases_Bool, slice_get-map, unwrap_or-slice_get, regular_at, Op, Put, Take, Get, PutIf, Refusal, Step, Answer, Phase, Waiting, LeavingTo, LeavingToEnd, Map, get, key_of, now, log_of, stripe_of, Seat, kept_at, newest_above, MapJob, Unput, Restore, Relink}
-use Rattle.std.proofs.lemmas.List.{length-map, reverse-append}
-use Rattle.split_key.specs.Split.{ancestor_of}
-use Rattle.node_list.specs.Nodes.{NodeAt, changes_after}
-use Rattle.list_steps.specs.Seek.{sought}
-use Rattle.bucket_table.specs.Directory as directories
-use Rattle.bucket_table.specs.Dummies.{IsDummyAt}
-use Rattle.txn_words.specs.declared.refusal.Refusal.TheVariants as refusals
-use Rattle.txn_words.specs.declared.step.Step.TheVariants as steps
-use Rattle.txn_words.specs.declared.answer.Answer.TheVariants as answers
-use Rattle.map_ops.specs.Jobs.{PendingAt, key_of_job, value_before, takes_node, IsDue}
-use Rattle.map_ops.specs.TableAt.{TableAt, SpareAt, KeepsNodes, KeepsList, NamesDummies, content, nodes_of, size_of, stored_of, table_changes, last_of}
-use Rattle.map_ops.specs.Changes.{SeeksNear, IsRefused}
-use Rattle.map_ops.specs.Nodes as writes
-use Rattle.boost_core.specs.declared.session.Session.{Session}
-use Rattle.boost_core.specs.State.{State, Caller, is_set, seat_in}
-use Rattle.boost_core.specs.Refusals.{owner_of}
-use Rattle.boost_core.specs.Nodes.{Touches, stamp_after, Keeps, Writes, Links, Marks, SeeksFrom, SeeksKey, IsNearest, Changes, PutsIf, OpDoes, OpDoesIn, BackDoes, Lists, key_in, next_key, newest_key}
-use Rattle.boost_core.specs.Sessions.{Does, ActsIn, DoesIn, TakesBackIn, SeeksIn, IsAsked, AsksBy, unless_busy, Waits, AreDue, key_of_newest, target_in, target_of, changes_of}
-use Rattle.boost_core.specs.Words.{Claim, Lock, Right, IsClaim, ListsAsk, ListsBy, stamp_by}
-use Rattle.boost_core.specs.Core.{World, Tells, state_of, node_at}
+use Rattle.std.proofs.Common.{◌≡◌, ◌⊎◌, ℕ, ◌-◌, ◌%◌, ◌<◌, Bool, true, false, cond, List, [], ◌∷◌, ◌++◌, length, Option, Some, None, is_some, inl, inr, refl, sym, ap, subst, ◌∙◌, arith, reverse, slice_get, unwrap_or, nat_lt, nat_eq, IsSome, ltb-true, option_map}
+use Rattle.boost_core.proofs.Vocabulary.{option_eq, false≢true, cases_Bool, slice_get-map, unwrap_or-slice_get, regular_at, Op, Put, Take, Get, PutIf, Refusal, Step, Answer, Phase, Waiting, LeavingTo, LeavingToEnd, Map, get, key_of, now, log_of, stripe_of, Seat, kept_at, newest_above, MapJob, Unput, Restore, Relink, length-map, reverse-append, ancestor_of, NodeAt, changes_after, sought, IsDummyAt, PendingAt, key_of_job, value_before, takes_node, IsDue, TableAt, SpareAt, KeepsNodes, KeepsList, NamesDummies, content, nodes_of, size_of, stored_of, table_changes, last_of, SeeksNear, IsRefused, Session, State, Caller, is_set, seat_in, owner_of, Touches, stamp_after, Writes, Links, Marks, SeeksFrom, SeeksKey, IsNearest, Changes, PutsIf, OpDoes, OpDoesIn, BackDoes, Lists, key_in, next_key, newest_key, Does, ActsIn, DoesIn, TakesBackIn, SeeksIn, IsAsked, AsksBy, unless_busy, Waits, AreDue, key_of_newest, target_in, target_of, changes_of, Claim, Lock, Right, IsClaim, ListsAsk, ListsBy, stamp_by, World, Tells, state_of, node_at}
+use Rattle.boost_core.specs.Nodes.{Keeps}
 use Rattle.boost_core.proofs.Given.{given_for}
 use Rattle.boost_core.proofs.NodeLists.{seen, inserted, replaced, written_seen, seeks_from}
 use Rattle.boost_core.proofs.Outcomes.{is_stale_word}
 use Rattle.boost_core.proofs.Refused.{caller_in, seat_here}
 use Rattle.boost_core.proofs.Sides.{last_job, at_last, changes_last, waiting_op}
+use Rattle.bucket_table.specs.Directory as directories
+use Rattle.txn_words.specs.declared.refusal.Refusal.TheVariants as refusals
+use Rattle.txn_words.specs.declared.step.Step.TheVariants as steps
+use Rattle.txn_words.specs.declared.answer.Answer.TheVariants as answers
+use Rattle.map_ops.specs.Nodes as writes
 
 -- The changes to the list from an equal state.
 pub lists_of : (state old new : State) (step : Step) (answer : Answer) → state ≡ old → Lists state step answer new → Lists old step answer new

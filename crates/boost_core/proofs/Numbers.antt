@@ -1,10 +1,6 @@
 -- The counts stay below the length of the history.
-use Rattle.std.proofs.Common.{◌≡◌, ◌+◌, ◌≤◌, ℕ, Bool, true, false, Result, Ok, Err, List, length, arith}
-use Rattle.std.specs.Result.{is_err, OnOk, OnErr}
-use Rattle.std.proofs.lemmas.List.Sums.{length-filter, count_by-le-length}
-use Rattle.boost_core.proofs.Vocabulary.{Entry, is_began, is_commit}
-use Rattle.txn_words.specs.Shape.{how_many}
-use Rattle.boost_core.specs.Core.{World, Tells}
+use Rattle.std.proofs.Common.{◌≡◌, ◌+◌, ◌≤◌, ℕ, Bool, true, false, Result, Ok, Err, List, length, arith, is_err, OnOk, OnErr}
+use Rattle.boost_core.proofs.Vocabulary.{length-filter, count_by-le-length, Entry, is_began, is_commit, how_many, World, Tells}
 
 how_many_bound : (test : Entry → Bool) (h : List Entry) → how_many test h ≤ length h
 how_many_bound test h = omega (arith, length-filter test h, count_by-le-length test h)

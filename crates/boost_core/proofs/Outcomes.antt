@@ -1,26 +1,14 @@
 -- The outcome of a step of a caller: the invariants of the core after it, and the move.
-use Rattle.std.proofs.Common.{◌≡◌, ◌⊎◌, inl, inr, ℕ, ◌+◌, ◌-◌, ◌<◌, ◌≤◌, ◌^◌, Bool, true, false, cond, refl, List, [], ◌∷◌, ◌++◌, length, Option, Some, None, sym, ap, subst, ◌∙◌, arith, map, slice_get, slice_set, sum_by, option_to_list, append-nil}
-use Rattle.boost_core.proofs.Vocabulary.{option_map, AllByRecursion, false≢true, slice_get_within, Entry, Step, Answer, Phase, Closed, caller_of, Seat, RoomySeat, row, own, Op, Put, Refusal, IsLevelIn, seat_leveled, TableAt, cursor_changes, table_changes, last_of}
-use Rattle.txn_words.specs.declared.step.Step.TheVariants as steps
-use Rattle.txn_words.specs.declared.answer.Answer.TheVariants as answers
-use Rattle.txn_words.specs.Entries.{entries_of}
-use Rattle.txn_words.specs.declared.refusal.Refusal.TheVariants.{NoMemory, StampsUsedUp, StaleWord}
-use Rattle.boost_core.specs.Refusals.{refusal_of, tests_of, owner_of, first_of}
-use Rattle.txn_words.specs.Owed.{owed_in, owed_by, reserved}
+use Rattle.std.proofs.Common.{◌≡◌, ◌⊎◌, inl, inr, ℕ, ◌+◌, ◌-◌, ◌<◌, ◌≤◌, ◌^◌, Bool, true, false, cond, refl, List, [], ◌∷◌, ◌++◌, length, Option, Some, None, sym, ap, subst, ◌∙◌, arith, map, slice_get, slice_set, sum_by, option_to_list, append-nil, option_map}
+use Rattle.boost_core.proofs.Vocabulary.{AllByRecursion, false≢true, slice_get_within, Entry, Step, Answer, Phase, Closed, caller_of, Seat, RoomySeat, row, own, Op, Put, Refusal, IsLevelIn, seat_leveled, TableAt, cursor_changes, table_changes, last_of, entries_of, NoMemory, StampsUsedUp, StaleWord, refusal_of, tests_of, owner_of, first_of, owed_in, owed_by, reserved, Counts, Session, counts_after, placed_then, keeps_list, Move, IsAllowed, State, Claim, Lock, Right, Held, Goes, IsClaim, may_come, reserved_by, Side, owed_of, World, Tells, IsFresh, state_of, nodes_at, gap_by, helper_gaps_of, session_changes}
 use Rattle.txn_trace.proofs.Room.{reserved_for, reserved_enough, owed_by-row}
-use Rattle.boost_core.specs.declared.counts.Counts.{Counts}
-use Rattle.boost_core.specs.declared.session.Session.{Session}
-use Rattle.boost_core.specs.Counts.{counts_after}
-use Rattle.boost_core.specs.Placed.{placed_then}
-use Rattle.boost_core.specs.Answers.{keeps_list, after}
-use Rattle.boost_core.specs.Machine.{Move, IsAllowed, State}
-use Rattle.boost_core.specs.Words.{Claim, Lock, Right, Held, Goes, IsClaim, may_come, reserved_by}
+use Rattle.boost_core.specs.Answers.{after}
 use Rattle.boost_core.specs.Adding.{Enters, CanAdd}
-use Rattle.boost_core.specs.Sessions.{Side, owed_of}
-use Rattle.boost_core.specs.Core.{World, Tells, IsFresh, state_of, nodes_at, gap_by, helper_gaps_of, session_changes}
 use Rattle.boost_core.proofs.Named.{grown_small}
 use Rattle.boost_core.proofs.Moves.{Runs, lacks, refused, state_is, changes_set}
 use Rattle.boost_core.proofs.Grow.{Grows, Stays, world_after, seated_as, row_there, grown, stayed, sum_changed, one_of_sum}
+use Rattle.txn_words.specs.declared.step.Step.TheVariants as steps
+use Rattle.txn_words.specs.declared.answer.Answer.TheVariants as answers
 
 -- One more entry, or none.
 abbrev pub Comes : World → ℕ → Session → Session → TableAt → List (Option ℕ) → Counts → List Entry → Type 0

@@ -1,11 +1,6 @@
 -- The entries that the callers' sides owe together are those that the history says.
-use Rattle.std.proofs.Common.{◌≡◌, ℕ, suc, ◌+◌, List, [], ◌∷◌, length, Some, refl, sym, ap, ◌∙◌, arith, slice_get}
-use Rattle.std.specs.List.{sum_by, range_with_len}
-use Rattle.std.proofs.lemmas.List.Sums.{sum_by-cons}
-use Rattle.txn_words.specs.Shape.{seat_after, own}
-use Rattle.txn_words.specs.Owed.{owed_by, owed}
-use Rattle.boost_core.specs.Sessions.{owed_of}
-use Rattle.boost_core.specs.Core.{World, Tells}
+use Rattle.std.proofs.Common.{◌≡◌, ℕ, suc, ◌+◌, List, [], ◌∷◌, length, Some, refl, sym, ap, ◌∙◌, arith, slice_get, sum_by}
+use Rattle.boost_core.proofs.Vocabulary.{range_with_len, sum_by-cons, seat_after, own, owed_by, owed, owed_of, World, Tells}
 
 -- A sum over the positions of a list, if each summand is that of the element.
 sum_of_places : {X : Type 0} (f : ℕ → ℕ) (g : X → ℕ) (a : ℕ) (xs : List X) → ((i : ℕ) (x : X) → slice_get xs i ≡ Some x → f (a + i) ≡ g x) → sum_by f (range_with_len a (length xs)) ≡ sum_by g xs

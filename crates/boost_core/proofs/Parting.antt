@@ -1,26 +1,17 @@
 -- The steps that begin, divide and end transactions.
-use Rattle.std.proofs.Common.{◌≡◌, ℕ, ◌+◌, ◌≤◌, true, false, cond, List, [], ◌∷◌, ◌++◌, length, take, Option, Some, None, refl, sym, ap, subst, ◌∙◌, add-one, arith, slice_get, slice_set, slice_index, map, nat_eq, nat_lt, not, eq-eqb}
-use Rattle.std.proofs.lemmas.Bool.{leb-false, ltb-false}
-use Rattle.boost_core.proofs.Vocabulary.{option_eq, false≢true, and_from, serial, now, holder_of, log_of, Phase, Closed, Opened, Waiting, LeavingTo, LeavingToEnd, Seat, closed_seat, Next, kept_at, PendingAt, TableAt, map_of}
+use Rattle.std.proofs.Common.{◌≡◌, ℕ, ◌+◌, ◌≤◌, true, false, cond, List, [], ◌∷◌, ◌++◌, length, take, Option, Some, None, refl, sym, ap, subst, ◌∙◌, add-one, arith, slice_get, slice_set, slice_index, map, nat_eq, nat_lt, not, eq-eqb, leb-false, ltb-false}
+use Rattle.boost_core.proofs.Vocabulary.{option_eq, false≢true, and_from, serial, now, holder_of, log_of, Phase, Closed, Opened, Waiting, LeavingTo, LeavingToEnd, Seat, closed_seat, Next, kept_at, PendingAt, TableAt, map_of, Releases, Session, seat_in, holder_by, refusal_of, is_closed, is_waiting, is_leaving, has_job, is_back_at, is_at_end, times_of, times_in, times_out, IsCovered, World, Tells, state_of, session_changes, side_of, spare_if, times_kept, changes_of, StaysIn, SavesIn, ReturnsIn, EndsIn, SettlesIn, WithdrawsIn}
+use Rattle.txn_trace.proofs.Settled.{settled}
+use Rattle.boost_core.proofs.Numbers.{no_more}
+use Rattle.boost_core.proofs.Moves.{runs_same, rests_runs, none_dropped}
+use Rattle.boost_core.proofs.Outcomes.{Called, entered}
+use Rattle.boost_core.proofs.Settling.{no_jobs}
+use Rattle.boost_core.proofs.Refused.{seat_here, seat_free, begin_closed, three_tests, back_open, commit_open, abort_runs}
+use Rattle.boost_core.proofs.Quiet.{idle_cursor, nothing_waits, quiet, level_in, released_holders, no_newest}
 use Rattle.txn_words.specs.declared.entry.Entry.TheVariants as entry
 use Rattle.txn_words.specs.declared.step.Step.TheVariants as steps
 use Rattle.txn_words.specs.declared.answer.Answer.TheVariants as answers
 use Rattle.txn_trace.proofs.Entries as laws
-use Rattle.txn_trace.proofs.Settled.{settled}
-use Rattle.key_locks.specs.Locks.{Releases}
-use Rattle.boost_core.specs.declared.session.Session.{Session}
-use Rattle.boost_core.specs.State.{seat_in, holder_by}
-use Rattle.boost_core.specs.Refusals.{refusal_of, is_closed, is_waiting, is_leaving, has_job}
-use Rattle.boost_core.specs.Answers.{is_back_at, is_at_end}
-use Rattle.boost_core.specs.Spares.{times_of, times_in, times_out, IsCovered}
-use Rattle.boost_core.specs.Core.{World, Tells, state_of, session_changes}
-use Rattle.boost_core.proofs.Numbers.{no_more}
-use Rattle.boost_core.proofs.Moves.{runs_same, rests_runs, none_dropped}
-use Rattle.boost_core.proofs.Outcomes.{Called, entered}
-use Rattle.boost_core.specs.Sessions.{side_of, spare_if, times_kept, changes_of, StaysIn, SavesIn, ReturnsIn, EndsIn, SettlesIn, WithdrawsIn}
-use Rattle.boost_core.proofs.Settling.{no_jobs}
-use Rattle.boost_core.proofs.Refused.{seat_here, seat_free, begin_closed, three_tests, back_open, commit_open, abort_runs}
-use Rattle.boost_core.proofs.Quiet.{idle_cursor, nothing_waits, quiet, level_in, released_holders, no_newest}
 
 module _ (w : World) (tells : Tells w) (c : ℕ) (x : Session) (at : slice_get w.sessions c ≡ Some x) where
   -- Begin.

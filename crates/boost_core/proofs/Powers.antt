@@ -1,10 +1,7 @@
 -- Powers of two.
-use Rattle.std.proofs.Common.{◌≡◌, ℕ, zero, suc, ◌*◌, ◌/◌, ◌%◌, ◌^◌, ◌≤◌, true, sym, ap, ◌∙◌, arith, eqb-true, inl, inr, pow-suc}
-use Rattle.std.specs.Int.{is_power_of_two}
-use Rattle.std.specs.Int.RustNames.{count_ones}
+use Rattle.std.proofs.Common.{◌≡◌, ℕ, zero, suc, ◌*◌, ◌/◌, ◌%◌, ◌^◌, ◌≤◌, true, sym, ap, ◌∙◌, arith, eqb-true, inl, inr, pow-suc, count_ones}
+use Rattle.boost_core.proofs.Vocabulary.{is_power_of_two, cases_eq, zero_from_ones, ones_le_self}
 use Rattle.std.specs.Int.Count.{ones_step}
-use Rattle.std.proofs.lemmas.Bool.{cases_eq}
-use Rattle.std.proofs.lemmas.Nat.{zero_from_ones, ones_le_self}
 
 -- 2 to some number.
 abbrev pub IsPower : ℕ → Type 0

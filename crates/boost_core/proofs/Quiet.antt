@@ -1,15 +1,7 @@
 -- Steps that leave the table unchanged.
 use Rattle.std.proofs.Common.{◌≡◌, ℕ, ◌+◌, ◌-◌, ◌<◌, Bool, true, false, cond, List, ◌∷◌, length, Option, Some, None, refl, sym, ap, subst, ◌∙◌, slice_get, nat_eq, nat_lt}
-use Rattle.boost_core.proofs.Vocabulary.{option_eq, false≢true, Entry, Map, caller_of, is_began, is_commit, now, holder_of, Phase, Closed, Opened, Waiting, LeavingTo, LeavingToEnd, Seat, own, IsLevelIn, seat_leveled, Next, MapJob, PendingAt}
-use Rattle.boost_core.specs.State.{holder_by}
-use Rattle.txn_words.specs.Seats.{is_waiting, is_saved}
-use Rattle.undo_log.specs.UndoLog.{Log, kept_at, newest_above}
-use Rattle.key_locks.specs.Locks.{Releases, without_caller, holder_of as held_by}
-use Rattle.boost_core.specs.declared.counts.Counts.{Counts}
-use Rattle.boost_core.specs.declared.session.Session.{Session}
-use Rattle.boost_core.specs.Core.{World, Tells}
+use Rattle.boost_core.proofs.Vocabulary.{option_eq, false≢true, Entry, Map, caller_of, is_began, is_commit, now, holder_of, Phase, Closed, Opened, Waiting, LeavingTo, LeavingToEnd, Seat, own, IsLevelIn, seat_leveled, Next, MapJob, PendingAt, holder_by, is_waiting, is_saved, Log, kept_at, newest_above, Releases, without_caller, held_by, Counts, Session, World, Tells, side_of, target_in, key_of_newest, IsSoughtAt, Waits, changes_of}
 use Rattle.boost_core.proofs.Grow.{Grows}
-use Rattle.boost_core.specs.Sessions.{side_of, target_in, key_of_newest, IsSoughtAt, Waits, changes_of}
 use Rattle.boost_core.proofs.Refused.{no_cursor}
 
 -- The stripes of a caller are free, as the history says after the transaction's end.

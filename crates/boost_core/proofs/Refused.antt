@@ -1,14 +1,6 @@
 -- The refusals of a caller's step, from its side and from the machine's state.
-use Rattle.std.proofs.Common.{◌≡◌, ℕ, ◌<◌, Bool, true, false, cond, List, [], ◌∷◌, ◌++◌, length, get_or, Option, Some, None, is_some, refl, sym, ap, ◌∙◌, arith, nat_le, not, map, slice_get, unwrap_or}
-use Rattle.std.proofs.lemmas.Bool.{leb-false, lt-leb, not-false}
-use Rattle.boost_core.proofs.Vocabulary.{option_map, false≢true, slice_get-map, slice_get-get_or, Refusal, Step, Phase, Closed, Opened, Waiting, Seat, closed_seat, TableAt, Cursor, cursor_changes}
-use Rattle.txn_words.specs.declared.refusal.Refusal.TheVariants.{NoSuchCaller, Unplaced}
-use Rattle.txn_words.specs.declared.step.Step.TheVariants.{Begin, Act, Back, Commit, Abort}
-use Rattle.boost_core.specs.declared.session.Session.{Session}
-use Rattle.boost_core.specs.State.{State, Owner, Caller, seat_in, caller_changes}
-use Rattle.boost_core.specs.Refusals.{owner_of, is_closed, is_waiting, is_leaving, tests_in, tests_of, first_of, refusal_in, refusal_of, lacks_in, lacks_cursor}
-use Rattle.boost_core.specs.Sessions.{IsSoughtAt}
-use Rattle.boost_core.specs.Core.{World, Tells, state_of, session_changes}
+use Rattle.std.proofs.Common.{◌≡◌, ℕ, ◌<◌, Bool, true, false, cond, List, [], ◌∷◌, ◌++◌, length, get_or, Option, Some, None, is_some, refl, sym, ap, ◌∙◌, arith, nat_le, not, map, slice_get, unwrap_or, leb-false, option_map}
+use Rattle.boost_core.proofs.Vocabulary.{lt-leb, not-false, false≢true, slice_get-map, slice_get-get_or, Refusal, Step, Phase, Closed, Opened, Waiting, Seat, closed_seat, TableAt, Cursor, cursor_changes, NoSuchCaller, Unplaced, Begin, Act, Back, Commit, Abort, Session, State, Owner, Caller, seat_in, caller_changes, owner_of, is_closed, is_waiting, is_leaving, tests_in, tests_of, first_of, refusal_in, refusal_of, lacks_in, lacks_cursor, IsSoughtAt, World, Tells, state_of, session_changes}
 
 -- The first option, or the second if there is none.
 abbrev pub or_else : Option Refusal → Option Refusal → Option Refusal

@@ -1,13 +1,7 @@
 -- The steps that a caller may take if its side fits the table.
-use Rattle.std.proofs.Common.{◌≡◌, ℕ, ◌+◌, ◌-◌, ◌<◌, ◌&&◌, ◌||◌, Bool, true, false, cond, List, [], ◌∷◌, ◌++◌, length, Option, Some, None, is_some, refl, sym, ap, subst, ◌∙◌, arith, slice_get, map, reverse, nat_lt, not, ltb-true}
-use Rattle.std.proofs.lemmas.Bool.{not-false, ltb-false, or_right}
-use Rattle.boost_core.proofs.Vocabulary.{false≢true, slice_get-get_or, Phase, Waiting, LeavingTo, LeavingToEnd, MapJob, PendingAt, TableAt, Cursor, content, OwnsIf}
-use Rattle.std.proofs.lemmas.List.{reverse-append, length_push, get_or_push}
-use Rattle.txn_words.specs.Seats.{is_waiting, is_leaving, has_job, has_target}
+use Rattle.std.proofs.Common.{◌≡◌, ℕ, ◌+◌, ◌-◌, ◌<◌, ◌&&◌, ◌||◌, Bool, true, false, cond, List, [], ◌∷◌, ◌++◌, length, Option, Some, None, is_some, refl, sym, ap, subst, ◌∙◌, arith, slice_get, map, reverse, nat_lt, not, ltb-true, ltb-false}
+use Rattle.boost_core.proofs.Vocabulary.{not-false, or_right, false≢true, slice_get-get_or, Phase, Waiting, LeavingTo, LeavingToEnd, MapJob, PendingAt, TableAt, Cursor, content, OwnsIf, reverse-append, length_push, get_or_push, is_waiting, is_leaving, has_job, has_target, Log, kept_at, newest_above, Session, level_of, Waits, key_of_newest, target_in, target_of, spare_if, change_of, changes_of, AreDue, IsPlacedFor, IsSoughtAt, GoesWith, CanAct, CanUndo, CanArrive}
 use Rattle.txn_trace.proofs.Seated.{the_some}
-use Rattle.undo_log.specs.UndoLog.{Log, kept_at, newest_above}
-use Rattle.boost_core.specs.declared.session.Session.{Session}
-use Rattle.boost_core.specs.Sessions.{level_of, Waits, key_of_newest, target_in, target_of, spare_if, change_of, changes_of, AreDue, IsPlacedFor, IsSoughtAt, GoesWith, CanAct, CanUndo, CanArrive}
 use Rattle.boost_core.proofs.Settling.{newest_owned}
 
 pub record Last (jobs : List MapJob) : Type 0 where

@@ -1,11 +1,6 @@
 -- Spares that are given out, and given up.
 use Rattle.std.proofs.Common.{◌≡◌, ◌≢◌, ℕ, ◌+◌, ◌≤◌, ◌==◌, ◌&&◌, Bool, true, false, cond, Option, Some, None, refl, sym, ap, ◌∙◌, arith, nat_eq, eq-eqb, ne_eqb, inl, inr}
-use Rattle.std.proofs.lemmas.Bool.{and_right}
-use Rattle.boost_core.proofs.Vocabulary.{option_eq, cases_eq, and_from}
-use Rattle.txn_trace.proofs.Now.{same_option, same_is}
-use Rattle.map_ops.specs.TableAt.{TableAt, SpareAt, KeepsSpares, spare_out}
-use Rattle.map_ops.specs.Changes.{Spends, GivesSpare, OwnsIf}
-use Rattle.boost_core.specs.Spares.{times_of, times_out, IsCovered}
+use Rattle.boost_core.proofs.Vocabulary.{and_right, option_eq, cases_eq, and_from, same_option, same_is, TableAt, SpareAt, KeepsSpares, spare_out, Spends, GivesSpare, OwnsIf, times_of, times_out, IsCovered}
 
 -- A table gives a spare out at most once.
 pub times_out_most : (t : TableAt) (place stamp : ℕ) → times_out t place stamp ≤ 1

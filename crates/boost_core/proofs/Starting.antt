@@ -1,22 +1,7 @@
 -- A core whose history is empty.
-use Rattle.std.proofs.Common.{◌≡◌, ℕ, ◌+◌, ◌<◌, ◌≤◌, ◌==◌, ◌∷◌, Bool, true, List, [], length, map, replicate, Option, Some, None, zero, suc, refl, sym, ap, subst, ◌∙◌, arith, slice_get, sum_by, eq-eqb, eqb-true, inl, inr}
-use Rattle.boost_core.proofs.Vocabulary.{All, option_map, and_parts, cases_Bool, cases_lt, slice_get_within, get_or_from_slice_get, caller_of}
-use Rattle.std.specs.Int.{is_power_of_two}
-use Rattle.std.proofs.lemmas.List.{length-replicate, get_or-replicate, get_or_past}
-use Rattle.std.proofs.lemmas.List.Elements.{All-nil}
-use Rattle.std.proofs.lemmas.List.Sums.{sum_by-cons}
-use Rattle.key_locks.specs.Locks.{holder_of as held_by}
-use Rattle.txn_words.specs.Sizes.{Sizes, are_limits}
-use Rattle.txn_words.specs.Owed.{owed_in}
+use Rattle.std.proofs.Common.{◌≡◌, ℕ, ◌+◌, ◌<◌, ◌≤◌, ◌==◌, ◌∷◌, Bool, true, List, [], length, map, replicate, Option, Some, None, zero, suc, refl, sym, ap, subst, ◌∙◌, arith, slice_get, sum_by, eq-eqb, eqb-true, inl, inr, All, option_map}
+use Rattle.boost_core.proofs.Vocabulary.{and_parts, cases_Bool, cases_lt, slice_get_within, get_or_from_slice_get, caller_of, is_power_of_two, length-replicate, get_or-replicate, get_or_past, All-nil, sum_by-cons, held_by, Sizes, are_limits, owed_in, NodeAt, first, first_dummy, node_of, IsRising, IsSpread, IsSound, AllPlain, TableAt, Cursor, IsNew, Nothing, cursor_changes, nodes_of, Session, start, Side, side_of, IsIdle, IsSoughtAt, owed_of, target_of, times_kept, World, Tells, IsSeated, state_of, session_changes, node_at, gap_if, gap_by, all_times}
 use Rattle.txn_trace.proofs.Judging.{legal_none}
-use Rattle.node_list.specs.Nodes.{NodeAt, first, first_dummy, node_of}
-use Rattle.node_list.specs.Order.{IsRising, IsSpread}
-use Rattle.node_list.specs.Sound.{IsSound, AllPlain}
-use Rattle.map_ops.specs.TableAt.{TableAt, Cursor, IsNew, Nothing, cursor_changes, nodes_of}
-use Rattle.boost_core.specs.declared.session.Session.{Session}
-use Rattle.boost_core.specs.State.{start}
-use Rattle.boost_core.specs.Sessions.{Side, side_of, IsIdle, IsSoughtAt, owed_of, target_of, times_kept}
-use Rattle.boost_core.specs.Core.{World, Tells, IsSeated, state_of, session_changes, node_at, gap_if, gap_by, all_times}
 use Rattle.boost_core.proofs.HelperGaps.{idle_cursors}
 use Rattle.boost_core.proofs.NodeLists.{node_here, node_later, none_of_none}
 use Rattle.boost_core.proofs.Spares.{none_covered}

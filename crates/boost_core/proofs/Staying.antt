@@ -1,17 +1,9 @@
 -- No step of a caller unlinks an unmarked node, nor touches the buckets and the helpers.
 use Rattle.std.proofs.Common.{◌≡◌, ℕ, Bool, true, false, List, Option, Some, None, refl, sym, ap, subst, ◌∙◌, nat_eq}
-use Rattle.boost_core.proofs.Vocabulary.{option_eq, regular_at, IsSpread, Op, Put, Take, Get, PutIf, Step, Answer, MapJob, Unput, Restore, Relink}
-use Rattle.node_list.specs.Nodes.{NodeAt, Listing}
+use Rattle.boost_core.proofs.Vocabulary.{option_eq, regular_at, IsSpread, Op, Put, Take, Get, PutIf, Step, Answer, MapJob, Unput, Restore, Relink, NodeAt, Listing, TableAt, SpareAt, KeepsNodes, nodes_of, LinksNode, MarksNode, WritesNode, WritesNothing, OpWrites, PutWrites, PutIfWrites, TakeWrites, JobWrites, node_for, Claim, Lock, Right, Session, Counts, Does, ActsIn, IsAsked, AsksBy}
+use Rattle.boost_core.proofs.GapLists.{Stay, stay_same, stay_changed, stay_linked, stay_sought}
 use Rattle.txn_words.specs.declared.step.Step.TheVariants as steps
 use Rattle.txn_words.specs.declared.answer.Answer.TheVariants as answers
-use Rattle.map_ops.specs.TableAt.{TableAt, SpareAt, KeepsNodes, nodes_of}
-use Rattle.map_ops.specs.Nodes.{LinksNode, MarksNode, WritesNode, WritesNothing, OpWrites, PutWrites, PutIfWrites, TakeWrites, JobWrites, node_for}
-use Rattle.boost_core.specs.declared.claim.Claim.{Claim}
-use Rattle.boost_core.specs.declared.claim.Claim.TheVariants.{Lock, Right}
-use Rattle.boost_core.specs.declared.session.Session.{Session}
-use Rattle.boost_core.specs.declared.counts.Counts.{Counts}
-use Rattle.boost_core.specs.Sessions.{Does, ActsIn, IsAsked, AsksBy}
-use Rattle.boost_core.proofs.GapLists.{Stay, stay_same, stay_changed, stay_linked, stay_sought}
 
 pub linked : (l l' : Listing) (n : NodeAt) → IsSpread l'.nodes → LinksNode l l' n → Stay l.nodes l'.nodes
 linked l l' n spread is = subst (Stay l.nodes) (sym is.writes.nodes) (stay_linked l.nodes is.before n (subst IsSpread is.writes.nodes spread))

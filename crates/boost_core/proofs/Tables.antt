@@ -1,27 +1,12 @@
 -- The table after a call on its buckets, in the words of the state.
-use Rattle.std.proofs.Common.{◌≡◌, ◌≢◌, ℕ, ◌+◌, ◌<◌, Bool, true, List, Option, Some, None, Ok, is_some, refl, sym, ap, ◌∙◌, arith, map, length, length-set, slice_get, slice_set, slice_index_or}
-use Rattle.boost_core.proofs.Vocabulary.{option_map, slice_get-map, slice_get_within, slice_get-get_or}
-use Rattle.std.specs.List.{range_with_len}
-use Rattle.std.proofs.lemmas.List.{map-set, get_or-set_same, get_or-set_other}
-use Rattle.node_list.specs.Nodes.{Listing, out_at}
+use Rattle.std.proofs.Common.{◌≡◌, ◌≢◌, ℕ, ◌+◌, ◌<◌, Bool, true, List, Option, Some, None, Ok, is_some, refl, sym, ap, ◌∙◌, arith, map, length, length-set, slice_get, slice_set, slice_index_or, option_map, get_or-set_same, get_or-set_other}
+use Rattle.boost_core.proofs.Vocabulary.{slice_get-map, slice_get_within, slice_get-get_or, range_with_len, map-set, Listing, out_at, found_fits, TableHelper, Idle, Seeking, Holding, Directory, limit_of, helper_of, with_helper, dummy_node, cursor_fits, Seeks, Holds, LinksDummy, Stores, Double, LinksNode, TableAt, Help, Nothing, Sought, Dummy, HasParents, KeepsList, KeepsSpares, cursor_in, helper_cursor, help_of, regular, size_of, largest_of, stored_of, linked_of, helps_of, table_changes, Doubles, helper_fits, seek_answer, size_after, doubled}
 use Rattle.list_steps.specs.Content.{pairs}
-use Rattle.list_steps.proofs.CursorLemmas.{found_fits}
-use Rattle.bucket_table.specs.declared.helper.Helper.{Helper as TableHelper}
-use Rattle.bucket_table.specs.declared.helper.Helper.TheVariants.{Idle, Seeking, Holding}
-use Rattle.bucket_table.specs.Directory.{Directory, limit_of, helper_of, with_helper}
-use Rattle.bucket_table.specs.Dummies.{dummy_node, has_dummy}
+use Rattle.bucket_table.specs.Dummies.{has_dummy}
 use Rattle.bucket_table.specs.Links.{LinksAt}
-use Rattle.bucket_table.specs.Helpers.{cursor_fits}
-use Rattle.bucket_table.specs.Changes.{Seeks, Holds, LinksDummy, Stores}
-use Rattle.map_ops.specs.Double.{Double}
+use Rattle.map_ops.proofs.BucketLemmas.{linked_with}
 use Rattle.map_ops.specs.Double.TheVariants as doubles
 use Rattle.map_ops.specs.InitSeek.TheVariants as seeks
-use Rattle.map_ops.specs.Nodes.{LinksNode}
-use Rattle.map_ops.specs.TableAt.{TableAt, Help, Nothing, Sought, Dummy, HasParents, KeepsList, KeepsSpares, cursor_in, helper_cursor, help_of, regular, size_of, largest_of, stored_of, linked_of, helps_of, table_changes}
-use Rattle.map_ops.specs.Buckets.{Doubles, helper_fits, seek_answer}
-use Rattle.map_ops.proofs.BucketLemmas.{linked_with}
-use Rattle.boost_core.specs.Answers.{size_after}
-use Rattle.boost_core.specs.Serves.{doubled}
 
 -- The buckets are as these arguments say, and the pairs and the spares are unchanged.
 pub record Becomes (old new : TableAt) (size : ℕ) (stored linked : List Bool) (helps : List Help) : Type 0 where

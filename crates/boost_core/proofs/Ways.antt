@@ -1,10 +1,7 @@
 -- The way from bucket 0 to a bucket rises.
 use Rattle.std.proofs.Common.{◌≡◌, ◌≢◌, ℕ, ◌^◌, ◌<◌, ◌≤◌, refl, ap, sym, subst, ◌∙◌, arith, inl, inr, zero, suc, pow_pos}
-use Rattle.std.proofs.lemmas.Bool.{cases_lt}
+use Rattle.boost_core.proofs.Vocabulary.{cases_lt, parent_of, highest_cleared, IsAncestor, child_within, child_towards, parent_of-zero, parent_of-child_towards, child_towards-le}
 use Rattle.std.proofs.lemmas.Bool.Decides.{eqb_tells, leb_tells}
-use Rattle.split_key.specs.Split.{parent_of, highest_cleared, IsAncestor}
-use Rattle.txn_drive.specs.Ways.{child_within, child_towards}
-use Rattle.txn_drive.proofs.WayLemmas.{parent_of-zero, parent_of-child_towards, child_towards-le}
 
 -- A number without its highest 1 bit is less.
 cleared_less : (width number : ℕ) → 0 < number → number < 2 ^ width → highest_cleared width number < number

@@ -1,33 +1,19 @@
 -- The steps by which callers work on the map.
 use Rattle.std.proofs.Common.{◌≡◌, ℕ, ◌+◌, ◌-◌, ◌<◌, ◌≤◌, true, cond, List, [], ◌∷◌, ◌++◌, length, Option, Some, None, is_some, refl, sym, ap, subst, ◌∙◌, arith, slice_get, slice_set, map, reverse, slice_index, nat_lt, option_to_list, ne_eqb, ltb-true}
-use Rattle.boost_core.proofs.Vocabulary.{AllByRecursion, false≢true, reverse-append, stripe_of, holder_of, TableAt, content, table_changes, serial, now, log_of, Phase, Opened, Waiting, LeavingTo, LeavingToEnd, Next, kept_at, MapJob}
-use Rattle.txn_words.specs.Map.{get, key_of, reply_of, after, set_at, Map}
-use Rattle.txn_trace.specs.Legal.{runs, is_running}
-use Rattle.txn_words.specs.Shape.{changes, Seat}
-use Rattle.txn_words.proofs.Effects.{get-after_other}
-use Rattle.txn_words.proofs.Maps.{get-set_at}
-use Rattle.txn_trace.proofs.Held.{waiting_held, log_held, held_apart}
-use Rattle.map_ops.specs.Jobs.{takes_node, key_of_job, value_before, spare_of_job, job_of, PendingAt}
-use Rattle.txn_words.specs.declared.entry.Entry.TheVariants as entry
-use Rattle.txn_words.specs.declared.step.Step.TheVariants as steps
-use Rattle.txn_words.specs.declared.answer.Answer.TheVariants as answers
-use Rattle.txn_trace.proofs.Entries as laws
-use Rattle.boost_core.specs.declared.session.Session.{Session}
-use Rattle.boost_core.specs.State.{seat_in, holder_by}
-use Rattle.boost_core.specs.Refusals.{refusal_of, has_job}
-use Rattle.boost_core.specs.Spares.{times_of, times_in, times_out, IsCovered}
-use Rattle.boost_core.specs.Core.{World, Tells, state_of, session_changes}
+use Rattle.boost_core.proofs.Vocabulary.{AllByRecursion, false≢true, reverse-append, stripe_of, holder_of, TableAt, content, table_changes, serial, now, log_of, Phase, Opened, Waiting, LeavingTo, LeavingToEnd, Next, kept_at, MapJob, get, key_of, reply_of, after, set_at, Map, runs, is_running, changes, Seat, get-after_other, get-set_at, waiting_held, log_held, held_apart, takes_node, key_of_job, value_before, spare_of_job, job_of, PendingAt, Session, seat_in, holder_by, refusal_of, has_job, times_of, times_in, times_out, IsCovered, World, Tells, state_of, session_changes, IsReply, side_of, level_of, KeepsPlaced, Waits, spare_if, times_kept, change_of, changes_of, AreDue, DoesIn, TakesBackIn}
 use Rattle.boost_core.proofs.Numbers.{no_more}
 use Rattle.boost_core.proofs.Moves.{Runs, runs_of}
 use Rattle.boost_core.proofs.Outcomes.{Called, entered}
-use Rattle.boost_core.specs.Answers.{IsReply}
-use Rattle.boost_core.specs.Sessions.{side_of, level_of, KeepsPlaced, Waits, spare_if, times_kept, change_of, changes_of, AreDue, DoesIn, TakesBackIn}
 use Rattle.boost_core.proofs.Settling.{times_pushed}
 use Rattle.boost_core.proofs.Spares.{spent}
 use Rattle.boost_core.proofs.Due.{NotedIf, noted, changes_noted, due_noted}
 use Rattle.boost_core.proofs.Sides.{IsGoing, going, waiting_op, changes_last}
 use Rattle.boost_core.proofs.Refused.{seat_here}
 use Rattle.boost_core.proofs.SparesKept.{done_covered}
+use Rattle.txn_words.specs.declared.entry.Entry.TheVariants as entry
+use Rattle.txn_words.specs.declared.step.Step.TheVariants as steps
+use Rattle.txn_words.specs.declared.answer.Answer.TheVariants as answers
+use Rattle.txn_trace.proofs.Entries as laws
 
 going_waits : (q : Phase) (o : Option PendingAt) (room room' : ℕ) → IsGoing q → Waits q o room → Waits q o room'
 going_waits (LeavingTo n) None room room' goes waits = tt

@@ -1,11 +1,5 @@
 use Rattle.std.proofs.Common.{◌≡◌, ◌<◌, ◌++◌, inr, List, Option, refl, sym, ap, subst, ◌∙◌, arith, vec_len, vec_capacity, sum_by, option_to_list}
-use Rattle.txn_words.specs.declared.entry.Entry.{Entry}
-use Rattle.boost_core.specs.declared.counts.Counts.{Counts}
-use Rattle.boost_core.specs.Counts.{counts_after}
-use Rattle.boost_core.specs.State.{Owner}
-use Rattle.boost_core.specs.Sessions.{Does, Takes, owed_of}
-use Rattle.boost_core.specs.Words.{Goes, reserved_by}
-use Rattle.boost_core.specs.Core.{Tells, world_of, state_of, World}
+use Rattle.boost_core.proofs.Vocabulary.{Entry, Counts, counts_after, Owner, Does, Takes, owed_of, Goes, reserved_by, Tells, world_of, state_of, World, reserved}
 use Rattle.boost_core.proofs.Beginners.{noted_then}
 use Rattle.boost_core.proofs.Numbers.{began_bound, committed_bound, when_ok, when_err}
 use Rattle.boost_core.proofs.Refused.{at_free}
@@ -18,7 +12,6 @@ use Rattle.boost_core.proofs.Called.{called, takes, placed_cursor, changes_there
 use Rattle.boost_core.proofs.Outcomes.{CalledBy, claims_of, goes_of, goes_lacking, goes_refused, fresh_or_lock, reserved_least, reserved_few, no_memory, can_add, called_caller, called_tells, called_owes, called_room, called_move}
 use Rattle.txn_words.specs.declared.answer.Answer.TheVariants as answers
 use Rattle.txn_words.specs.declared.refusal.Refusal.TheVariants as refusals
-use Rattle.txn_words.specs.Owed.{reserved}
 use Rattle.boost_core.proofs.machine.Core.call.Goals as goal
 
 pub overflow_add-self-inside : goal.overflow_add-self-inside

@@ -1,6 +1,5 @@
 use Rattle.std.proofs.Common.{◌<◌, true, false, length, is_some, arith, ap, sym, ◌∙◌}
-use Rattle.boost_core.specs.State.{State}
-use Rattle.boost_core.specs.Refusals.{refusal_of}
+use Rattle.boost_core.proofs.Vocabulary.{State, refusal_of}
 use Rattle.boost_core.proofs.Refused.{lacking, index_at, le_false, refusal_here, or_else_some, not_some}
 use Rattle.boost_core.proofs.machine.Core.refusal.Goals as goal
 

@@ -1,7 +1,5 @@
 use Rattle.std.proofs.Common.{Option, refl, sym, subst}
-use Rattle.boost_core.specs.State.{Owner}
-use Rattle.boost_core.specs.Machine.{Move}
-use Rattle.boost_core.specs.Core.{Tells, world_of, state_of}
+use Rattle.boost_core.proofs.Vocabulary.{Owner, Move, Tells, world_of, state_of}
 use Rattle.boost_core.proofs.Moves.{move_of}
 use Rattle.boost_core.proofs.Helping.{served}
 use Rattle.boost_core.proofs.Serving.{serves}

@@ -1,7 +1,5 @@
 use Rattle.std.proofs.Common.{ap, List, [], ◌≡◌, ◌≤◌, ◌+◌, length, arith, ◌∙◌}
-use Rattle.map_ops.specs.declared.job.MapJob.{MapJob}
-use Rattle.boost_core.specs.Sessions.{Side, side_of}
-use Rattle.boost_core.specs.Spares.{times_in, times_out}
+use Rattle.boost_core.proofs.Vocabulary.{MapJob, Side, side_of, times_in, times_out}
 use Rattle.boost_core.proofs.Settling.{rests_more, newest_owned, popped_covered, no_jobs, none_left, front_none}
 use Rattle.boost_core.proofs.session.Session.settle.Goals as goal
 
