@@ -98,13 +98,8 @@ module _ (w : World) (tells : Tells w) (c : ℕ) (x : Session) (at : slice_get w
     spares_before : (t' : TableAt) (pending : PendingAt) → Prepares w.table t' op pending → (others : ℕ → ℕ → ℕ) → IsCovered (λ place stamp. others place stamp + times_kept (side_of x) place stamp) w.table
         → IsCovered (λ place stamp. others place stamp + times_in x.log.jobs place stamp + times_of pending.spare place stamp) t'
     spares_before t' pending prepares others covered =
-        (given_for w.table t' (takes_node op) pending.spare prepares.given).covered (λ p s. others p s + times_in x.log.jobs p s) (λ p s.
-        let same : times_of (spare_if x.pending) p s ≡ 0 = ap (λ (o : Option PendingAt). times_of (spare_if o) p s) nothing in
-        let exact : others p s + (times_of (spare_if x.pending) p s + times_in x.log.jobs p s) ≡ times_out w.table p s = covered p s in
-        regroup (others p s) (times_of (spare_if x.pending) p s) (times_in x.log.jobs p s) (times_out w.table p s) same exact)
-      where
-        regroup : (a z j n : ℕ) → z ≡ 0 → a + (z + j) ≡ n → a + j ≡ n
-        regroup a z j n same exact = omega arith
+        (given_for w.table t' (takes_node op) pending.spare prepares.given).covered (λ p s. others p s + times_in x.log.jobs p s)
+        (λ p s. omega (arith, rw nothing at (covered p s)))
 
     prepared_runs : (t' : TableAt) (pending : PendingAt) → Prepares w.table t' op pending → Runs w.table t'
     prepared_runs t' pending prepares = record {
@@ -137,12 +132,7 @@ module _ (w : World) (tells : Tells w) (c : ℕ) (x : Session) (at : slice_get w
       asked_side = record (side_of x) { pending = Some asks.pending }
 
       asked_covered : (others : ℕ → ℕ → ℕ) → IsCovered (λ place stamp. others place stamp + times_kept (side_of x) place stamp) w.table → IsCovered (λ place stamp. others place stamp + times_kept asked_side place stamp) t'
-      asked_covered others covered place stamp =
-          let after : others place stamp + times_in x.log.jobs place stamp + times_of asks.pending.spare place stamp ≡ times_out t' place stamp = spares_before t' asks.pending asks.prepares others covered place stamp in
-          regroup (others place stamp) (times_in x.log.jobs place stamp) (times_of asks.pending.spare place stamp) (times_out t' place stamp) after
-        where
-          regroup : (a j s n : ℕ) → a + j + s ≡ n → a + (s + j) ≡ n
-          regroup a j s n exact = omega arith
+      asked_covered others covered place stamp = omega (arith, spares_before t' asks.pending asks.prepares others covered place stamp)
 
       pub asked_called : Called w c x (steps.Ask c op) answers.Asked y t' locks'
       asked_called =
@@ -208,12 +198,7 @@ module _ (w : World) (tells : Tells w) (c : ℕ) (x : Session) (at : slice_get w
 
       pub busy_covered : (others : ℕ → ℕ → ℕ) → IsCovered (λ place stamp. others place stamp + times_kept (side_of x) place stamp) w.table → IsCovered (λ place stamp. others place stamp + times_kept (side_of x) place stamp) t'
       busy_covered others covered place stamp =
-          let exact : others place stamp + times_in x.log.jobs place stamp ≡ times_out t' place stamp = spent meets.between t' meets.pending.spare (λ p s. others p s + times_in x.log.jobs p s) meets.back.spares (spares_before meets.between meets.pending meets.prepares others covered) place stamp in
-          let none : times_of (spare_if x.pending) place stamp ≡ 0 = ap (λ (o : Option PendingAt). times_of (spare_if o) place stamp) nothing in
-          regroup (others place stamp) (times_in x.log.jobs place stamp) (times_of (spare_if x.pending) place stamp) (times_out t' place stamp) none exact
-        where
-          regroup : (a j p n : ℕ) → p ≡ 0 → a + j ≡ n → a + (p + j) ≡ n
-          regroup a j p n none exact = omega arith
+          rw nothing (omega (arith, spent meets.between t' meets.pending.spare (λ p s. others p s + times_in x.log.jobs p s) meets.back.spares (spares_before meets.between meets.pending meets.prepares others covered) place stamp))
 
       pub busy_called : w.words ≡ false → Called w c x (steps.Ask c op) (answers.Busy holder) y t' locks'
       busy_called words =

@@ -109,36 +109,26 @@ takes w tells c x at step owner none callers some began done = record {
     sought = tells.sought c x at;
     due = subst (λ m. AreDue m (reverse x.log.jobs)) (sym tells.content) (tells.seated c x at).due;
     withdraws = owns_if w.table (spare_if x.pending) (all_times w.sessions) (λ place stamp.
-        let most : times_kept (side_of x) place stamp ≤ all_times w.sessions place stamp = one_of_sum (λ s. times_kept (side_of s) place stamp) w.sessions c x at in
-        fewer (times_in x.log.jobs place stamp) (times_of (spare_if x.pending) place stamp) (all_times w.sessions place stamp) most) tells.spares;
+        omega (arith, most place stamp)) tells.spares;
     settles = (
       λ place stamp. all_times w.sessions place stamp - times_in x.log.jobs place stamp,
-      λ place stamp.
-          let most : times_kept (side_of x) place stamp ≤ all_times w.sessions place stamp = one_of_sum (λ s. times_kept (side_of s) place stamp) w.sessions c x at in
-          rejoin (times_in x.log.jobs place stamp) (times_of (spare_if x.pending) place stamp) (all_times w.sessions place stamp) (times_out w.table place stamp) most (tells.spares place stamp),
+      λ place stamp. omega (arith, most place stamp, tells.spares place stamp),
     );
   };
   free = (w.limits.half, seat_free w tells c x at step owner none);
   placed = cursor_free w tells c x at step owner none;
   owner = (c, owner);
   caller = λ d is.
-      let same : d ≡ c = same_caller d c (sym is ∙ owner) in
-      let below : c < w.limits.callers = leb-false w.limits.callers c (free (state_of w) c step owner none).within in
-      omega arith;
+      let same : d ≡ c = cc (is, owner) in
+      omega (arith, same, leb-false w.limits.callers c (free (state_of w) c step owner none).within);
   many = tells.stripes;
   some_stripe = some;
   begins = began;
   commits = done;
 }
   where
-    same_caller : (d c : ℕ) → Some (Caller d) ≡ Some (Caller c) → d ≡ c
-    same_caller d c same = cc (same)
-
-    fewer : (a b n : ℕ) → b + a ≤ n → b ≤ n
-    fewer a b n most = omega arith
-
-    rejoin : (a b n out : ℕ) → b + a ≤ n → n ≡ out → n - a + a ≡ out
-    rejoin a b n out most exact = omega arith
+    most : (place stamp : ℕ) → times_kept (side_of x) place stamp ≤ all_times w.sessions place stamp
+    most place stamp = one_of_sum (λ s. times_kept (side_of s) place stamp) w.sessions c x at
 
 -- A step with the answer `Placed` leaves its caller a cursor.
 pub placed_cursor : (claim : Claim) (stripes : ℕ) (counts : Counts) (step : Step) (x : Session) (t : TableAt) (locks : List (Option ℕ)) (answer : Answer) (y : Session) (t' : TableAt) (locks' : List (Option ℕ)) → Does claim stripes counts step x t locks answer y t' locks' → answer ≡ answers.Placed → is_some y.cursor ≡ true

@@ -194,9 +194,6 @@ standing_owed : (q : Phase) (standing : ℕ) (kept : List ℕ) → IsLevelIn q s
 standing_owed Closed standing kept is = let none : standing ≡ 0 = is.0 in omega arith
 standing_owed _ standing kept is = omega arith
 
-small_standing : (a b owed n : ℕ) → a ≡ b → b ≤ owed → owed < n → a < n
-small_standing a b owed n same most small = omega arith
-
 module _ (w : World) (tells : Tells w) (c : ℕ) (x y : Session) (at : slice_get w.sessions c ≡ Some x) (step : Step) (answer : Answer) (t' : TableAt) (locks' : List (Option ℕ)) {claim : Claim} (called : CalledBy claim w c x step answer y t' locks') where
   same_seat : (o : Option Entry) → option_to_list o ≡ entries_of step answer → y.seat.seat ≡ x.seat.seat
   same_seat None is = let comes : Stays w c x y t' locks' (counts_after w.counts answer) = subst (Comes w c x y t' locks' (counts_after w.counts answer)) (sym is) called.comes in ap (λ (s : Side). s.seat) comes.becomes
@@ -206,10 +203,7 @@ module _ (w : World) (tells : Tells w) (c : ℕ) (x y : Session) (at : slice_get
   pub called_caller : (o : Option Entry) → option_to_list o ≡ entries_of step answer → (e : Entry) → o ≡ Some e → caller_of e < w.limits.callers
   called_caller o is e some =
       let comes : Grows w c x y t' locks' (counts_after w.counts answer) e = subst (Comes w c x y t' locks' (counts_after w.counts answer)) (sym is ∙ ap option_to_list some) called.comes in
-      let mine = comes.mine in
-      let count = tells.count in
-      let below = slice_get_within w.sessions c x at in
-      omega arith
+      omega (arith, comes.mine, tells.count, slice_get_within w.sessions c x at)
 
   -- The entry that the step adds may be added.
   pub can_add : (o : Option Entry) → option_to_list o ≡ entries_of step answer → (len cap owed : ℕ) → owed ≡ sum_by owed_of w.sessions → len + (owed + reserved_by claim step) ≤ cap → cap < 2 ^ 63 → w.limits.callers ≤ 64 → CanAdd y.seat len cap owed o
@@ -228,7 +222,7 @@ module _ (w : World) (tells : Tells w) (c : ℕ) (x y : Session) (at : slice_get
       record {
         next = comes.seat;
         row_is = ap (λ (s : Seat). row s s.phase e) (same_seat (Some e) is) ∙ goes;
-        standing = small_standing y.seat.seat.standing x.seat.seat.standing (owed_of x) (2 ^ 63) (ap (λ (s : Seat). s.standing) (same_seat (Some e) is)) (standing_owed x.seat.seat.phase x.seat.seat.standing x.seat.seat.kept (seat_leveled (own c w.history) x.seat.seat (tells.seated c x at).seat).within) (omega arith);
+        standing = omega (arith, ap (λ (s : Seat). s.standing) (same_seat (Some e) is), standing_owed x.seat.seat.phase x.seat.seat.standing x.seat.seat.kept (seat_leveled (own c w.history) x.seat.seat (tells.seated c x at).seat).within);
         saved = comes.saved;
         small = grown_small w.words w.limits.stripes w.limits.callers w.history e tells.callers comes.next.legal (called_caller (Some e) is e refl) few_callers;
         room = omega arith;

@@ -90,11 +90,7 @@ module _ (w : World) (tells : Tells w) (c : ℕ) (x : Session) (at : slice_get w
         apart = λ d other k held. refl;
         placed = settles.rests.placed;
         spares = λ others covered place stamp.
-            let before : IsCovered (λ p s. others p s + times_in x.log.jobs p s) w.table = λ p s.
-            let same : times_of (spare_if x.pending) p s ≡ 0 = ap (λ (o : Option PendingAt). times_of (spare_if o) p s) nothing in
-            let exact : others p s + times_kept (side_of x) p s ≡ times_out w.table p s = covered p s in
-            drop_zero (others p s) (times_of (spare_if x.pending) p s) (times_in x.log.jobs p s) (times_out w.table p s) same exact in
-            sym (no_more (others place stamp)) ∙ settles.spares others before place stamp;
+            sym (no_more (others place stamp)) ∙ settles.spares others (λ p s. omega (arith, rw nothing at (covered p s))) place stamp;
         largest = settles.rests.nodes.buckets.largest;
         helpers = ap length settles.rests.nodes.buckets.helps;
         begins = no_more w.counts.began;
@@ -102,9 +98,6 @@ module _ (w : World) (tells : Tells w) (c : ℕ) (x : Session) (at : slice_get w
         long = releases.as_many;
         holders = released_holders w tells c x at locks' releases;
       })
-    where
-      drop_zero : (a z b n : ℕ) → z ≡ 0 → a + (z + b) ≡ n → a + b ≡ n
-      drop_zero a z b n is exact = omega arith
 
   -- Abort.
   pub withdrawn : refusal_of (state_of w) (steps.Abort c) ≡ None → (y : Session) (t' : TableAt) → WithdrawsIn x w.table y t' → Called w c x (steps.Abort c) answers.Leaving y t' w.locks
@@ -164,7 +157,7 @@ module _ (w : World) (tells : Tells w) (c : ℕ) (x : Session) (at : slice_get w
         let more : nat_lt (kept_at x.log.kept n) (length x.log.jobs) ≡ false = none_above (LeavingTo n) returns.phase in
         let agrees = (tells.seated c x at).agrees in
         let reached : slice_index x.seat.seat.kept n ≡ x.seat.seat.standing =
-        ap (λ ks. slice_index ks n) agrees.kept ∙ reach (kept_at x.log.kept n) (length x.log.jobs) (subst (λ ks. slice_index ks n ≤ length x.log.jobs) agrees.kept (subst (λ k. slice_index x.seat.seat.kept n ≤ k) agrees.standing level.1)) (ltb-false (kept_at x.log.kept n) (length x.log.jobs) more) ∙ sym agrees.standing in
+        ap (λ ks. slice_index ks n) agrees.kept ∙ omega (arith, rw (agrees.kept, agrees.standing) at level.1, ltb-false (kept_at x.log.kept n) (length x.log.jobs) more) ∙ sym agrees.standing in
         entered w c x y w.table w.locks (steps.Act c) (answers.Returned n) (entry.Returned c n)
         (map session_changes w.sessions) refl refl refl
         (none_dropped w.sessions c x at (idle_cursor w tells c x at (LeavingTo n) returns.phase (no_newest x.log n more)))
@@ -176,9 +169,6 @@ module _ (w : World) (tells : Tells w) (c : ℕ) (x : Session) (at : slice_get w
         (laws.returned w.limits.stripes w.history tells.legal c n x.seat.seat (tells.seated c x at).seat returns.phase reached) (tells.seated c x at).log
         refl (λ is. absurd (false≢true is)) (ap (λ ks. take (n + 1) ks) agrees.kept ∙ ap (λ k. take k (0 ∷ x.log.kept)) (add-one n)) refl (nothing_waits w tells c x at (LeavingTo n) returns.phase refl)
         (idle_cursor w tells c x at (LeavingTo n) returns.phase (no_newest x.log n more)) returns.becomes (no_more w.counts.began) (no_more w.counts.committed) refl tells.holders)
-      where
-        reach : (a b : ℕ) → a ≤ b → b ≤ a → a ≡ b
-        reach a b least most = omega arith
 
     -- At the end.
     pub ended : (y : Session) (locks' : List (Option ℕ)) → EndsIn c x w.locks y locks' → Called w c x (steps.Act c) answers.Aborted y w.table locks'

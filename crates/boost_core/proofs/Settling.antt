@@ -33,17 +33,14 @@ times_pushed jobs jobs' job place stamp is = ap (λ js. times_in js place stamp)
 -- The spare of the newest job belongs to the table.
 pub newest_owned : (t : TableAt) (jobs jobs' : List MapJob) (job : MapJob) → jobs ≡ jobs' ++ job ∷ [] → (others : ℕ → ℕ → ℕ) → IsCovered (λ place stamp. others place stamp + times_in jobs place stamp) t → OwnsIf t (spare_of_job job)
 newest_owned t jobs jobs' job is others covered =
-    owns_if t (spare_of_job job) (λ place stamp. others place stamp + times_in jobs place stamp) (λ place stamp. let times = times_pushed jobs jobs' job place stamp is in omega arith) covered
+    owns_if t (spare_of_job job) (λ place stamp. others place stamp + times_in jobs place stamp) (λ place stamp. omega (arith, times_pushed jobs jobs' job place stamp is)) covered
 
 -- After the newest job is given up, the spares of the others are still covered.
 pub popped_covered : (t t' : TableAt) (jobs jobs' : List MapJob) (job : MapJob) → jobs ≡ jobs' ++ job ∷ [] → GivesBack t t' (spare_of_job job)
     → (others : ℕ → ℕ → ℕ) → IsCovered (λ place stamp. others place stamp + times_in jobs place stamp) t → IsCovered (λ place stamp. others place stamp + times_in jobs' place stamp) t'
 popped_covered t t' jobs jobs' job is back others covered =
     spent t t' (spare_of_job job) (λ place stamp. others place stamp + times_in jobs' place stamp) back.spares
-    (λ place stamp.
-    let times = times_pushed jobs jobs' job place stamp is in
-    let exact : others place stamp + times_in jobs place stamp ≡ times_out t place stamp = covered place stamp in
-    omega arith)
+    (λ place stamp. omega (arith, times_pushed jobs jobs' job place stamp is, covered place stamp))
 
 pub no_jobs : (jobs : List MapJob) → length jobs ≤ 0 → jobs ≡ []
 no_jobs [] none = refl
@@ -56,6 +53,4 @@ none_left o n none some = elim (cases_lt 0 n) [
 ]
 
 pub front_none : (jobs front rest : List MapJob) → jobs ≡ front ++ rest → length jobs ≤ 0 → front ≡ []
-front_none jobs front rest is none =
-    let long : length jobs ≡ length front + length rest = ap length is ∙ length-append front rest in
-    no_jobs front (omega arith)
+front_none jobs front rest is none = no_jobs front (omega (arith, ap length is ∙ length-append front rest))

@@ -13,8 +13,7 @@ at_least_once false is = absurd (omega arith)
 -- A spare that is kept belongs to the table.
 pub kept_owned : (kept : ℕ → ℕ → ℕ) (t : TableAt) (place stamp : ℕ) → IsCovered kept t → 1 ≤ kept place stamp → spare_out t place ≡ Some stamp
 kept_owned kept t place stamp covered once =
-    let exact : kept place stamp ≡ times_out t place stamp = covered place stamp in
-    same_option (spare_out t place) (Some stamp) (at_least_once (option_eq nat_eq (spare_out t place) (Some stamp)) (omega arith))
+    same_option (spare_out t place) (Some stamp) (at_least_once (option_eq nat_eq (spare_out t place) (Some stamp)) (omega (arith, covered place stamp)))
 
 times_same : (t t' : TableAt) (place stamp : ℕ) → spare_out t' place ≡ spare_out t place → times_out t' place stamp ≡ times_out t place stamp
 times_same t t' place stamp same = ap (λ o. cond (option_eq nat_eq o (Some stamp)) 1 0) same
@@ -42,73 +41,42 @@ times_is spare place stamp at is = ap (λ (p : ℕ). times_of (Some spare) p sta
 
 -- After a spare is given up, the others are kept as before.
 pub spent : (t t' : TableAt) (spare : Option SpareAt) (others : ℕ → ℕ → ℕ) → Spends t t' spare → IsCovered (λ place stamp. others place stamp + times_of spare place stamp) t → IsCovered others t'
-spent t t' None others is covered place stamp =
-    let same : times_out t' place stamp ≡ times_out t place stamp = times_same t t' place stamp (is place) in
-    let exact : others place stamp + 0 ≡ times_out t place stamp = covered place stamp in
-    omega arith
+spent t t' None others is covered place stamp = omega (arith, times_same t t' place stamp (is place), covered place stamp)
 spent t t' (Some spare) others is covered place stamp = elim (cases_eq place spare.place) [
-  | inr other ↦
-      let same : times_out t' place stamp ≡ times_out t place stamp = times_same t t' place stamp (is.1 place other) in
-      let exact : others place stamp + times_of (Some spare) place stamp ≡ times_out t place stamp = covered place stamp in
-      let away : times_of (Some spare) place stamp ≡ 0 = times_away spare place stamp (λ e. other (sym e)) in
-      omega arith
+  | inr other ↦ omega (arith, times_same t t' place stamp (is.1 place other), covered place stamp, times_away spare place stamp (λ e. other (sym e)))
   | inl here ↦
-      let exact : others place stamp + times_of (Some spare) place stamp ≡ times_out t place stamp = covered place stamp in
-      let one : times_of (Some spare) spare.place spare.stamp ≡ 1 = times_here spare in
-      let owned : spare_out t spare.place ≡ Some spare.stamp = kept_owned (λ p s. others p s + times_of (Some spare) p s) t spare.place spare.stamp covered (omega arith) in
-      let gone : times_out t' place stamp ≡ 0 = times_none t' place stamp (ap (spare_out t') here ∙ is.0) in
+      let owned = kept_owned (λ p s. others p s + times_of (Some spare) p s) t spare.place spare.stamp covered (omega (arith, times_here spare)) in
+      let gone = times_none t' place stamp (ap (spare_out t') here ∙ is.0) in
       elim (cases_eq stamp spare.stamp) [
-        | inl same ↦
-            let once : times_of (Some spare) place stamp ≡ 1 = times_is spare place stamp here same in
-            let limit = times_out_most t place stamp in
-            omega arith
-        | inr differs ↦
-            let none : times_out t place stamp ≡ 0 = times_other t place stamp spare.stamp (ap (spare_out t) here ∙ owned) (λ e. differs (sym e)) in
-            omega arith
+        | inl same ↦ omega (arith, gone, covered place stamp, times_is spare place stamp here same, times_out_most t place stamp)
+        | inr differs ↦ omega (arith, gone, covered place stamp, times_other t place stamp spare.stamp (ap (spare_out t) here ∙ owned) (λ e. differs (sym e)))
       ]
 ]
 
 -- A new spare is kept beside the others.
 pub given : (t t' : TableAt) (spare : SpareAt) (others : ℕ → ℕ → ℕ) → GivesSpare t t' spare → IsCovered others t → IsCovered (λ place stamp. others place stamp + times_of (Some spare) place stamp) t'
 given t t' spare others gives covered place stamp = elim (cases_eq place spare.place) [
-  | inr other ↦
-      let same : times_out t' place stamp ≡ times_out t place stamp = times_same t t' place stamp (gives.others place other) in
-      let exact : others place stamp ≡ times_out t place stamp = covered place stamp in
-      let away : times_of (Some spare) place stamp ≡ 0 = times_away spare place stamp (λ e. other (sym e)) in
-      omega arith
+  | inr other ↦ omega (arith, times_same t t' place stamp (gives.others place other), covered place stamp, times_away spare place stamp (λ e. other (sym e)))
   | inl here ↦
-      let none : times_out t place stamp ≡ 0 = times_none t place stamp (ap (spare_out t) here ∙ gives.fresh) in
-      let exact : others place stamp ≡ times_out t place stamp = covered place stamp in
+      let none = times_none t place stamp (ap (spare_out t) here ∙ gives.fresh) in
+      let owned = ap (spare_out t') here ∙ gives.owned in
       elim (cases_eq stamp spare.stamp) [
-        | inl same ↦
-            let one : times_out t' place stamp ≡ 1 = times_one t' place stamp (ap (spare_out t') here ∙ gives.owned ∙ ap Some (sym same)) in
-            let once : times_of (Some spare) place stamp ≡ 1 = times_is spare place stamp here same in
-            omega arith
+        | inl same ↦ omega (arith, none, covered place stamp, times_one t' place stamp (owned ∙ ap Some (sym same)), times_is spare place stamp here same)
         | inr differs ↦
-            let unlike : times_of (Some spare) place stamp ≡ 0 = times_unlike spare place stamp (λ e. differs (sym e)) in
-            let other : times_out t' place stamp ≡ 0 = times_other t' place stamp spare.stamp (ap (spare_out t') here ∙ gives.owned) (λ e. differs (sym e)) in
-            omega arith
+            let other : spare.stamp ≢ stamp = λ e. differs (sym e) in
+            omega (arith, none, covered place stamp, times_unlike spare place stamp other, times_other t' place stamp spare.stamp owned other)
       ]
 ]
 
 -- If the same spares are out, the same are kept.
 pub still_covered : (t t' : TableAt) (kept : ℕ → ℕ → ℕ) → KeepsSpares t t' → IsCovered kept t → IsCovered kept t'
-still_covered t t' kept same covered place stamp =
-    let is : times_out t' place stamp ≡ times_out t place stamp = times_same t t' place stamp (same place) in
-    let exact : kept place stamp ≡ times_out t place stamp = covered place stamp in
-    omega arith
+still_covered t t' kept same covered place stamp = covered place stamp ∙ sym (times_same t t' place stamp (same place))
 
 -- If no spare is out, none is kept.
 pub none_covered : (t : TableAt) (kept : ℕ → ℕ → ℕ) → ((place : ℕ) → spare_out t place ≡ None) → ((place stamp : ℕ) → kept place stamp ≡ 0) → IsCovered kept t
-none_covered t kept none_out none_kept place stamp =
-    let none : times_out t place stamp ≡ 0 = times_none t place stamp (none_out place) in
-    let kept_none = none_kept place stamp in
-    omega arith
+none_covered t kept none_out none_kept place stamp = none_kept place stamp ∙ sym (times_none t place stamp (none_out place))
 
 -- A spare that is kept once belongs to the table.
 pub owns_if : (t : TableAt) (spare : Option SpareAt) (kept : ℕ → ℕ → ℕ) → ((place stamp : ℕ) → times_of spare place stamp ≤ kept place stamp) → IsCovered kept t → OwnsIf t spare
 owns_if t None kept few covered = tt
-owns_if t (Some spare) kept few covered =
-    let one : times_of (Some spare) spare.place spare.stamp ≡ 1 = times_here spare in
-    let least : times_of (Some spare) spare.place spare.stamp ≤ kept spare.place spare.stamp = few spare.place spare.stamp in
-    kept_owned kept t spare.place spare.stamp covered (omega arith)
+owns_if t (Some spare) kept few covered = kept_owned kept t spare.place spare.stamp covered (omega (arith, times_here spare, few spare.place spare.stamp))

@@ -6,11 +6,11 @@ use Rattle.boost_core.proofs.Settling.{times_more}
 use Rattle.boost_core.proofs.Spares.{spent, still_covered}
 
 relinked_put : (k : ℕ) (o : Option ℕ) (j v : ℕ) (kept : SpareAt) (spare : Option SpareAt) → Some (Relink j v kept) ≡ unput k o → spare ≡ Some kept
-relinked_put k None j v kept spare is = absurd (cc (is))
-relinked_put k (Some old) j v kept spare is = absurd (cc (is))
+relinked_put k None j v kept spare is = absurd (cc is)
+relinked_put k o j v kept spare is = absurd (cc is)
 
 relinked_take : (k : ℕ) (o : Option ℕ) (j v : ℕ) (kept : SpareAt) (spare : Option SpareAt) → Some (Relink j v kept) ≡ relink k o spare → spare ≡ Some kept
-relinked_take k (Some old) j v kept (Some given) is = let same : given ≡ kept = cc (is) in ap Some same
+relinked_take k (Some old) j v kept (Some given) is = cc is
 relinked_take k _ j v kept _ is = absurd (cc (is))
 
 -- A job that links a node again has the spare of its operation.
@@ -19,8 +19,8 @@ relinked m (Put k w) j v kept spare is = relinked_put k (get m k) j v kept spare
 relinked m (Take k) j v kept spare is = relinked_take k (get m k) j v kept spare is
 relinked m (Get k) j v kept spare is = absurd (cc (is))
 relinked m (PutIf k expected w) j v kept spare is = elim (cases_Bool (option_eq nat_eq (get m k) expected)) [
-  | inl made ↦ relinked_put k (get m k) j v kept spare (is ∙ ap (λ b. cond b (unput k (get m k)) None) made)
-  | inr same ↦ absurd (let none : Some (Relink j v kept) ≡ None = is ∙ ap (λ b. cond b (unput k (get m k)) None) same in cc (none))
+  | inl made ↦ relinked_put k (get m k) j v kept spare (rw made at is)
+  | inr same ↦ absurd (cc (rw same at is))
 ]
 
 -- The spares that a caller keeps after its operation is done.
@@ -28,12 +28,7 @@ spent_covered : (t t' : TableAt) (spare : Option SpareAt) (jobs jobs' : List Map
     → (others : ℕ → ℕ → ℕ) → IsCovered (λ place stamp. others place stamp + (times_of spare place stamp + times_in jobs place stamp)) t
     → IsCovered (λ place stamp. others place stamp + (0 + times_in jobs' place stamp)) t'
 spent_covered t t' spare jobs jobs' same spends others covered place stamp =
-    let after : others place stamp + times_in jobs place stamp ≡ times_out t' place stamp =
-    spent t t' spare (λ p s. others p s + times_in jobs p s) spends (λ p s.
-    let exact : others p s + (times_of spare p s + times_in jobs p s) ≡ times_out t p s = covered p s in
-    omega arith) place stamp in
-    let is = same place stamp in
-    omega arith
+    omega (arith, same place stamp, spent t t' spare (λ p s. others p s + times_in jobs p s) spends (λ p s. omega (arith, covered p s)) place stamp)
 
 pub times_same : (jobs : List MapJob) (place stamp : ℕ) → times_in (jobs ++ []) place stamp ≡ times_in jobs place stamp + 0
 times_same jobs place stamp = ap (λ (js : List MapJob). times_in js place stamp) (append-nil jobs) ∙ no_more (times_in jobs place stamp)
@@ -42,10 +37,8 @@ relinked_covered : (t t' : TableAt) (spare : Option SpareAt) (kept : SpareAt) (k
     → (others : ℕ → ℕ → ℕ) → IsCovered (λ place stamp. others place stamp + (times_of spare place stamp + times_in jobs place stamp)) t
     → IsCovered (λ place stamp. others place stamp + (0 + times_in (jobs ++ Relink k old kept ∷ []) place stamp)) t'
 relinked_covered t t' spare kept k old jobs is spends others covered place stamp =
-    let exact : others place stamp + (times_of spare place stamp + times_in jobs place stamp) ≡ times_out t' place stamp = still_covered t t' (λ p s. others p s + (times_of spare p s + times_in jobs p s)) spends covered place stamp in
-    let more = times_more jobs (Relink k old kept) place stamp in
-    let same : times_of spare place stamp ≡ times_of (Some kept) place stamp = ap (λ (o : Option SpareAt). times_of o place stamp) is in
-    omega arith
+    let exact = still_covered t t' (λ p s. others p s + (times_of spare p s + times_in jobs p s)) spends covered place stamp in
+    omega (arith, rw is at exact, times_more jobs (Relink k old kept) place stamp)
 
 pub done_covered : (t t' : TableAt) (spare : Option SpareAt) (job : Option MapJob) (jobs : List MapJob) (m : Map) (op : Op) → job ≡ job_of m op spare → SpendsFor t t' spare job
     → (others : ℕ → ℕ → ℕ) → IsCovered (λ place stamp. others place stamp + (times_of spare place stamp + times_in jobs place stamp)) t

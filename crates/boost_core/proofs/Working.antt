@@ -136,18 +136,11 @@ module _ (w : World) (tells : Tells w) (c : ℕ) (x : Session) (at : slice_get w
 
     undone_covered : (others : ℕ → ℕ → ℕ) → IsCovered (λ place stamp. others place stamp + times_kept (side_of x) place stamp) w.table → IsCovered (λ place stamp. others place stamp + times_kept (record (side_of x) { jobs = y.log.jobs }) place stamp) t'
     undone_covered others covered place stamp =
-        let after : others place stamp + times_of (spare_if x.pending) place stamp + times_in y.log.jobs place stamp ≡ times_out t' place stamp =
-        spent w.table t' (spare_of_job back.job) (λ p s. others p s + times_of (spare_if x.pending) p s + times_in y.log.jobs p s) back.back.spares (λ p s.
-        let times : times_in x.log.jobs p s ≡ times_in y.log.jobs p s + times_of (spare_of_job back.job) p s = times_pushed x.log.jobs y.log.jobs back.job p s back.jobs in
-        let exact : others p s + (times_of (spare_if x.pending) p s + times_in x.log.jobs p s) ≡ times_out w.table p s = covered p s in
-        regroup (others p s) (times_of (spare_if x.pending) p s) (times_in x.log.jobs p s) (times_in y.log.jobs p s) (times_of (spare_of_job back.job) p s) (times_out w.table p s) times exact) place stamp in
-        regroup' (others place stamp) (times_of (spare_if x.pending) place stamp) (times_in y.log.jobs place stamp) (times_out t' place stamp) after
-      where
-        regroup : (a b j k s n : ℕ) → j ≡ k + s → a + (b + j) ≡ n → a + b + k + s ≡ n
-        regroup a b j k s n times exact = omega arith
-
-        regroup' : (a b k n : ℕ) → a + b + k ≡ n → a + (b + k) ≡ n
-        regroup' a b k n exact = omega arith
+        omega (
+          arith,
+          spent w.table t' (spare_of_job back.job) (λ p s. others p s + times_of (spare_if x.pending) p s + times_in y.log.jobs p s) back.back.spares
+              (λ p s. omega (arith, times_pushed x.log.jobs y.log.jobs back.job p s back.jobs, covered p s)) place stamp,
+        )
 
     pub undone_called : table_changes w.table ≤ table_changes t' → Called w c x (steps.Act c) answers.Undone y t' w.locks
     undone_called rises =
