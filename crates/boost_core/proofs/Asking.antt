@@ -1,10 +1,10 @@
 -- An operation that is asked for.
 use Rattle.std.proofs.Common.{◌≡◌, ℕ, ◌+◌, ◌-◌, ◌^◌, ◌<◌, ◌==◌, ◌||◌, true, false, cond, List, [], ◌++◌, length, Option, Some, None, refl, sym, ap, subst, ◌∙◌, arith, slice_get, slice_set, map, nat_eq, not, eq-eqb, ne_eqb, append-nil, inl, inr, ◌⊎◌, option_map}
-use Rattle.boost_core.proofs.Vocabulary.{option_eq, slice_get_within, Op, Refusal, key_of, takes_node, PendingAt, Step, serial, now, Phase, Opened, Waiting, LeavingToEnd, RoomySeat, Next, TableAt, Cursor, cursor_changes, map_of, nodes_of, false≢true, cases_eq, and_from, or_right, Now, stripe_of, is_locked, LocksHold, holder_of, same_is, is_locked-asked, is_locked-busy, Prepares, IsRefused, entries_of, held_by, Session, Owner, Caller, Helper, holder_by, refusal_of, has_stamp_for, MayLack, times_of, times_in, times_out, IsCovered, World, Tells, IsFresh, state_of, session_changes, gap_if, may_stand, Move, Claim, Lock, Goes, Side, side_of, target_in, IsSoughtAt, KeepsPlaced, Waits, spare_if, times_kept, StaysIn, AsksIn, MeetsIn}
+use Rattle.boost_core.proofs.Vocabulary.{option_eq, slice_get_within, Op, Refusal, key_of, takes_node, PendingAt, Step, serial, now, Opened, Waiting, LeavingToEnd, RoomySeat, Next, TableAt, cursor_changes, map_of, nodes_of, false≢true, cases_eq, and_from, or_right, Now, stripe_of, is_locked, holder_of, same_is, is_locked-asked, is_locked-busy, Prepares, IsRefused, entries_of, held_by, Session, Owner, Caller, Helper, holder_by, refusal_of, has_stamp_for, MayLack, times_of, times_in, IsCovered, World, Tells, IsFresh, state_of, session_changes, gap_if, may_stand, Move, Claim, Lock, Goes, Side, side_of, KeepsPlaced, times_kept, StaysIn, AsksIn, MeetsIn}
 use Rattle.boost_core.proofs.Numbers.{no_more}
 use Rattle.boost_core.proofs.Moves.{Runs, changes_same, gaps_same, lacks, none_dropped}
 use Rattle.boost_core.proofs.Grow.{Stays, world_after, seated_as, set_cases}
-use Rattle.boost_core.proofs.Outcomes.{Comes, Called, CalledBy, same_world, entered}
+use Rattle.boost_core.proofs.Outcomes.{Comes, Called, CalledBy, entered}
 use Rattle.boost_core.proofs.Spares.{spent}
 use Rattle.boost_core.proofs.Refused.{seat_free, three_tests}
 use Rattle.boost_core.proofs.Quiet.{idle_cursor, nothing_waits}
@@ -37,10 +37,10 @@ module _ (w : World) (tells : Tells w) (c : ℕ) (x : Session) (at : slice_get w
     lacking_stays = record {
       cursor = x.cursor;
       becomes = stays.becomes;
-      waits = subst (λ (q : Phase). Waits q x.pending y.log.room) (sym opened) (subst (λ (o : Option PendingAt). Waits Opened o y.log.room) (sym (nothing_waits w tells c x at Opened opened refl)) tt);
+      waits = rw (opened, nothing_waits w tells c x at Opened opened refl) tt;
       content = refl;
       placed = record { placed = λ cursor key is. is; sound = λ sound. sound };
-      sought = subst (λ (o : Option Cursor). IsSoughtAt w.table o (target_in x.seat.seat.phase y.log)) (sym (idle_cursor w tells c x at Opened opened refl)) tt;
+      sought = rw (idle_cursor w tells c x at Opened opened refl) tt;
       spares = λ others covered. covered;
       largest = refl;
       helpers = refl;
@@ -63,8 +63,8 @@ module _ (w : World) (tells : Tells w) (c : ℕ) (x : Session) (at : slice_get w
 
   -- Memory for a savepoint is refused.
   pub save_refused : refusal_of (state_of w) (steps.Save c) ≡ None → (y : Session) (t' : TableAt) (locks' : List (Option ℕ)) → StaysIn x y → t' ≡ w.table → locks' ≡ w.locks → Called w c x (steps.Save c) (answers.Refused refusals.NoMemory) y t' locks'
-  save_refused none y t' locks' stays table same = same_world (Called w c x (steps.Save c) (answers.Refused refusals.NoMemory) y) w.table t' w.locks locks' table same
-      (lacking_called Lock (steps.Save c) refusals.NoMemory (lacks (state_of w) (steps.Save c) refusals.NoMemory none tt) (three_tests x.seat.seat _ _ _ _ (seat_free w tells c x at (steps.Save c) refl none)).0 y stays refl)
+  save_refused none y t' locks' stays table same =
+      rw (table, same) (lacking_called Lock (steps.Save c) refusals.NoMemory (lacks (state_of w) (steps.Save c) refusals.NoMemory none tt) (three_tests x.seat.seat _ _ _ _ (seat_free w tells c x at (steps.Save c) refl none)).0 y stays refl)
 
   module _ (op : Op) (none : refusal_of (state_of w) (steps.Ask c op) ≡ None) where
     pub opened : x.seat.seat.phase ≡ Opened
@@ -79,8 +79,8 @@ module _ (w : World) (tells : Tells w) (c : ℕ) (x : Session) (at : slice_get w
     -- Memory is refused, or no stamp is left.
     pub ask_refused : (claim : Claim) (refusal : Refusal) → (Move (state_of w) (steps.Ask c op) (answers.Refused refusal) (state_of w) → Goes claim (state_of w) (steps.Ask c op) (answers.Refused refusal) (state_of w)) → (y : Session) (t' : TableAt) (locks' : List (Option ℕ))
         → (refusal ≡ refusals.NoMemory) ⊎ IsRefused w.table op refusal → StaysIn x y → t' ≡ w.table → locks' ≡ w.locks → CalledBy claim w c x (steps.Ask c op) (answers.Refused refusal) y t' locks'
-    ask_refused claim refusal by y t' locks' why stays table same = same_world (CalledBy claim w c x (steps.Ask c op) (answers.Refused refusal) y) w.table t' w.locks locks' table same
-        (lacking_called claim (steps.Ask c op) refusal (by (lacks (state_of w) (steps.Ask c op) refusal none (lack why))) opened y stays refl)
+    ask_refused claim refusal by y t' locks' why stays table same =
+        rw (table, same) (lacking_called claim (steps.Ask c op) refusal (by (lacks (state_of w) (steps.Ask c op) refusal none (lack why))) opened y stays refl)
       where
         may_lack : (refusal : Refusal) → IsRefused w.table op refusal → MayLack (state_of w) (steps.Ask c op) refusal
         may_lack refusals.StampsUsedUp is = λ i. not (not (is.0 i) || not (is.1 i == 2 ^ 64 - 2))
@@ -88,7 +88,7 @@ module _ (w : World) (tells : Tells w) (c : ℕ) (x : Session) (at : slice_get w
         may_lack _ is = absurd is
 
         lack : (refusal ≡ refusals.NoMemory) ⊎ IsRefused w.table op refusal → MayLack (state_of w) (steps.Ask c op) refusal
-        lack (inl is) = subst (MayLack (state_of w) (steps.Ask c op)) (sym is) tt
+        lack (inl is) = rw is tt
         lack (inr is) = may_lack refusal is
 
     abbrev pub stripe : ℕ
@@ -174,9 +174,8 @@ module _ (w : World) (tells : Tells w) (c : ℕ) (x : Session) (at : slice_get w
     module _ (holder : ℕ) (y : Session) (t' : TableAt) (locks' : List (Option ℕ)) (meets : MeetsIn c stripe op holder x w.table w.locks y t' locks') (keeps : KeepsPlaced w.table t') (within : stripe < w.limits.stripes) where
       stands : w.words ≡ false → may_stand (state_of w) (entry.Busy c op holder) ≡ true
       stands words =
-          let locks : LocksHold Now w.limits.stripes w.history = subst (λ b. LocksHold (holder_by b) w.limits.stripes w.history) words tells.legal.locks in
-          subst (λ b. is_locked (holder_by b) w.limits.stripes w.history (entry.Busy c op holder) ≡ true) (sym words)
-          (is_locked-busy Now w.limits.stripes w.history c op holder tells.legal.shape locks
+          rw words (
+          is_locked-busy Now w.limits.stripes w.history c op holder tells.legal.shape (rw words at tells.legal.locks)
           ∙ and_from (not (holder == c)) (option_eq nat_eq (holder_of w.limits.stripes stripe w.history) (Some holder)) (ap not (ne_eqb holder c meets.refuses.by_another))
           (same_is (holder_of w.limits.stripes stripe w.history) (Some holder) (sym (tells.holders stripe within) ∙ meets.refuses.held)))
 
@@ -218,7 +217,7 @@ module _ (w : World) (tells : Tells w) (c : ℕ) (x : Session) (at : slice_get w
             mine = refl;
             saved = λ is. absurd (false≢true is);
             kept = (tells.seated c x at).agrees.kept;
-            waits = subst (λ (o : Option PendingAt). Waits LeavingToEnd o y.log.room) (sym nothing) tt;
+            waits = rw nothing tt;
             due = (tells.seated c x at).due;
             content = ap map_of (meets.back.nodes.regular ∙ meets.prepares.nodes.regular) ∙ tells.content;
             apart = λ d other k held. refl;

@@ -1,7 +1,7 @@
 -- The outcome of each step of a caller.
-use Rattle.std.proofs.Common.{◌≡◌, ℕ, ◌+◌, ◌-◌, ◌^◌, ◌<◌, ◌≤◌, Bool, true, false, List, Option, Some, None, is_some, refl, sym, ap, subst, ◌∙◌, arith, slice_get, slice_set, map, reverse, unwrap_or, inr, length-set, get_or-set_same, leb-false, option_map}
-use Rattle.boost_core.proofs.Vocabulary.{false≢true, slice_get_within, slice_get-map, Step, Answer, TableAt, Cursor, cursor_changes, table_changes, key_of, Op, stripe_of, Counts, Session, Caller, caller_changes, refusal_of, owner_of, Claim, Lock, Right, Held, Stale, IsClaim, times_of, times_in, times_out, World, Tells, state_of, session_changes, all_times, side_of, Does, ActsIn, ReturnsIn, Saves, IsAsked, AsksBy, unless_busy, KeepsPlaced, Takes, AreDue, spare_if, times_kept}
-use Rattle.boost_core.proofs.Outcomes.{Called, CalledBy, same_world}
+use Rattle.std.proofs.Common.{◌≡◌, ℕ, ◌+◌, ◌-◌, ◌^◌, ◌<◌, ◌≤◌, Bool, true, false, List, Option, Some, None, is_some, refl, sym, ap, subst, ◌∙◌, arith, slice_get, slice_set, map, inr, length-set, get_or-set_same, leb-false, option_map}
+use Rattle.boost_core.proofs.Vocabulary.{false≢true, slice_get_within, slice_get-map, Step, Answer, TableAt, Cursor, cursor_changes, table_changes, key_of, Op, stripe_of, Counts, Session, Caller, caller_changes, refusal_of, owner_of, Claim, Lock, Right, Held, Stale, IsClaim, times_in, World, Tells, state_of, session_changes, all_times, side_of, Does, ActsIn, Saves, IsAsked, AsksBy, unless_busy, KeepsPlaced, Takes, spare_if, times_kept}
+use Rattle.boost_core.proofs.Outcomes.{Called, CalledBy}
 use Rattle.boost_core.proofs.Spares.{owns_if}
 use Rattle.boost_core.proofs.Grow.{one_of_sum}
 use Rattle.boost_core.proofs.Refused.{caller_in, index_at, free, seat_free, cursor_free}
@@ -40,27 +40,20 @@ module _ (w : World) (tells : Tells w) (x : Session) (y : Session) (t' : TableAt
   asked_by : (claim : Claim) (c : ℕ) (op : Op) → slice_get w.sessions c ≡ Some x → refusal_of (state_of w) (steps.Ask c op) ≡ None → stripe_of w.limits.stripes (key_of op) < w.limits.stripes → IsClaim claim (state_of w) (steps.Ask c op) → (answer : Answer)
       → AsksBy claim c (stripe_of w.limits.stripes (key_of op)) op x w.table w.locks answer y t' locks' → CalledBy claim w c x (steps.Ask c op) answer y t' locks'
   asked_by Lock c op at none within claims answer does = asked c op at none within (no_words w.words claims) answer does
-  asked_by Right c op at none within claims answer does = subst (λ a. CalledBy Right w c x (steps.Ask c op) a y t' locks') (sym does.1) (asked_with c op at none within does.0 does.2)
-  asked_by (Held named) c op at none within claims answer does =
-      subst (λ a. CalledBy (Held named) w c x (steps.Ask c op) a y t' locks') (sym does.0)
-      (subst (λ s. CalledBy (Held named) w c x (steps.Ask c op) (answers.Busy named) s t' locks') (sym does.1)
-      (same_world (CalledBy (Held named) w c x (steps.Ask c op) (answers.Busy named) x) w.table t' w.locks locks' does.2 does.3 (held_called w tells c x at op none named claims.0 claims.1)))
-  asked_by Stale c op at none within claims answer does =
-      subst (λ a. CalledBy Stale w c x (steps.Ask c op) a y t' locks') (sym does.0)
-      (subst (λ s. CalledBy Stale w c x (steps.Ask c op) (answers.Refused refusals.StaleWord) s t' locks') (sym does.1)
-      (same_world (CalledBy Stale w c x (steps.Ask c op) (answers.Refused refusals.StaleWord) x) w.table t' w.locks locks' does.2 does.3 (word_stale_called w tells c x at op none)))
+  asked_by Right c op at none within claims answer does = rw does.1 (asked_with c op at none within does.0 does.2)
+  asked_by (Held named) c op at none within claims answer does = rw (does.0, does.1, does.2, does.3) (held_called w tells c x at op none named claims.0 claims.1)
+  asked_by Stale c op at none within claims answer does = rw (does.0, does.1, does.2, does.3) (word_stale_called w tells c x at op none)
 
   acted : (c : ℕ) → slice_get w.sessions c ≡ Some x → refusal_of (state_of w) (steps.Act c) ≡ None → (answer : Answer) → ActsIn c x w.table w.locks answer y t' locks' → Called w c x (steps.Act c) answer y t' locks'
-  acted c at none answers.Again does = subst (Called w c x (steps.Act c) answers.Again y t') (sym does.2) (again_called w tells c x at none does.0 y t' does.1)
-  acted c at none (answers.Done reply) does = subst (Called w c x (steps.Act c) (answers.Done reply) y t') (sym does.1) (did_called w tells c x at none reply y t' does.0 keeps rises)
-  acted c at none answers.Undone does = subst (Called w c x (steps.Act c) answers.Undone y t') (sym does.2) (undone_called w tells c x at none does.0 y t' does.1 keeps rises)
-  acted c at none (answers.Returned n) does = same_world (Called w c x (steps.Act c) (answers.Returned n) y) w.table t' w.locks locks' does.2 does.1.locks_stay (returned w tells c x at none does.0 n y (subst (λ l. ReturnsIn n x w.locks y l) does.1.locks_stay does.1))
-  acted c at none answers.Aborted does = subst (λ t. Called w c x (steps.Act c) answers.Aborted y t locks') (sym does.2) (ended w tells c x at none does.0 y locks' does.1)
+  acted c at none answers.Again does = rw does.2 (again_called w tells c x at none does.0 y t' does.1)
+  acted c at none (answers.Done reply) does = rw does.1 (did_called w tells c x at none reply y t' does.0 keeps rises)
+  acted c at none answers.Undone does = rw does.2 (undone_called w tells c x at none does.0 y t' does.1 keeps rises)
+  acted c at none (answers.Returned n) does = rw (does.2, does.1.locks_stay) (returned w tells c x at none does.0 n y (rw does.1.locks_stay at does.1))
+  acted c at none answers.Aborted does = rw does.2 (ended w tells c x at none does.0 y locks' does.1)
   acted c at none _ does = absurd does
 
   saved_here : (c : ℕ) → slice_get w.sessions c ≡ Some x → refusal_of (state_of w) (steps.Save c) ≡ None → (answer : Answer) → Saves x answer y → t' ≡ w.table → locks' ≡ w.locks → Called w c x (steps.Save c) answer y t' locks'
-  saved_here c at none (answers.Saved n) does table same =
-      same_world (Called w c x (steps.Save c) (answers.Saved n) y) w.table t' w.locks locks' table same (saved w tells c x at none n y does)
+  saved_here c at none (answers.Saved n) does table same = rw (table, same) (saved w tells c x at none n y does)
   saved_here c at none (answers.Refused refusals.NoMemory) does table same = save_refused w tells c x at none y t' locks' does table same
   saved_here c at none _ does table same = absurd does
 
@@ -69,20 +62,14 @@ module _ (w : World) (tells : Tells w) (x : Session) (y : Session) (t' : TableAt
       → 0 < w.limits.stripes → IsClaim Lock (state_of w) step → (answer : Answer)
       → Does Lock w.limits.stripes w.counts step x w.table w.locks answer y t' locks'
       → Called w (caller_in (owner_of step)) x step answer y t' locks'
-  locked (steps.Begin c) at none some claims (answers.Began n) does =
-      same_world (Called w c x (steps.Begin c) (answers.Began n) y) w.table t' w.locks locks' does.2 does.3
-      (begun w tells c x at none n y does.0 does.1)
+  locked (steps.Begin c) at none some claims (answers.Began n) does = rw (does.2, does.3) (begun w tells c x at none n y does.0 does.1)
   locked (steps.Ask c op) at none some claims answer does = asked c op at none (grind arith) (no_words w.words claims) answer does
-  locked (steps.Seek c) at none some claims answers.Placed does =
-      subst (Called w c x (steps.Seek c) answers.Placed y t') (sym does.1) (sought_called w tells c x at none y t' does.0 keeps rises)
+  locked (steps.Seek c) at none some claims answers.Placed does = rw does.1 (sought_called w tells c x at none y t' does.0 keeps rises)
   locked (steps.Act c) at none some claims answer does = acted c at none answer does
   locked (steps.Save c) at none some claims answer does = saved_here c at none answer does.0 does.1 does.2
-  locked (steps.Back c n) at none some claims answers.Leaving does =
-      same_world (Called w c x (steps.Back c n) answers.Leaving y) w.table t' w.locks locks' does.1 does.2
-      (left w tells c x at n none y does.0)
+  locked (steps.Back c n) at none some claims answers.Leaving does = rw (does.1, does.2) (left w tells c x at n none y does.0)
   locked (steps.Commit c) at none some claims (answers.Committed p) does = committed w tells c x at none p y t' locks' does.0 does.1 does.2
-  locked (steps.Abort c) at none some claims answers.Leaving does =
-      subst (Called w c x (steps.Abort c) answers.Leaving y t') (sym does.1) (withdrawn w tells c x at none y t' does.0)
+  locked (steps.Abort c) at none some claims answers.Leaving does = rw does.1 (withdrawn w tells c x at none y t' does.0)
   locked _ at none some claims _ does = absurd does
 
   claimed : (claim : Claim) (step : Step) → slice_get w.sessions (caller_in (owner_of step)) ≡ Some x → refusal_of (state_of w) step ≡ None
@@ -107,7 +94,7 @@ takes w tells c x at step owner none callers some began done = record {
   goes = record {
     agrees = (tells.seated c x at).agrees;
     sought = tells.sought c x at;
-    due = subst (λ m. AreDue m (reverse x.log.jobs)) (sym tells.content) (tells.seated c x at).due;
+    due = rw tells.content (tells.seated c x at).due;
     withdraws = owns_if w.table (spare_if x.pending) (all_times w.sessions) (λ place stamp.
         omega (arith, most place stamp)) tells.spares;
     settles = (
@@ -135,9 +122,9 @@ pub placed_cursor : (claim : Claim) (stripes : ℕ) (counts : Counts) (step : St
 placed_cursor claim stripes counts step x t locks answer y t' locks' does is = at step (subst (λ a. Does claim stripes counts step x t locks a y t' locks') is does)
   where
     not_own : (own : Answer) (c : ℕ) (op : Op) → answers.Placed ≡ unless_busy own → IsAsked c (stripe_of stripes (key_of op)) op x t locks own y t' locks' → ⊥
-    not_own answers.Asked c op is does = cc (is)
-    not_own (answers.Busy holder) c op is does = cc (is)
-    not_own (answers.Refused refusal) c op is does = cc (is)
+    not_own answers.Asked c op is does = cc is
+    not_own (answers.Busy holder) c op is does = cc is
+    not_own (answers.Refused refusal) c op is does = cc is
     not_own _ c op is does = does
 
     never_placed : (claim : Claim) (c : ℕ) (op : Op) → AsksBy claim c (stripe_of stripes (key_of op)) op x t locks answers.Placed y t' locks' → ⊥
@@ -156,8 +143,8 @@ pub changes_there : (sessions : List Session) (c : ℕ) (x z : Session) → slic
 changes_there sessions c x z at some =
     let within = slice_get_within sessions c x at in
     let long = length-set sessions c z in
-    let there : slice_get (slice_set sessions c z) c ≡ Some z = index_at (slice_set sessions c z) c z (omega arith) (sym (get_or-set_same sessions c z z within)) in
-    ap (λ (o : Option (Option ℕ)). is_some (unwrap_or o None)) (slice_get-map session_changes (slice_set sessions c z) c ∙ ap (option_map session_changes) there) ∙ both z.cursor ∙ some
+    let there = index_at (slice_set sessions c z) c z (omega arith) (sym (get_or-set_same sessions c z z within)) in
+    rw (slice_get-map session_changes (slice_set sessions c z) c, there) (both z.cursor ∙ some)
   where
     both : (o : Option Cursor) → is_some (option_map cursor_changes o) ≡ is_some o
     both None = refl

@@ -1,6 +1,6 @@
 -- The jobs of a caller stay due while others work on other keys.
 use Rattle.std.proofs.Common.{◌≡◌, ℕ, ◌==◌, true, false, cond, List, [], ◌∷◌, ◌++◌, Option, Some, None, is_some, refl, sym, ap, subst, ◌∙◌, IsSome, map, reverse, option_to_list, nat_eq, eq-eqb, ne_eqb, append-nil, inl, inr}
-use Rattle.boost_core.proofs.Vocabulary.{option_eq, AllByRecursion, cases_Bool, cases_eq, reverse-append, SpareAt, Op, Put, Take, Get, PutIf, MapJob, Relink, Map, get, insert, key_of, reply_of, after, set_at, changes, same_map, get-insert-here, get-remove-here, get-set_at, after_unchanged, get-after_other, changes-reply, takes_node, key_of_job, value_before, IsDue, unput, relink, job_of, change_of, changes_of, AreDue}
+use Rattle.boost_core.proofs.Vocabulary.{option_eq, AllByRecursion, cases_Bool, cases_eq, reverse-append, SpareAt, Op, Put, Take, Get, PutIf, MapJob, Relink, Map, get, key_of, reply_of, after, set_at, changes, same_map, get-insert-here, get-remove-here, get-set_at, after_unchanged, get-after_other, changes-reply, takes_node, key_of_job, value_before, IsDue, unput, relink, job_of, change_of, changes_of, AreDue}
 
 -- Each job is of a key that passes the test.
 abbrev pub AllOf : (ℕ → Type 0) → List MapJob → Type 0

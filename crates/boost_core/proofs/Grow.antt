@@ -1,6 +1,6 @@
 -- The invariants of a core that hold when one caller's side changes.
 use Rattle.std.proofs.Common.{◌≡◌, ◌≢◌, ℕ, ◌+◌, ◌-◌, ◌<◌, ◌≤◌, true, cond, List, [], ◌∷◌, ◌++◌, length, get_or, set, Option, Some, None, refl, sym, ap, subst, ◌∙◌, arith, slice_get, slice_set, sum_by, reverse, length-set, get_or-set_same, get_or-set_other, ◌⊎◌, inl, inr, option_and_then}
-use Rattle.boost_core.proofs.Vocabulary.{AllByRecursion, cases_eq, slice_get_within, get_or_from_slice_get, slice_get-get_or, Entry, Map, get, caller_of, is_began, is_commit, now, Phase, Closed, LeavingTo, Seat, RoomySeat, row, seat_after, own, log_of, stripe_of, holder_of, IsLevelIn, seat_leveled, MapJob, TableAt, Cursor, content, IsPlaced, largest_of, helps_of, length-map, length-reverse, sum_by-set, get_or-le-sum_by, All-push, is_saved, IsLegal, runs, is_running, how_many-push, Next, seat-own, log_held, held_by, Counts, Session, Owner, holder_by, times_out, IsCovered, Side, side_of, level_of, target_in, target_of, KeepsPlaced, IsSought, IsSoughtAt, Waits, Agrees, change_of, times_kept, changes_of, AreDue, World, Tells, IsSeated, IsFresh, all_times}
+use Rattle.boost_core.proofs.Vocabulary.{cases_eq, slice_get_within, get_or_from_slice_get, slice_get-get_or, Entry, Map, get, caller_of, is_began, is_commit, now, Phase, Closed, LeavingTo, Seat, RoomySeat, row, seat_after, own, log_of, stripe_of, holder_of, IsLevelIn, seat_leveled, MapJob, TableAt, Cursor, content, IsPlaced, largest_of, helps_of, length-map, length-reverse, sum_by-set, get_or-le-sum_by, All-push, is_saved, IsLegal, is_running, how_many-push, Next, seat-own, log_held, held_by, Counts, Session, Owner, holder_by, IsCovered, Side, side_of, level_of, target_in, target_of, KeepsPlaced, IsSought, IsSoughtAt, Waits, Agrees, change_of, times_kept, changes_of, AreDue, World, Tells, IsSeated, IsFresh, all_times}
 use Rattle.txn_words.specs.declared.holder.Holder.{Holder}
 use Rattle.txn_trace.proofs.Entries.{length-log_of}
 use Rattle.boost_core.proofs.Due.{all_of_changes, due_same}

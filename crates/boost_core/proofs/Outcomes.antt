@@ -84,12 +84,8 @@ abbrev pub is_stale_word : Refusal → Bool
 is_stale_word StaleWord = true
 is_stale_word _ = false
 
-early_fresh : (refusal : Refusal) → is_late refusal ≡ false → is_stale_word refusal ≡ false
-early_fresh StaleWord early = absurd (false≢true (sym early))
-early_fresh _ early = refl
-
 next_early : (b : Bool) (first refusal : Refusal) (rest : Option Refusal) → is_late first ≡ false → (rest ≡ Some refusal → is_late refusal ≡ false) → cond b (Some first) rest ≡ Some refusal → is_late refusal ≡ false
-next_early true first refusal rest early later is = let same : first ≡ refusal = cc (is) in ap is_late (sym same) ∙ early
+next_early true first refusal rest early later is = let same : first ≡ refusal = cc is in rw same at early
 next_early false first refusal rest early later is = later is
 
 first_early : (tests : List (Bool × Refusal)) → AllByRecursion (λ (test : Bool × Refusal). is_late test.1 ≡ false) tests → (refusal : Refusal) → first_of tests ≡ Some refusal → is_late refusal ≡ false
@@ -130,20 +126,17 @@ early_or_lock _ state (steps.Ask c op) refusal claims is = inr (ask_early state 
 early_or_lock _ state _ refusal claims is = absurd claims
 
 pub fresh_or_lock : (claim : Claim) (state : State) (step : Step) (refusal : Refusal) → IsClaim claim state step → refusal_of state step ≡ Some refusal → (claim ≡ Lock) ⊎ (is_stale_word refusal ≡ false)
-fresh_or_lock claim state step refusal claims is = elim (early_or_lock claim state step refusal claims is) [
-  | inl lock ↦ inl lock
-  | inr early ↦ inr (early_fresh refusal early)
-]
+fresh_or_lock claim state step refusal claims is = elim (early_or_lock claim state step refusal claims is) [ inl lock ↦ inl lock | inr early ↦ inr (fresh refusal early) ]
+  where
+    fresh : (refusal : Refusal) → is_late refusal ≡ false → is_stale_word refusal ≡ false
+    fresh StaleWord early = absurd (false≢true (sym early))
+    fresh _ early = refl
 
 pub goes_refused : (claim : Claim) (state : State) (step : Step) (refusal : Refusal) → IsClaim claim state step → refusal_of state step ≡ Some refusal → Goes claim state step (answers.Refused refusal) state
 goes_refused claim state step refusal claims is = elim (early_or_lock claim state step refusal claims is) [
-  | inl lock ↦ subst (λ k. Goes k state step (answers.Refused refusal) state) (sym lock) (refused state step refusal is)
+  | inl lock ↦ rw lock (refused state step refusal is)
   | inr early ↦ goes_early claim state step refusal early (refused state step refusal is)
 ]
-
--- A statement about the table and the locks holds if both are unchanged.
-pub same_world : (P : TableAt → List (Option ℕ) → Type 0) (t t' : TableAt) (locks locks' : List (Option ℕ)) → t' ≡ t → locks' ≡ locks → P t locks → P t' locks'
-same_world P t t' locks locks' table same p = subst (λ u. P u locks') (sym table) (subst (λ l. P t l) (sym same) p)
 
 -- A step reserves at most three entries.
 pub reserved_few : (step : Step) → reserved step ≤ 3

@@ -1,6 +1,6 @@
 -- The parts of a table that are unchanged while spares are given back.
 use Rattle.std.proofs.Common.{◌≡◌, ℕ, ◌+◌, ◌<◌, ◌≤◌, true, List, [], ◌∷◌, ◌++◌, length, Option, None, is_some, length-append, refl, sym, ap, ◌∙◌, arith, inl, inr}
-use Rattle.boost_core.proofs.Vocabulary.{sum_by_push, cases_lt, false≢true, MapJob, TableAt, SpareAt, Follows, spare_of_job, OwnsIf, GivesBack, times_of, times_in, times_out, IsCovered, Rests}
+use Rattle.boost_core.proofs.Vocabulary.{sum_by_push, cases_lt, false≢true, MapJob, TableAt, SpareAt, Follows, spare_of_job, OwnsIf, GivesBack, times_of, times_in, IsCovered, Rests}
 use Rattle.boost_core.proofs.Spares.{owns_if, spent}
 
 pub rests_more : (t0 t t' : TableAt) (spare : Option SpareAt) → Rests t0 t → GivesBack t t' spare → Follows t t' → Rests t0 t'

@@ -1,6 +1,6 @@
 -- The spares that a caller keeps after its operation is done.
-use Rattle.std.proofs.Common.{◌≡◌, ℕ, ◌+◌, cond, List, [], ◌∷◌, ◌++◌, Option, Some, None, ap, ◌∙◌, arith, nat_eq, option_to_list, append-nil, inl, inr}
-use Rattle.boost_core.proofs.Vocabulary.{option_eq, cases_Bool, Op, Put, Take, Get, PutIf, get, Map, Unput, Restore, Relink, SpareAt, KeepsSpares, TableAt, MapJob, unput, relink, job_of, Spends, SpendsFor, times_of, times_in, times_out, IsCovered}
+use Rattle.std.proofs.Common.{◌≡◌, ℕ, ◌+◌, List, [], ◌∷◌, ◌++◌, Option, Some, None, ap, ◌∙◌, arith, nat_eq, option_to_list, append-nil, inl, inr}
+use Rattle.boost_core.proofs.Vocabulary.{option_eq, cases_Bool, Op, Put, Take, Get, PutIf, get, Map, Unput, Restore, Relink, SpareAt, KeepsSpares, TableAt, MapJob, unput, relink, job_of, Spends, SpendsFor, times_of, times_in, IsCovered}
 use Rattle.boost_core.proofs.Numbers.{no_more}
 use Rattle.boost_core.proofs.Settling.{times_more}
 use Rattle.boost_core.proofs.Spares.{spent, still_covered}

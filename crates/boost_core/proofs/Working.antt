@@ -1,6 +1,6 @@
 -- The steps by which callers work on the map.
 use Rattle.std.proofs.Common.{◌≡◌, ℕ, ◌+◌, ◌-◌, ◌<◌, ◌≤◌, true, cond, List, [], ◌∷◌, ◌++◌, length, Option, Some, None, is_some, refl, sym, ap, subst, ◌∙◌, arith, slice_get, slice_set, map, reverse, slice_index, nat_lt, option_to_list, ne_eqb, ltb-true}
-use Rattle.boost_core.proofs.Vocabulary.{AllByRecursion, false≢true, reverse-append, stripe_of, holder_of, TableAt, content, table_changes, serial, now, log_of, Phase, Opened, Waiting, LeavingTo, LeavingToEnd, Next, kept_at, MapJob, get, key_of, reply_of, after, set_at, Map, runs, is_running, changes, Seat, get-after_other, get-set_at, waiting_held, log_held, held_apart, takes_node, key_of_job, value_before, spare_of_job, job_of, PendingAt, Session, seat_in, holder_by, refusal_of, has_job, times_of, times_in, times_out, IsCovered, World, Tells, state_of, session_changes, IsReply, side_of, level_of, KeepsPlaced, Waits, spare_if, times_kept, change_of, changes_of, AreDue, DoesIn, TakesBackIn}
+use Rattle.boost_core.proofs.Vocabulary.{AllByRecursion, false≢true, reverse-append, stripe_of, holder_of, TableAt, content, table_changes, serial, now, log_of, Phase, Opened, Waiting, LeavingTo, LeavingToEnd, Next, kept_at, MapJob, get, key_of, reply_of, after, set_at, Map, runs, is_running, changes, Seat, get-after_other, get-set_at, waiting_held, log_held, held_apart, takes_node, key_of_job, value_before, spare_of_job, job_of, PendingAt, Session, seat_in, holder_by, refusal_of, has_job, times_of, times_in, IsCovered, World, Tells, state_of, session_changes, IsReply, side_of, level_of, KeepsPlaced, Waits, spare_if, times_kept, change_of, changes_of, AreDue, DoesIn, TakesBackIn}
 use Rattle.boost_core.proofs.Numbers.{no_more}
 use Rattle.boost_core.proofs.Moves.{Runs, runs_of}
 use Rattle.boost_core.proofs.Outcomes.{Called, entered}
