@@ -1,16 +1,15 @@
 -- An operation that is asked for.
 use Rattle.std.proofs.Common.{◌≡◌, ℕ, ◌+◌, ◌-◌, ◌^◌, ◌<◌, ◌==◌, ◌||◌, true, false, cond, List, [], ◌++◌, length, Option, Some, None, refl, sym, ap, subst, ◌∙◌, arith, slice_get, slice_set, map, nat_eq, not, eq-eqb, ne_eqb, append-nil, inl, inr, ◌⊎◌, option_map}
-use Rattle.boost_core.proofs.Vocabulary.{option_eq, slice_get_within, Op, Refusal, key_of, takes_node, PendingAt, Step, serial, now, Opened, Waiting, LeavingToEnd, RoomySeat, Next, TableAt, cursor_changes, map_of, nodes_of, false≢true, cases_eq, and_from, or_right, Now, stripe_of, is_locked, holder_of, same_is, is_locked-asked, is_locked-busy, Prepares, IsRefused, entries_of, held_by, Session, Owner, Caller, Helper, holder_by, refusal_of, has_stamp_for, MayLack, times_of, times_in, IsCovered, World, Tells, IsFresh, state_of, session_changes, gap_if, may_stand, Move, Claim, Lock, Goes, Side, side_of, KeepsPlaced, times_kept, StaysIn, AsksIn, MeetsIn}
+use Rattle.boost_core.proofs.Vocabulary.{option_eq, slice_get_within, Op, Refusal, key_of, takes_node, PendingAt, Step, serial, now, Opened, Waiting, LeavingToEnd, RoomySeat, TableAt, cursor_changes, map_of, nodes_of, false≢true, cases_eq, and_from, or_right, Now, stripe_of, is_locked, holder_of, same_is, is_locked-asked, is_locked-busy, Prepares, IsRefused, entries_of, held_by, Session, Owner, Caller, Helper, holder_by, refusal_of, has_stamp_for, MayLack, times_of, times_in, IsCovered, World, Tells, IsFresh, state_of, session_changes, gap_if, may_stand, Move, Claim, Lock, Goes, Side, side_of, KeepsPlaced, times_kept, StaysIn, AsksIn, MeetsIn}
 use Rattle.boost_core.proofs.Numbers.{no_more}
 use Rattle.boost_core.proofs.Moves.{Runs, changes_same, gaps_same, lacks, none_dropped}
 use Rattle.boost_core.proofs.Grow.{Stays, world_after, seated_as, set_cases}
 use Rattle.boost_core.proofs.Outcomes.{Comes, Called, CalledBy, entered}
-use Rattle.boost_core.proofs.Spares.{spent}
+use Rattle.boost_core.proofs.Spares.{spent, given_for, open_to}
 use Rattle.boost_core.proofs.Refused.{seat_free, three_tests}
 use Rattle.boost_core.proofs.Quiet.{idle_cursor, nothing_waits}
 use Rattle.boost_core.proofs.Gaps.{same_fits}
 use Rattle.boost_core.proofs.HelperGaps.{same_helper}
-use Rattle.boost_core.proofs.Given.{given_for, open_to}
 use Rattle.txn_words.specs.declared.refusal.Refusal.TheVariants as refusals
 use Rattle.txn_words.specs.declared.entry.Entry.TheVariants as entry
 use Rattle.txn_words.specs.declared.step.Step.TheVariants as steps
@@ -150,8 +149,7 @@ module _ (w : World) (tells : Tells w) (c : ℕ) (x : Session) (at : slice_get w
             holder = holder;
             side = asked_side;
             becomes = asks.becomes ∙ (λ i. record asked_side { cursor = no_cursor_there i });
-            next = subst (λ l. Next (holder_by w.words) w.limits.stripes w.history (entry.Asked c op) (record { phase = Waiting op; standing = x.seat.seat.standing; kept = x.seat.seat.kept }) l (serial w.history) (now w.history) holder)
-                (tells.seated c x at).log (laws.asked w.limits.stripes w.history tells.legal c op x.seat.seat (tells.seated c x at).seat opened locked);
+            next = rw (tells.seated c x at).log at (laws.asked w.limits.stripes w.history tells.legal c op x.seat.seat (tells.seated c x at).seat opened locked);
             mine = refl;
             saved = λ is. absurd (false≢true is);
             kept = (tells.seated c x at).agrees.kept;
@@ -212,8 +210,7 @@ module _ (w : World) (tells : Tells w) (c : ℕ) (x : Session) (at : slice_get w
             holder = λ s. holder_of w.limits.stripes s w.history;
             side = side_of x;
             becomes = meets.becomes ∙ (λ i. record (side_of x) { cursor = no_cursor_there i });
-            next = subst (λ l. Next (holder_by w.words) w.limits.stripes w.history (entry.Busy c op holder) (record { phase = LeavingToEnd; standing = x.seat.seat.standing; kept = x.seat.seat.kept }) l (serial w.history) (now w.history) (λ s. holder_of w.limits.stripes s w.history))
-                (tells.seated c x at).log (laws.busy w.limits.stripes w.history tells.legal c op holder x.seat.seat (tells.seated c x at).seat opened (stands words));
+            next = rw (tells.seated c x at).log at (laws.busy w.limits.stripes w.history tells.legal c op holder x.seat.seat (tells.seated c x at).seat opened (stands words));
             mine = refl;
             saved = λ is. absurd (false≢true is);
             kept = (tells.seated c x at).agrees.kept;

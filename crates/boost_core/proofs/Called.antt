@@ -1,10 +1,10 @@
 -- The outcome of each step of a caller.
-use Rattle.std.proofs.Common.{◌≡◌, ℕ, ◌+◌, ◌-◌, ◌^◌, ◌<◌, ◌≤◌, Bool, true, false, List, Option, Some, None, is_some, refl, sym, ap, subst, ◌∙◌, arith, slice_get, slice_set, map, inr, length-set, get_or-set_same, leb-false, option_map}
-use Rattle.boost_core.proofs.Vocabulary.{false≢true, slice_get_within, slice_get-map, Step, Answer, TableAt, Cursor, cursor_changes, table_changes, key_of, Op, stripe_of, Counts, Session, Caller, caller_changes, refusal_of, owner_of, Claim, Lock, Right, Held, Stale, IsClaim, times_in, World, Tells, state_of, session_changes, all_times, side_of, Does, ActsIn, Saves, IsAsked, AsksBy, unless_busy, KeepsPlaced, Takes, spare_if, times_kept}
+use Rattle.std.proofs.Common.{◌≡◌, ℕ, ◌+◌, ◌-◌, ◌^◌, ◌<◌, ◌≤◌, Bool, true, false, List, Option, Some, None, is_some, refl, sym, ap, subst, ◌∙◌, arith, slice_get, slice_set, map, inr, leb-false}
+use Rattle.boost_core.proofs.Vocabulary.{false≢true, slice_get_within, slice_get-map, Step, Answer, TableAt, table_changes, key_of, Op, stripe_of, Counts, Session, Caller, caller_changes, refusal_of, owner_of, Claim, Lock, Right, Held, Stale, IsClaim, times_in, World, Tells, state_of, session_changes, all_times, side_of, Does, ActsIn, Saves, IsAsked, AsksBy, unless_busy, KeepsPlaced, Takes, spare_if, times_kept}
 use Rattle.boost_core.proofs.Outcomes.{Called, CalledBy}
 use Rattle.boost_core.proofs.Spares.{owns_if}
 use Rattle.boost_core.proofs.Grow.{one_of_sum}
-use Rattle.boost_core.proofs.Refused.{caller_in, index_at, free, seat_free, cursor_free}
+use Rattle.boost_core.proofs.Refused.{caller_in, free, seat_free, cursor_free, set_here, noted_some}
 use Rattle.boost_core.proofs.Parting.{begun, saved, left, committed, withdrawn, returned, ended}
 use Rattle.boost_core.proofs.Asking.{asked_called, busy_called, ask_refused, save_refused}
 use Rattle.boost_core.proofs.Claims.{stale_called, held_called, word_stale_called}
@@ -141,11 +141,4 @@ placed_cursor claim stripes counts step x t locks answer y t' locks' does is = a
 -- The change number of the cursor of a caller whose side has changed.
 pub changes_there : (sessions : List Session) (c : ℕ) (x z : Session) → slice_get sessions c ≡ Some x → is_some z.cursor ≡ true → is_some (caller_changes (map session_changes (slice_set sessions c z)) c) ≡ true
 changes_there sessions c x z at some =
-    let within = slice_get_within sessions c x at in
-    let long = length-set sessions c z in
-    let there = index_at (slice_set sessions c z) c z (omega arith) (sym (get_or-set_same sessions c z z within)) in
-    rw (slice_get-map session_changes (slice_set sessions c z) c, there) (both z.cursor ∙ some)
-  where
-    both : (o : Option Cursor) → is_some (option_map cursor_changes o) ≡ is_some o
-    both None = refl
-    both (Some cursor) = refl
+    rw (slice_get-map session_changes (slice_set sessions c z) c, set_here sessions c z (slice_get_within sessions c x at)) (noted_some z.cursor ∙ some)

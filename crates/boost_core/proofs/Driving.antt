@@ -1,18 +1,66 @@
 -- A caller's call for help while nobody else takes steps on the core: the invariant of each phase
 -- of its drive, the number of steps left, a round of the call's loop, and its outcome.
-use Rattle.std.proofs.Common.{◌≡◌, ℕ, ◌+◌, ◌*◌, ◌-◌, ◌^◌, ◌%◌, ◌<◌, ◌≤◌, Bool, true, false, if◌then◌else◌, Option, Some, None, refl, sym, ap, subst, ◌∙◌, arith, nat_le, unwrap_or}
-use Rattle.boost_core.proofs.Vocabulary.{false≢true, Step, Answer, Drive, IsAncestor, mod_below, is_bad_key, Sizes, are_limits, Way, first_phase, step_in, sized_in, towards, told_help, told_init_seek, told_link, told_store, told_in, new_drive, step_of, sized_of, turn_in, ended_by, end_of, told_of, IsAncestor-root, child_towards-le, State, Helper, is_set, Move, IsWhole, IsOnWay, HelpSuits, is_ask, Drives, Helps, outcome_of}
+use Rattle.std.proofs.Common.{◌≡◌, ℕ, ◌+◌, ◌*◌, ◌-◌, ◌^◌, ◌%◌, ◌<◌, ◌≤◌, Bool, true, false, if◌then◌else◌, Option, Some, None, refl, sym, ap, subst, ◌∙◌, arith, nat_le, unwrap_or, ◌≢◌, inl, inr, zero, suc, pow_pos}
+use Rattle.boost_core.proofs.Vocabulary.{false≢true, Step, Answer, Drive, IsAncestor, mod_below, is_bad_key, Sizes, are_limits, Way, first_phase, step_in, sized_in, towards, told_help, told_init_seek, told_link, told_store, told_in, new_drive, step_of, sized_of, turn_in, ended_by, end_of, told_of, IsAncestor-root, child_towards-le, State, Helper, is_set, Move, IsWhole, IsOnWay, HelpSuits, is_ask, Drives, Helps, outcome_of, cases_lt, parent_of, highest_cleared, child_within, child_towards, parent_of-zero, parent_of-child_towards}
 use Rattle.txn_drive.specs.declared.call.Call.{Call}
 use Rattle.txn_drive.specs.declared.phase.Phase.{Phase}
 use Rattle.boost_core.proofs.InStep.{Sized, sized, is_double, at_towards, at_heading, at_refused, at_double, Reaches, double_reaches, seek_reaches, link_reaches, store_reaches, help_suits_told}
-use Rattle.boost_core.proofs.Ways.{rises}
 use Rattle.boost_core.proofs.Moves.{just_placed}
 use Rattle.boost_core.proofs.Refused.{le_false}
+use Rattle.std.proofs.lemmas.Bool.Decides.{eqb_tells, leb_tells}
 use Rattle.txn_words.specs.declared.step.Step.TheVariants as steps
 use Rattle.txn_words.specs.declared.answer.Answer.TheVariants as answers
 use Rattle.txn_words.specs.declared.refusal.Refusal.TheVariants as refusals
 use Rattle.txn_drive.specs.declared.call.Call.TheVariants as calls
 use Rattle.txn_drive.specs.declared.phase.Phase.TheVariants as phases
+
+-- A number without its highest 1 bit is less.
+cleared_less : (width number : ℕ) → 0 < number → number < 2 ^ width → highest_cleared width number < number
+unfolding highest_cleared
+cleared_less zero number some small = omega arith
+cleared_less (suc width) number some small =
+    elim (leb_tells (2 ^ width) number) [
+      | inl over ↦ rw (over.0) (omega (arith, pow_pos width))
+      | inr under ↦ rw (under.0) (cleared_less width number some (omega arith))
+    ]
+
+parent_less : (bucket : ℕ) → 0 < bucket → bucket < 2 ^ 32 → parent_of bucket < bucket
+unfolding parent_of
+parent_less bucket some small = cleared_less 32 bucket some small
+
+-- The bucket that follows bucket 0 is not bucket 0.
+child_some : (rounds bucket : ℕ) → 0 < bucket → 0 < child_within rounds 0 bucket
+unfolding child_within
+child_some zero bucket some = some
+child_some (suc rounds) bucket some =
+    elim (eqb_tells (parent_of bucket) 0) [
+      | inl found ↦ rw (found.0) some
+      | inr missed ↦
+          rw (missed.0) (elim (cases_lt 0 (parent_of bucket)) [
+            | inl less ↦ child_some rounds (parent_of bucket) less
+            | inr none ↦ absurd (missed.1 (omega arith))
+          ])
+    ]
+
+child_root : (bucket : ℕ) → 0 < bucket → 0 < child_towards 0 bucket
+unfolding child_towards
+child_root bucket some = child_some 32 bucket some
+
+-- Each bucket on the way is greater than the one before it.
+pub rises : (last bucket : ℕ) → bucket < 2 ^ 32 → IsAncestor last bucket → last ≢ bucket → last < child_towards last bucket
+rises last bucket small is other =
+    let parent = parent_of-child_towards last bucket small is other in
+    let most = child_towards-le last bucket in
+    elim (cases_lt 0 (child_towards last bucket)) [
+      | inl some ↦ rw parent at (parent_less (child_towards last bucket) some (omega arith))
+      | inr none ↦
+          let at_root : child_towards last bucket ≡ 0 = omega arith in
+          let last_root : last ≡ 0 = sym parent ∙ ap parent_of at_root ∙ parent_of-zero in
+          elim (cases_lt 0 bucket) [
+            | inl more ↦ let some = child_root bucket more in absurd (omega (arith, rw last_root at at_root))
+            | inr fewer ↦ absurd (other (omega arith))
+          ]
+    ]
 
 -- The cursor with which a dummy is to be linked is the one placed last.
 abbrev pub IsPlaced : State → ℕ → Phase → Type 0

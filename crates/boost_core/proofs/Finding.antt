@@ -1,9 +1,9 @@
 -- The seek of a caller, and an act at a cursor that no longer fits.
 use Rattle.std.proofs.Common.{◌≡◌, ℕ, ◌+◌, ◌-◌, ◌^◌, ◌<◌, ◌≤◌, true, false, [], ◌++◌, length, Option, Some, None, refl, sym, ap, subst, ◌∙◌, slice_get, slice_set, map, ne_eqb, inl, inr, option_map}
 use Rattle.boost_core.proofs.Vocabulary.{false≢true, cases_eq, and_from, slice_get_within, fits, TableAt, Cursor, cursor_changes, map_of, table_changes, IsPlaced, Session, Owner, Caller, Helper, seat_in, refusal_of, has_target, World, Tells, IsFresh, state_of, session_changes, is_just_placed, may_be_stale, side_of, target_in, target_of, IsPlacedFor, IsSoughtAt, KeepsPlaced, Waits, times_kept, SeeksIn, Drops}
-use Rattle.boost_core.proofs.Moves.{keeps_runs, runs_same, state_is, changes_set, stale_since}
+use Rattle.boost_core.proofs.Moves.{keeps_runs, runs_same, state_is, changes_set, stale_since, move_is}
 use Rattle.boost_core.proofs.Grow.{world_after, seated_as, set_cases}
-use Rattle.boost_core.proofs.Outcomes.{Called, move_is}
+use Rattle.boost_core.proofs.Outcomes.{Called}
 use Rattle.boost_core.proofs.Spares.{still_covered}
 use Rattle.boost_core.proofs.Refused.{seat_here, changes_here}
 use Rattle.txn_words.specs.declared.step.Step.TheVariants as steps

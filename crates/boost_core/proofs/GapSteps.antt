@@ -1,7 +1,7 @@
 -- The effect of each step of a caller on the cursors.
-use Rattle.std.proofs.Common.{◌≡◌, ◌≢◌, ℕ, inl, inr, List, length, set, Option, Some, is_some, sym, ap, subst, ◌∙◌, arith, map, slice_get, slice_set, length-set, get_or-set_same, get_or-set_other}
+use Rattle.std.proofs.Common.{◌≡◌, ◌≢◌, ℕ, inl, inr, List, length, set, Option, Some, is_some, sym, ap, subst, ◌∙◌, arith, map, slice_get, slice_set, length-set, get_or-set_other}
 use Rattle.boost_core.proofs.Vocabulary.{cases_lt, regular_at, Op, key_of, stripe_of, Refusal, Step, Answer, nodes_of, IsSound, slice_get_within, slice_get_past, slice_get-get_or, Session, State, Gap, Caller, Helper, gap_in, gap_for, owner_of, Claim, Lock, Right, AreNeighbours, Cursors, Fits, KeepsGaps, StandsAt, mover_of, next_key, Side, Does, ActsIn, SeeksIn, IsAsked, AsksBy, World, Tells, state_of, nodes_at, gap_by, gap_if}
-use Rattle.boost_core.proofs.Refused.{index_at}
+use Rattle.boost_core.proofs.Refused.{set_here}
 use Rattle.boost_core.proofs.Moves.{gaps_same}
 use Rattle.boost_core.proofs.NodeSteps.{next_is}
 use Rattle.boost_core.proofs.GapLists.{Stay}
@@ -36,15 +36,9 @@ set_other sessions c d z other = elim (cases_lt d (length sessions)) [
       slice_get_past (set sessions c z) d (omega arith) ∙ sym (slice_get_past sessions d past)
 ]
 
-set_here : (sessions : List Session) (c : ℕ) (x z : Session) → slice_get sessions c ≡ Some x → slice_get (slice_set sessions c z) c ≡ Some z
-set_here sessions c x z at =
-    let within = slice_get_within sessions c x at in
-    let long = length-set sessions c z in
-    index_at (slice_set sessions c z) c z (omega arith) (sym (get_or-set_same sessions c z z within))
-
 module _ (w : World) (tells : Tells w) (c : ℕ) (x : Session) (at : slice_get w.sessions c ≡ Some x) (w' : World) (y z : Session) (same : z.cursor ≡ y.cursor) (sides : w'.sessions ≡ slice_set w.sessions c z) (sound : IsSound w'.table.list) (locks' : List (Option ℕ)) where
   here : slice_get w'.sessions c ≡ Some z
-  here = ap (λ ss. slice_get ss c) sides ∙ set_here w.sessions c x z at
+  here = ap (λ ss. slice_get ss c) sides ∙ set_here w.sessions c z (slice_get_within w.sessions c x at)
 
   -- A refusal leaves the caller's cursor and the nodes unchanged.
   asked_stays : (claim : Claim) (d stripe : ℕ) (op : Op) (refusal : Refusal) → AsksBy claim d stripe op x w.table w.locks (answers.Refused refusal) y w'.table locks' → (y.cursor ≡ x.cursor) × (nodes_of w'.table ≡ nodes_of w.table)

@@ -1,13 +1,13 @@
 -- The steps of the table and of its helpers.
 use Rattle.std.proofs.Common.{◌≡◌, ◌≢◌, ℕ, ◌≤◌, ◌&&◌, Bool, true, false, cond, List, [], ◌++◌, length, Option, Some, None, Result, Ok, Err, refl, sym, ap, subst, ◌∙◌, arith, slice_get, slice_set, unwrap_or, map, nat_le, not, le-leb, append-nil, inl, inr}
-use Rattle.boost_core.proofs.Vocabulary.{false≢true, cases_lt, slice_get_within, slice_get-get_or, unwrap_or-slice_get, InitSeek, Refusal, Entry, Step, Answer, InitRefusal, is_stored, answer_for, seek_answer, store_answer, LacksSegment, TableAt, Help, Nothing, Sought, Dummy, Follows, Keeps, KeepsList, KeepsSpares, content, map_of, regular, size_of, stored_of, linked_of, helps_of, table_changes, last_of, largest_of, State, Owner, Helper, is_set, help_in, bucket_at, refusal_of, has_dummy, keeps_list, Move, IsAllowed, World, Tells, IsFresh, state_of, session_changes, nodes_at, gap_by, helper_gaps_of, all_times, Idle, Holding, with_helper, Seeks, Stores}
+use Rattle.boost_core.proofs.Vocabulary.{false≢true, cases_lt, slice_get_within, slice_get-get_or, unwrap_or-slice_get, InitSeek, Refusal, Step, Answer, InitRefusal, is_stored, answer_for, seek_answer, store_answer, LacksSegment, TableAt, Help, Nothing, Sought, Dummy, Follows, Keeps, KeepsList, KeepsSpares, map_of, regular, size_of, stored_of, linked_of, helps_of, table_changes, last_of, largest_of, State, Owner, Helper, is_set, help_in, bucket_at, refusal_of, has_dummy, keeps_list, Move, IsAllowed, World, Tells, IsFresh, state_of, session_changes, nodes_at, gap_by, helper_gaps_of, all_times, Idle, Holding, with_helper, Seeks, Stores}
 use Rattle.map_ops.specs.Buckets.{parent_of}
 use Rattle.boost_core.specs.Answers.{after}
 use Rattle.boost_core.proofs.Tables.{Becomes, help_is, idle_becomes, sought_becomes, stored_becomes}
 use Rattle.boost_core.proofs.Spares.{still_covered}
 use Rattle.boost_core.proofs.Refused.{le_false}
 use Rattle.boost_core.proofs.Grow.{table_stayed}
-use Rattle.boost_core.proofs.Moves.{keeps_runs, refused, lacks, state_is}
+use Rattle.boost_core.proofs.Moves.{keeps_runs, refused, lacks, state_is, move_is, Runs}
 use Rattle.map_ops.specs.InitSeek.TheVariants as seeks
 use Rattle.bucket_table.specs.declared.answer.InitRefusal.TheVariants as inits
 use Rattle.txn_words.specs.declared.refusal.Refusal.TheVariants as refusals
@@ -18,17 +18,13 @@ use Rattle.txn_words.specs.declared.answer.Answer.TheVariants as answers
 abbrev pub served : World → TableAt → Option Owner → World
 served w t' placed' = record { limits = w.limits; history = w.history; counts = w.counts; table = t'; sessions = w.sessions; locks = w.locks; placed = placed'; words = w.words }
 
--- The content is determined by the pairs.
-pub same_content : (t t' : TableAt) → regular t' ≡ regular t → content t' ≡ content t
-same_content t t' same = ap map_of same
-
 -- The invariants of a core still hold if the pairs, the spares, the largest size and the number of
 -- helpers are unchanged.
 pub tells_table : (w : World) → Tells w
     → (t' : TableAt) (placed' : Option Owner) → regular t' ≡ regular w.table → Follows w.table t' → KeepsSpares w.table t' → largest_of t' ≡ largest_of w.table → length (helps_of t') ≡ length (helps_of w.table) → IsFresh t' w.sessions placed'
     → Tells (served w t' placed')
 tells_table w tells t' placed' same follows spares largest helpers fresh =
-    table_stayed w tells t' placed' (same_content w.table t' same) (record { placed = follows.placed; sound = follows.list.sound })
+    table_stayed w tells t' placed' (ap map_of same) (record { placed = follows.placed; sound = follows.list.sound })
     (still_covered w.table t' (all_times w.sessions) spares tells.spares) largest helpers fresh
 
 -- Sweep.
@@ -37,34 +33,17 @@ pub sweep_tells : (w : World) → Tells w
 sweep_tells w tells t' keeps spares follows =
     tells_table w tells t' None keeps.regular follows spares keeps.buckets.largest (ap length keeps.buckets.helps) tt
 
-append_none : (h : List Entry) → h ≡ h ++ []
-append_none h = sym (append-nil h)
+module _ (w : World) (t' : TableAt) (keeps : Keeps w.table t') (rises : table_changes w.table ≤ table_changes t') where
+  runs : Runs w.table t'
+  runs = keeps_runs w.table t' keeps rises
 
-pub swept_move : (w : World) (t' : TableAt) → Keeps w.table t' → table_changes w.table ≤ table_changes t'
-    → Move (state_of w) steps.Sweep answers.Swept (state_of (served w t' None))
-swept_move w t' keeps rises =
-    let runs = keeps_runs w.table t' keeps rises in
-    record {
-      allowed = (refl, tt);
-      state = state_is w w.history (w.history ++ []) w.counts t' (map session_changes w.sessions) w.sessions w.locks None runs (append_none w.history) refl;
-      changes = rises;
-      list_kept = λ kept. absurd (false≢true kept);
-      stamp = runs.last;
-      one_stamp = runs.one_last;
-    }
+  pub swept_move : Move (state_of w) steps.Sweep answers.Swept (state_of (served w t' None))
+  swept_move = move_is w (served w t' None) steps.Sweep answers.Swept (refl, tt)
+      (state_is w w.history (w.history ++ []) w.counts t' (map session_changes w.sessions) w.sessions w.locks None runs (sym (append-nil w.history)) refl) runs (λ kept. absurd (false≢true kept))
 
-pub clean_move : (w : World) (t' : TableAt) → Keeps w.table t' → table_changes t' ≡ table_changes w.table
-    → Move (state_of w) steps.Sweep answers.Clean (state_of (served w t' None))
-clean_move w t' keeps stays =
-    let runs = keeps_runs w.table t' keeps (omega arith) in
-    record {
-      allowed = (refl, tt);
-      state = state_is w w.history (w.history ++ []) w.counts t' (map session_changes w.sessions) w.sessions w.locks None runs (append_none w.history) refl;
-      changes = runs.rises;
-      list_kept = λ kept. stays;
-      stamp = runs.last;
-      one_stamp = runs.one_last;
-    }
+  pub clean_move : table_changes t' ≡ table_changes w.table → Move (state_of w) steps.Sweep answers.Clean (state_of (served w t' None))
+  clean_move stays = move_is w (served w t' None) steps.Sweep answers.Clean (refl, tt)
+      (state_is w w.history (w.history ++ []) w.counts t' (map session_changes w.sessions) w.sessions w.locks None runs (sym (append-nil w.history)) refl) runs (λ kept. stays)
 
 -- The invariants of a core, if only the buckets and the helpers change.
 pub becomes_tells : (w : World) → Tells w
@@ -96,7 +75,7 @@ pub becomes_state : (w : World) (t' : TableAt) (placed' : Option Owner) (size : 
       helper_gaps = helper_gaps_of t';
     }
 becomes_state w t' placed' size stored linked helps becomes = λ i. record (state_of w) {
-  history = append_none w.history i;
+  history = sym (append-nil w.history) i;
   size = becomes.size_is i;
   stored = becomes.stored_is i;
   linked = becomes.linked_is i;

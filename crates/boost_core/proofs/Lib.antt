@@ -1,10 +1,7 @@
 pub mod Vocabulary
 pub mod Spares
 pub mod Due
-pub mod Owing
-pub mod Powers
 pub mod Grow
-pub mod Settling
 pub mod Beginners
 pub mod Refused
 pub mod Sides
@@ -16,10 +13,8 @@ pub mod Named
 pub mod Outcomes
 pub mod Quiet
 pub mod Parting
-pub mod SparesKept
 pub mod Working
 pub mod Finding
-pub mod Given
 pub mod Asking
 pub mod NodeLists
 pub mod NodeSteps
@@ -38,6 +33,5 @@ pub mod Helping
 pub mod Linking
 pub mod Serving
 pub mod Calls
-pub mod Ways
 pub mod InStep
 pub mod Driving

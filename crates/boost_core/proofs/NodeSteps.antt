@@ -1,12 +1,12 @@
 -- The effect of each step on the nodes, the change number and the last stamp.
-use Rattle.std.proofs.Common.{◌≡◌, ◌⊎◌, ℕ, ◌-◌, ◌%◌, ◌<◌, Bool, true, false, cond, List, [], ◌∷◌, ◌++◌, length, Option, Some, None, is_some, inl, inr, refl, sym, ap, subst, ◌∙◌, arith, reverse, slice_get, unwrap_or, nat_lt, nat_eq, IsSome, ltb-true, option_map}
+use Rattle.std.proofs.Common.{◌≡◌, ◌⊎◌, ℕ, ◌-◌, ◌%◌, ◌<◌, Bool, true, false, List, [], ◌∷◌, ◌++◌, length, Option, Some, None, is_some, inl, inr, refl, sym, ap, subst, ◌∙◌, reverse, slice_get, unwrap_or, nat_lt, nat_eq, IsSome, option_map}
 use Rattle.boost_core.proofs.Vocabulary.{option_eq, false≢true, cases_Bool, slice_get-map, unwrap_or-slice_get, regular_at, Op, Put, Take, Get, PutIf, Refusal, Step, Answer, Phase, Waiting, LeavingTo, LeavingToEnd, Map, get, key_of, now, log_of, stripe_of, Seat, kept_at, newest_above, MapJob, Unput, Restore, Relink, length-map, reverse-append, ancestor_of, NodeAt, changes_after, sought, IsDummyAt, PendingAt, key_of_job, value_before, takes_node, IsDue, TableAt, SpareAt, KeepsNodes, KeepsList, NamesDummies, content, nodes_of, size_of, stored_of, table_changes, last_of, SeeksNear, IsRefused, Session, State, Caller, is_set, seat_in, owner_of, Touches, stamp_after, Writes, Links, Marks, SeeksFrom, SeeksKey, IsNearest, Changes, PutsIf, OpDoes, OpDoesIn, BackDoes, Lists, key_in, next_key, newest_key, Does, ActsIn, DoesIn, TakesBackIn, SeeksIn, IsAsked, AsksBy, unless_busy, Waits, AreDue, key_of_newest, target_in, target_of, changes_of, Claim, Lock, Right, IsClaim, ListsAsk, ListsBy, stamp_by, World, Tells, state_of, node_at}
 use Rattle.boost_core.specs.Nodes.{Keeps}
-use Rattle.boost_core.proofs.Given.{given_for}
+use Rattle.boost_core.proofs.Spares.{given_for}
 use Rattle.boost_core.proofs.NodeLists.{seen, inserted, replaced, written_seen, seeks_from}
 use Rattle.boost_core.proofs.Outcomes.{is_stale_word}
 use Rattle.boost_core.proofs.Refused.{caller_in, seat_here}
-use Rattle.boost_core.proofs.Sides.{last_job, at_last, changes_last, waiting_op}
+use Rattle.boost_core.proofs.Sides.{changes_last, waiting_op, newest_is}
 use Rattle.bucket_table.specs.Directory as directories
 use Rattle.txn_words.specs.declared.refusal.Refusal.TheVariants as refusals
 use Rattle.txn_words.specs.declared.step.Step.TheVariants as steps
@@ -146,12 +146,9 @@ module _ (w : World) (tells : Tells w) (c : ℕ) (x : Session) (at : slice_get w
   newest_first : (level : ℕ) (key : ℕ) → key_of_newest (newest_above x.log level) ≡ Some key → newest_key (changes_of x.log.jobs) ≡ key
   newest_first level key is = elim (cases_Bool (nat_lt (kept_at x.log.kept level) (length x.log.jobs))) [
     | inl more ↦
-        let above : kept_at x.log.kept level < length x.log.jobs = ltb-true (kept_at x.log.kept level) (length x.log.jobs) more in
-        let last = last_job x.log.jobs (omega arith) in
-        let newest : newest_above x.log level ≡ Some last.job = ap (λ (b : Bool). cond b (slice_get x.log.jobs (length x.log.jobs - 1)) None) more ∙ at_last x.log.jobs last.front last.job last.is in
-        let both : Some (key_of_job last.job) ≡ Some key = sym (ap key_of_newest newest) ∙ is in
-        ap newest_key (changes_last x.log.jobs last.front last.job last.is) ∙ cc (both)
-    | inr none ↦ absurd (let both : None ≡ Some key = sym (ap key_of_newest (ap (λ (b : Bool). cond b (slice_get x.log.jobs (length x.log.jobs - 1)) None) none)) ∙ is in cc (both))
+        let newest = newest_is x.log level more in
+        ap newest_key (changes_last x.log.jobs newest.0.front newest.0.job newest.0.is) ∙ cc (rw newest.1 at is)
+    | inr none ↦ absurd (cc (rw none at is))
   ]
 
   key_is : (q : Phase) (key : ℕ) → target_in q x.log ≡ Some key → key_in q (changes_of x.log.jobs) ≡ key

@@ -1,6 +1,7 @@
--- The counts stay below the length of the history.
-use Rattle.std.proofs.Common.{◌≡◌, ◌+◌, ◌≤◌, ℕ, Bool, true, false, Result, Ok, Err, List, length, arith, is_err, OnOk, OnErr}
-use Rattle.boost_core.proofs.Vocabulary.{length-filter, count_by-le-length, Entry, is_began, is_commit, how_many, World, Tells}
+-- The counts stay below the length of the history, and the entries that the callers' sides owe
+-- together are those that the history says.
+use Rattle.std.proofs.Common.{◌≡◌, ◌+◌, ◌≤◌, ℕ, Bool, true, false, Result, Ok, Err, List, length, arith, is_err, OnOk, OnErr, suc, [], ◌∷◌, Some, refl, sym, ap, ◌∙◌, slice_get, sum_by}
+use Rattle.boost_core.proofs.Vocabulary.{length-filter, count_by-le-length, Entry, is_began, is_commit, how_many, World, Tells, range_with_len, sum_by-cons, seat_after, own, owed_by, owed, owed_of}
 
 how_many_bound : (test : Entry → Bool) (h : List Entry) → how_many test h ≤ length h
 how_many_bound test h = omega (arith, length-filter test h, count_by-le-length test h)
@@ -24,3 +25,21 @@ when_ok (Err e) fine p = absurd (cc (fine))
 pub when_err : {A E P : Type 0} (r : Result A E) → true ≡ is_err r → OnErr r P → P
 when_err (Ok a) wrong p = absurd (cc (wrong))
 when_err (Err e) wrong p = p
+
+-- A sum over the positions of a list, if each summand is that of the element.
+sum_of_places : {X : Type 0} (f : ℕ → ℕ) (g : X → ℕ) (a : ℕ) (xs : List X) → ((i : ℕ) (x : X) → slice_get xs i ≡ Some x → f (a + i) ≡ g x) → sum_by f (range_with_len a (length xs)) ≡ sum_by g xs
+sum_of_places f g a [] same = refl
+sum_of_places f g a (x ∷ xs) same =
+    let here : a ≡ a + 0 = omega arith in
+    let first : f a ≡ g x = ap f here ∙ same 0 x refl in
+    let later : (i : ℕ) → a + 1 + i ≡ a + suc i = λ i. omega arith in
+    let rest : sum_by f (range_with_len (a + 1) (length xs)) ≡ sum_by g xs = sum_of_places f g (a + 1) xs (λ i y at. ap f (later i) ∙ same (suc i) y at) in
+    sum_by-cons f a (range_with_len (a + 1) (length xs)) ∙ ap (λ n. n + sum_by f (range_with_len (a + 1) (length xs))) first ∙ ap (λ n. g x + n) rest ∙ sym (sum_by-cons g x xs)
+
+from_none : (c : ℕ) → 0 + c ≡ c
+from_none c = omega arith
+
+pub owed_is : (w : World) → Tells w → owed w.limits.callers w.history ≡ sum_by owed_of w.sessions
+owed_is w tells =
+    ap (λ n. sum_by (λ c. owed_by (seat_after (own c w.history))) (range_with_len 0 n)) (sym tells.count)
+    ∙ sum_of_places (λ c. owed_by (seat_after (own c w.history))) owed_of 0 w.sessions (λ c s at. ap (λ k. owed_by (seat_after (own k w.history))) (from_none c) ∙ ap owed_by (tells.seated c s at).seat)

@@ -5,7 +5,7 @@ use Rattle.txn_trace.proofs.Room.{reserved_for, reserved_enough, owed_by-row}
 use Rattle.boost_core.specs.Answers.{after}
 use Rattle.boost_core.specs.Adding.{Enters, CanAdd}
 use Rattle.boost_core.proofs.Named.{grown_small}
-use Rattle.boost_core.proofs.Moves.{Runs, lacks, refused, state_is, changes_set}
+use Rattle.boost_core.proofs.Moves.{Runs, lacks, refused, state_is, changes_set, move_is}
 use Rattle.boost_core.proofs.Grow.{Grows, Stays, world_after, seated_as, row_there, grown, stayed, sum_changed, one_of_sum}
 use Rattle.txn_words.specs.declared.step.Step.TheVariants as steps
 use Rattle.txn_words.specs.declared.answer.Answer.TheVariants as answers
@@ -25,18 +25,6 @@ pub record CalledBy (claim : Claim) (w : World) (c : ℕ) (x : Session) (step : 
 -- A step that claims no word.
 abbrev pub Called : World → ℕ → Session → Step → Answer → Session → TableAt → List (Option ℕ) → Type 0
 Called w c x step answer y t' locks' = CalledBy Lock w c x step answer y t' locks'
-
--- A move, from the answer, the state after it, and the changes to the table.
-pub move_is : (w w' : World) (step : Step) (answer : Answer) → IsAllowed (state_of w) step answer → state_of w' ≡ record (after (state_of w) step answer (table_changes w'.table) (last_of w'.table)) { nodes = nodes_at w'.table; gaps = map (gap_by w'.table) w'.sessions; helper_gaps = helper_gaps_of w'.table } → Runs w.table w'.table
-    → (keeps_list answer ≡ true → table_changes w'.table ≡ table_changes w.table) → Move (state_of w) step answer (state_of w')
-move_is w w' step answer allowed is runs kept = record {
-  allowed = allowed;
-  state = is;
-  changes = runs.rises;
-  list_kept = kept;
-  stamp = runs.last;
-  one_stamp = runs.one_last;
-}
 
 -- The outcome of a step that adds an entry and places no cursor.
 pub entered : (w : World) (c : ℕ) (x y : Session) (t' : TableAt) (locks' : List (Option ℕ)) (step : Step) (answer : Answer) (e : Entry)

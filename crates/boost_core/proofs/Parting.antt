@@ -5,7 +5,7 @@ use Rattle.txn_trace.proofs.Settled.{settled}
 use Rattle.boost_core.proofs.Numbers.{no_more}
 use Rattle.boost_core.proofs.Moves.{runs_same, rests_runs, none_dropped}
 use Rattle.boost_core.proofs.Outcomes.{Called, entered}
-use Rattle.boost_core.proofs.Settling.{no_jobs}
+use Rattle.boost_core.proofs.Spares.{no_jobs}
 use Rattle.boost_core.proofs.Refused.{seat_here, seat_free, begin_closed, three_tests, back_open, commit_open, abort_runs}
 use Rattle.boost_core.proofs.Quiet.{idle_cursor, nothing_waits, quiet, level_in, released_holders, no_newest}
 use Rattle.txn_words.specs.declared.entry.Entry.TheVariants as entry
@@ -113,8 +113,7 @@ module _ (w : World) (tells : Tells w) (c : ℕ) (x : Session) (at : slice_get w
         holder = λ s. holder_of w.limits.stripes s w.history;
         side = record (side_of x) { pending = None };
         becomes = ap side_of leaves.becomes;
-        next = subst (λ l. Next (holder_by w.words) w.limits.stripes w.history (entry.Leave c None) (record { phase = LeavingToEnd; standing = x.seat.seat.standing; kept = x.seat.seat.kept }) l (serial w.history) (now w.history) (λ s. holder_of w.limits.stripes s w.history))
-            (tells.seated c x at).log (law x.seat.seat.phase refl parts.0 parts.1);
+        next = rw (tells.seated c x at).log at (law x.seat.seat.phase refl parts.0 parts.1);
         mine = refl;
         saved = λ is. absurd (false≢true is);
         kept = (tells.seated c x at).agrees.kept;

@@ -1,5 +1,5 @@
 -- The refusals of a caller's step, from its side and from the machine's state.
-use Rattle.std.proofs.Common.{◌≡◌, ℕ, ◌<◌, Bool, true, false, cond, List, [], ◌∷◌, ◌++◌, length, get_or, Option, Some, None, is_some, refl, sym, ap, ◌∙◌, arith, nat_le, not, map, slice_get, unwrap_or, leb-false, option_map}
+use Rattle.std.proofs.Common.{◌≡◌, ℕ, ◌<◌, Bool, true, false, cond, List, [], ◌∷◌, ◌++◌, length, get_or, Option, Some, None, is_some, refl, sym, ap, ◌∙◌, arith, nat_le, not, map, slice_get, unwrap_or, leb-false, option_map, length-set, slice_set, get_or-set_same}
 use Rattle.boost_core.proofs.Vocabulary.{lt-leb, not-false, false≢true, slice_get-map, slice_get-get_or, Refusal, Step, Phase, Closed, Opened, Waiting, Seat, closed_seat, TableAt, Cursor, cursor_changes, NoSuchCaller, Unplaced, Begin, Act, Back, Commit, Abort, Session, State, Owner, Caller, seat_in, caller_changes, owner_of, is_closed, is_waiting, is_leaving, tests_in, tests_of, first_of, refusal_in, refusal_of, lacks_in, lacks_cursor, IsSoughtAt, World, Tells, state_of, session_changes}
 
 -- The first option, or the second if there is none.
@@ -91,6 +91,11 @@ pub no_cursor : (t : TableAt) (cursor : Option Cursor) → IsSoughtAt t cursor N
 no_cursor t None sought = refl
 no_cursor t (Some cursor) sought = absurd sought
 
+-- A cursor has a change number.
+pub noted_some : (o : Option Cursor) → is_some (option_map cursor_changes o) ≡ is_some o
+noted_some None = refl
+noted_some (Some cursor) = refl
+
 module _ (w : World) (tells : Tells w) (c : ℕ) (x : Session) (at : slice_get w.sessions c ≡ Some x) where
   -- A caller's seat and its cursor's change number are the machine's.
   pub seat_here : seat_in w.history c ≡ x.seat.seat
@@ -100,11 +105,7 @@ module _ (w : World) (tells : Tells w) (c : ℕ) (x : Session) (at : slice_get w
   changes_here = ap (λ o. unwrap_or o None) (slice_get-map session_changes w.sessions c ∙ ap (option_map session_changes) at)
 
   pub changes_is_some : is_some (caller_changes (map session_changes w.sessions) c) ≡ is_some x.cursor
-  changes_is_some = ap is_some changes_here ∙ both x.cursor
-    where
-      both : (o : Option Cursor) → is_some (option_map cursor_changes o) ≡ is_some o
-      both None = refl
-      both (Some cursor) = refl
+  changes_is_some = ap is_some changes_here ∙ noted_some x.cursor
 
   -- The refusal of a step, from the caller's side.
   pub refusal_here : (step : Step) → owner_of step ≡ Some (Caller c) → nat_le w.limits.callers c ≡ false
@@ -126,13 +127,16 @@ pub or_else_some : (one other : Option Refusal) → is_some one ≡ true → or_
 or_else_some None other some = absurd (false≢true some)
 or_else_some (Some refusal) other some = refl
 
-pub not_some : (one : Option Refusal) → is_some one ≡ false → one ≡ None
+pub not_some : {A : Type 0} (one : Option A) → is_some one ≡ false → one ≡ None
 not_some None none = refl
-not_some (Some refusal) none = absurd (false≢true (sym none))
+not_some (Some x) none = absurd (false≢true (sym none))
 
 -- An element at its position.
 pub index_at : {A : Type 0} (xs : List A) (i : ℕ) (x : A) → i < length xs → x ≡ get_or xs i x → slice_get xs i ≡ Some x
 index_at xs i x within is = slice_get-get_or xs i x within ∙ ap Some (sym is)
+
+pub set_here : {A : Type 0} (xs : List A) (i : ℕ) (x : A) → i < length xs → slice_get (slice_set xs i x) i ≡ Some x
+set_here xs i x within = index_at (slice_set xs i x) i x (omega (arith, length-set xs i x, within)) (sym (get_or-set_same xs i x x within))
 
 pub le_false : (a b : ℕ) → b < a → nat_le a b ≡ false
 le_false a b less = lt-leb a b less

@@ -31,7 +31,7 @@ module _ (w : World) (tells : Tells w) (parents : HasParents w.table)
 
   swept_by : (answer : Answer) (is : Sweeping w.table t' answer) (outcome : SweepOutcome) → is.outcome ≡ outcome → Served w steps.Sweep (said.swept outcome) t'
   swept_by answer is sweeps.Swept says = record { tells = sweep_tells w tells t' is.keeps is.spares follows; move = swept_move w t' is.keeps rises }
-  swept_by answer is sweeps.Clean says = record { tells = sweep_tells w tells t' is.keeps is.spares follows; move = clean_move w t' is.keeps (is.stays says) }
+  swept_by answer is sweeps.Clean says = record { tells = sweep_tells w tells t' is.keeps is.spares follows; move = clean_move w t' is.keeps rises (is.stays says) }
 
   sought_by : (h b : ℕ) (outcome : Result InitSeek Refusal) → outcome ≡ seek_answer (size_of w.table) (stored_of w.table) (slice_get (helps_of w.table) h) b
       → SeekChanges w.table t' h b outcome → regular t' ≡ regular w.table → linked_of t' ≡ linked_of w.table

@@ -1,15 +1,13 @@
 -- The steps by which callers work on the map.
 use Rattle.std.proofs.Common.{◌≡◌, ℕ, ◌+◌, ◌-◌, ◌<◌, ◌≤◌, true, cond, List, [], ◌∷◌, ◌++◌, length, Option, Some, None, is_some, refl, sym, ap, subst, ◌∙◌, arith, slice_get, slice_set, map, reverse, slice_index, nat_lt, option_to_list, ne_eqb, ltb-true}
-use Rattle.boost_core.proofs.Vocabulary.{AllByRecursion, false≢true, reverse-append, stripe_of, holder_of, TableAt, content, table_changes, serial, now, log_of, Phase, Opened, Waiting, LeavingTo, LeavingToEnd, Next, kept_at, MapJob, get, key_of, reply_of, after, set_at, Map, runs, is_running, changes, Seat, get-after_other, get-set_at, waiting_held, log_held, held_apart, takes_node, key_of_job, value_before, spare_of_job, job_of, PendingAt, Session, seat_in, holder_by, refusal_of, has_job, times_of, times_in, IsCovered, World, Tells, state_of, session_changes, IsReply, side_of, level_of, KeepsPlaced, Waits, spare_if, times_kept, change_of, changes_of, AreDue, DoesIn, TakesBackIn}
+use Rattle.boost_core.proofs.Vocabulary.{false≢true, reverse-append, stripe_of, holder_of, TableAt, content, table_changes, serial, now, log_of, Phase, Opened, Waiting, LeavingTo, LeavingToEnd, Next, kept_at, MapJob, key_of, reply_of, after, set_at, Map, runs, is_running, changes, Seat, get-after_other, get-set_at, waiting_held, log_held, held_apart, takes_node, key_of_job, value_before, spare_of_job, PendingAt, Session, seat_in, holder_by, refusal_of, has_job, times_of, times_in, IsCovered, World, Tells, state_of, session_changes, IsReply, side_of, level_of, KeepsPlaced, Waits, spare_if, times_kept, change_of, changes_of, AreDue, DoesIn, TakesBackIn}
 use Rattle.boost_core.proofs.Numbers.{no_more}
-use Rattle.boost_core.proofs.Moves.{Runs, runs_of}
+use Rattle.boost_core.proofs.Moves.{runs_of}
 use Rattle.boost_core.proofs.Outcomes.{Called, entered}
-use Rattle.boost_core.proofs.Settling.{times_pushed}
-use Rattle.boost_core.proofs.Spares.{spent}
+use Rattle.boost_core.proofs.Spares.{times_pushed, spent, done_covered}
 use Rattle.boost_core.proofs.Due.{NotedIf, noted, changes_noted, due_noted}
 use Rattle.boost_core.proofs.Sides.{IsGoing, going, waiting_op, changes_last}
 use Rattle.boost_core.proofs.Refused.{seat_here}
-use Rattle.boost_core.proofs.SparesKept.{done_covered}
 use Rattle.txn_words.specs.declared.entry.Entry.TheVariants as entry
 use Rattle.txn_words.specs.declared.step.Step.TheVariants as steps
 use Rattle.txn_words.specs.declared.answer.Answer.TheVariants as answers
@@ -38,17 +36,16 @@ module _ (w : World) (tells : Tells w) (c : ℕ) (x : Session) (at : slice_get w
   -- The operation that waits is done.
   module _ (none : refusal_of (state_of w) (steps.Act c) ≡ None) (reply : Option ℕ) (y : Session) (t' : TableAt) (does : DoesIn x w.table reply y t') (keeps : KeepsPlaced w.table t') where
     waits_was : Waits x.seat.seat.phase (Some does.pending) x.log.room
-    waits_was = subst (λ (o : Option PendingAt). Waits x.seat.seat.phase o x.log.room) does.had (tells.seated c x at).agrees.waits
+    waits_was = rw does.had at (tells.seated c x at).agrees.waits
 
     phase_was : x.seat.seat.phase ≡ Waiting does.pending.op
     phase_was = waiting_op x.seat.seat.phase does.pending x.log.room waits_was
 
     reply_is : reply ≡ reply_of (now w.history) does.pending.op
-    reply_is = does.does.reply_is ∙ ap (λ n. reply_of n does.pending.op) tells.content
+    reply_is = rw tells.content at does.does.reply_is
 
     noted_here : NotedIf (now w.history) does.pending.op does.pending.spare does.job
-    noted_here = subst (NotedIf (now w.history) does.pending.op does.pending.spare) (sym (does.does.job_is ∙ ap (λ n. job_of n does.pending.op does.pending.spare) tells.content))
-        (noted (now w.history) does.pending.op does.pending.spare (waiting_spare x.seat.seat.phase does.pending x.log.room waits_was))
+    noted_here = rw (does.does.job_is, tells.content) (noted (now w.history) does.pending.op does.pending.spare (waiting_spare x.seat.seat.phase does.pending x.log.room waits_was))
 
     abbrev did_seat : Seat
     did_seat = record { phase = Opened; standing = cond (changes does.pending.op reply) (x.seat.seat.standing + 1) x.seat.seat.standing; kept = x.seat.seat.kept }
@@ -58,19 +55,14 @@ module _ (w : World) (tells : Tells w) (c : ℕ) (x : Session) (at : slice_get w
 
     did_log : cond (changes does.pending.op reply) ((key_of does.pending.op, reply) ∷ log_of c w.history) (log_of c w.history) ≡ changes_of (x.log.jobs ++ option_to_list does.job)
     did_log =
-        ap (λ l. cond (changes does.pending.op reply) ((key_of does.pending.op, reply) ∷ l) l) (tells.seated c x at).log
-        ∙ ap (λ r. cond (changes does.pending.op r) ((key_of does.pending.op, r) ∷ changes_of x.log.jobs) (changes_of x.log.jobs)) reply_is
-        ∙ changes_noted (now w.history) does.pending.op does.pending.spare x.log.jobs does.job noted_here
-
-    did_runs : table_changes w.table ≤ table_changes t' → Runs w.table t'
-    did_runs rises = runs_of w.table t' does.does.buckets does.does.linked rises does.does.last
+        rw ((tells.seated c x at).log, reply_is) (changes_noted (now w.history) does.pending.op does.pending.spare x.log.jobs does.job noted_here)
 
     pub did_called : table_changes w.table ≤ table_changes t' → Called w c x (steps.Act c) (answers.Done reply) y t' w.locks
     did_called rises =
         entered w c x y t' w.locks (steps.Act c) (answers.Done reply) (entry.Did c reply)
         (slice_set (map session_changes w.sessions) c None) refl refl refl refl
         (none, subst (λ (q : Phase). IsReply q (now w.history) reply) (sym (ap (λ (s : Seat). s.phase) here ∙ phase_was)) reply_is)
-        (did_runs rises) (λ kept. absurd (false≢true kept))
+        (runs_of w.table t' does.does.buckets does.does.linked rises does.does.last) (λ kept. absurd (false≢true kept))
         (record {
           seat = did_seat;
           committed = serial w.history;
@@ -78,18 +70,18 @@ module _ (w : World) (tells : Tells w) (c : ℕ) (x : Session) (at : slice_get w
           holder = λ s. holder_of w.limits.stripes s w.history;
           side = record (side_of x) { pending = None; jobs = x.log.jobs ++ option_to_list does.job };
           becomes = does.becomes;
-          next = subst (λ l. Next (holder_by w.words) w.limits.stripes w.history (entry.Did c reply) did_seat l (serial w.history) (after (now w.history) does.pending.op) (λ s. holder_of w.limits.stripes s w.history)) did_log did_law;
+          next = rw did_log at did_law;
           mine = refl;
           saved = λ is. absurd (false≢true is);
           kept = (tells.seated c x at).agrees.kept;
           waits = tt;
           due = due_noted (now w.history) does.pending.op does.pending.spare x.log.jobs does.job noted_here (tells.seated c x at).due;
-          content = does.does.content_is ∙ ap (λ n. after n does.pending.op) tells.content;
+          content = rw tells.content at does.does.content_is;
           apart = λ d other k held. get-after_other (now w.history) does.pending.op k
               (held_apart w.limits.stripes w.history d c k (key_of does.pending.op) held (waiting_held w.limits.stripes w.history tells.legal c does.pending.op x.seat.seat (tells.seated c x at).seat phase_was) other);
           placed = keeps;
           spares = λ others covered. done_covered w.table t' does.pending.spare does.job x.log.jobs (content w.table) does.pending.op does.does.job_is does.does.spares others
-              (subst (λ (o : Option PendingAt). IsCovered (λ p s. others p s + (times_of (spare_if o) p s + times_in x.log.jobs p s)) w.table) does.had covered);
+              (rw does.had at covered);
           largest = does.does.buckets.largest;
           helpers = ap length does.does.buckets.helps;
           begins = no_more w.counts.began;
@@ -113,10 +105,7 @@ module _ (w : World) (tells : Tells w) (c : ℕ) (x : Session) (at : slice_get w
     undone_seat = record { phase = x.seat.seat.phase; standing = x.seat.seat.standing - 1; kept = x.seat.seat.kept }
 
     some_standing : 0 < x.seat.seat.standing
-    some_standing =
-        let same = (tells.seated c x at).agrees.standing in
-        let more = ltb-true (kept_at x.log.kept (level_of x.seat.seat.phase)) (length x.log.jobs) goes.1 in
-        omega arith
+    some_standing = omega (arith, (tells.seated c x at).agrees.standing, ltb-true (kept_at x.log.kept (level_of x.seat.seat.phase)) (length x.log.jobs) goes.1)
 
     undone_law : (q : Phase) → x.seat.seat.phase ≡ q → IsGoing q × (nat_lt (kept_at x.log.kept (level_of q)) (length x.log.jobs) ≡ true)
         → Next (holder_by w.words) w.limits.stripes w.history (entry.Undone c) undone_seat (changes_of y.log.jobs) (serial w.history) undone_map (λ s. holder_of w.limits.stripes s w.history)
@@ -128,11 +117,8 @@ module _ (w : World) (tells : Tells w) (c : ℕ) (x : Session) (at : slice_get w
     undone_law _ is so = absurd so.0
 
     key_held : holder_of w.limits.stripes (stripe_of w.limits.stripes (key_of_job back.job)) w.history ≡ Some c
-    key_held = (subst (λ (log : List (ℕ × Option ℕ)). AllByRecursion (λ (change : ℕ × Option ℕ). holder_of w.limits.stripes (stripe_of w.limits.stripes change.0) w.history ≡ Some c) log) log_is
+    key_held = (rw log_is at
         (log_held w.limits.stripes w.history tells.legal c (ap is_running (tells.seated c x at).seat ∙ going_runs x.seat.seat.phase goes.0))).0
-
-    undone_runs : table_changes w.table ≤ table_changes t' → Runs w.table t'
-    undone_runs rises = runs_of w.table t' back.back.buckets back.back.linked rises back.back.last
 
     undone_covered : (others : ℕ → ℕ → ℕ) → IsCovered (λ place stamp. others place stamp + times_kept (side_of x) place stamp) w.table → IsCovered (λ place stamp. others place stamp + times_kept (record (side_of x) { jobs = y.log.jobs }) place stamp) t'
     undone_covered others covered place stamp =
@@ -145,7 +131,7 @@ module _ (w : World) (tells : Tells w) (c : ℕ) (x : Session) (at : slice_get w
     pub undone_called : table_changes w.table ≤ table_changes t' → Called w c x (steps.Act c) answers.Undone y t' w.locks
     undone_called rises =
         entered w c x y t' w.locks (steps.Act c) answers.Undone (entry.Undone c)
-        (slice_set (map session_changes w.sessions) c None) refl refl refl refl (none, ap has_job here ∙ has) (undone_runs rises)
+        (slice_set (map session_changes w.sessions) c None) refl refl refl refl (none, ap has_job here ∙ has) (runs_of w.table t' back.back.buckets back.back.linked rises back.back.last)
         (λ kept. absurd (false≢true kept))
         (record {
           seat = undone_seat;
@@ -160,10 +146,9 @@ module _ (w : World) (tells : Tells w) (c : ℕ) (x : Session) (at : slice_get w
           kept = (tells.seated c x at).agrees.kept;
           waits = going_waits x.seat.seat.phase x.pending x.log.room y.log.room goes.0 (tells.seated c x at).agrees.waits;
           due = (subst (λ (js : List MapJob). AreDue (now w.history) js) (ap reverse back.jobs ∙ reverse-append y.log.jobs (back.job ∷ [])) (tells.seated c x at).due).1;
-          content = back.back.content_is ∙ ap (λ n. set_at n (key_of_job back.job) (value_before back.job)) tells.content;
+          content = rw tells.content at back.back.content_is;
           apart = λ d other k held.
-              let away = held_apart w.limits.stripes w.history d c k (key_of_job back.job) held key_held other in
-              get-set_at (now w.history) (key_of_job back.job) (value_before back.job) k ∙ ap (λ b. cond b (value_before back.job) (get (now w.history) k)) (ne_eqb k (key_of_job back.job) away);
+              rw (get-set_at (now w.history) (key_of_job back.job) (value_before back.job) k, ne_eqb k (key_of_job back.job) (held_apart w.limits.stripes w.history d c k (key_of_job back.job) held key_held other)) refl;
           placed = keeps;
           spares = undone_covered;
           largest = back.back.buckets.largest;
