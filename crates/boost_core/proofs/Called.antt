@@ -1,18 +1,15 @@
 -- The outcome of each step of a caller.
 use Rattle.std.proofs.Common.{◌≡◌, ℕ, ◌+◌, ◌-◌, ◌^◌, ◌<◌, ◌≤◌, Bool, true, false, List, Option, Some, None, is_some, refl, sym, ap, subst, ◌∙◌, arith, slice_get, slice_set, map, inr, leb-false}
-use Rattle.boost_core.proofs.Vocabulary.{false≢true, slice_get_within, slice_get-map, Step, Answer, TableAt, table_changes, key_of, Op, stripe_of, Counts, Session, Caller, caller_changes, refusal_of, owner_of, Claim, Lock, Right, Held, Stale, IsClaim, times_in, World, Tells, state_of, session_changes, all_times, side_of, Does, ActsIn, Saves, IsAsked, AsksBy, unless_busy, KeepsPlaced, Takes, spare_if, times_kept}
+use Rattle.boost_core.proofs.Vocabulary.{false≢true, slice_get_within, slice_get-map, Step, Answer, TableAt, table_changes, key_of, Op, stripe_of, Counts, Session, Caller, caller_changes, refusal_of, owner_of, Claim, Lock, Right, Held, Stale, IsClaim, times_in, World, Tells, state_of, session_changes, all_times, side_of, Does, ActsIn, Saves, IsAsked, AsksBy, unless_busy, KeepsPlaced, Takes, spare_if, times_kept, NoMemory}
 use Rattle.boost_core.proofs.Outcomes.{Called, CalledBy}
 use Rattle.boost_core.proofs.Spares.{owns_if}
 use Rattle.boost_core.proofs.Grow.{one_of_sum}
 use Rattle.boost_core.proofs.Refused.{caller_in, free, seat_free, cursor_free, set_here, noted_some}
 use Rattle.boost_core.proofs.Parting.{begun, saved, left, committed, withdrawn, returned, ended}
-use Rattle.boost_core.proofs.Asking.{asked_called, busy_called, ask_refused, save_refused}
-use Rattle.boost_core.proofs.Claims.{stale_called, held_called, word_stale_called}
-use Rattle.boost_core.proofs.Working.{did_called, undone_called}
-use Rattle.boost_core.proofs.Finding.{sought_called, again_called}
+use Rattle.boost_core.proofs.Asking.{asked_called, busy_called, ask_refused, save_refused, stale_called, held_called, word_stale_called}
+use Rattle.boost_core.proofs.Working.{did_called, undone_called, sought_called, again_called}
 use Rattle.txn_words.specs.declared.step.Step.TheVariants as steps
 use Rattle.txn_words.specs.declared.answer.Answer.TheVariants as answers
-use Rattle.txn_words.specs.declared.refusal.Refusal.TheVariants as refusals
 
 -- An Ask locks its stripe only if stripes are not words.
 no_words : (words : Bool) → (words ≡ true → true ≡ false) → words ≡ false
@@ -54,7 +51,7 @@ module _ (w : World) (tells : Tells w) (x : Session) (y : Session) (t' : TableAt
 
   saved_here : (c : ℕ) → slice_get w.sessions c ≡ Some x → refusal_of (state_of w) (steps.Save c) ≡ None → (answer : Answer) → Saves x answer y → t' ≡ w.table → locks' ≡ w.locks → Called w c x (steps.Save c) answer y t' locks'
   saved_here c at none (answers.Saved n) does table same = rw (table, same) (saved w tells c x at none n y does)
-  saved_here c at none (answers.Refused refusals.NoMemory) does table same = save_refused w tells c x at none y t' locks' does table same
+  saved_here c at none (answers.Refused NoMemory) does table same = save_refused w tells c x at none y t' locks' does table same
   saved_here c at none _ does table same = absurd does
 
   -- The outcome of each step that claims no word.
@@ -82,10 +79,10 @@ module _ (w : World) (tells : Tells w) (x : Session) (y : Session) (t' : TableAt
 
   -- The outcome of each step, by its claim.
   pub called : (claim : Claim) (c : ℕ) (step : Step) → owner_of step ≡ Some (Caller c) → slice_get w.sessions c ≡ Some x → refusal_of (state_of w) step ≡ None → 0 < w.limits.stripes → IsClaim claim (state_of w) step → (answer : Answer)
-      → Does claim w.limits.stripes w.counts step x w.table w.locks answer y t' locks' → CalledBy claim w c x step answer y t' locks'
-  called claim c step owner at none some claims answer does =
+      → (stripes : ℕ) → stripes ≡ w.limits.stripes → Does claim stripes w.counts step x w.table w.locks answer y t' locks' → CalledBy claim w c x step answer y t' locks'
+  called claim c step owner at none some claims answer stripes same does =
       subst (λ k. CalledBy claim w k x step answer y t' locks') (ap caller_in owner)
-      (claimed claim step (subst (λ k. slice_get w.sessions k ≡ Some x) (sym (ap caller_in owner)) at) none some claims answer does)
+      (claimed claim step (subst (λ k. slice_get w.sessions k ≡ Some x) (sym (ap caller_in owner)) at) none some claims answer (rw same at does))
 
 -- The requirements of a step on its caller's side, if nothing refuses it.
 pub takes : (w : World) → Tells w → (c : ℕ) (x : Session) → slice_get w.sessions c ≡ Some x → (step : Step) → owner_of step ≡ Some (Caller c) → refusal_of (state_of w) step ≡ None

@@ -160,19 +160,19 @@ module _ (w : World) (tells : Tells w) (c : ℕ) (x y : Session) (at : slice_get
       content = is.content ∙ sym is.next.now_is;
       count = length-set w.sessions c z ∙ tells.count;
       seated = λ d s at_d. elim (set_cases w.sessions c d z s within at_d) [
-        | inl here ↦ subst (λ (q : Session). IsSeated (w.history ++ e ∷ []) d (side_of q) q.log.room) (sym here.1) (subst (λ k. IsSeated (w.history ++ e ∷ []) k (side_of z) z.log.room) (sym here.0) seated_then)
+        | inl here ↦ rw (here.1, here.0) seated_then
         | inr other ↦
             let was = tells.seated d s other.1 in
             let away : d ≢ caller_of e = λ same. other.0 (same ∙ is.mine) in
             record {
               seat = is.next.other_seats d away ∙ was.seat;
               log = is.next.other_logs d away ∙ was.log;
-              due = subst (λ n. AreDue n (reverse s.log.jobs)) (sym is.next.now_is) (still_due w.limits.stripes w.history d (side_of s) s.log.room is.current tells.legal was (is.apart d other.0));
+              due = rw is.next.now_is (still_due w.limits.stripes w.history d (side_of s) s.log.room is.current tells.legal was (is.apart d other.0));
               agrees = was.agrees;
             }
       ];
       sought = λ d s at_d. elim (set_cases w.sessions c d z s within at_d) [
-        | inl here ↦ subst (IsSought t') (sym here.1) (subst (λ (o : Option Cursor). IsSoughtAt t' o (target_of z)) (sym (ap (λ (side : Side). side.cursor) is.becomes)) tt)
+        | inl here ↦ rw (here.1, ap (λ (side : Side). side.cursor) is.becomes) tt
         | inr other ↦ still_sought_at w.table t' s.cursor (target_of s) is.placed.placed (tells.sought d s other.1)
       ];
       spares = traded w.table t' w.sessions c x z at (λ others covered. subst (λ (side : Side). IsCovered (λ p s. others p s + times_kept side p s) t') (sym is.becomes) (is.spares others covered)) tells.spares;

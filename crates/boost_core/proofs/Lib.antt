@@ -2,7 +2,6 @@ pub mod Vocabulary
 pub mod Spares
 pub mod Due
 pub mod Grow
-pub mod Beginners
 pub mod Refused
 pub mod Sides
 pub mod Moves
@@ -14,19 +13,14 @@ pub mod Outcomes
 pub mod Quiet
 pub mod Parting
 pub mod Working
-pub mod Finding
 pub mod Asking
 pub mod NodeLists
 pub mod NodeSteps
-pub mod NodeServes
 pub mod GapLists
 pub mod Neighbours
 pub mod Gaps
 pub mod Staying
-pub mod HelperGaps
-pub mod Claims
 pub mod GapSteps
-pub mod GapServes
 pub mod Called
 pub mod Tables
 pub mod Helping

@@ -40,7 +40,7 @@ runs_of t t' buckets linked rises same = record {
 
 -- `Runs` holds if only spares have changed.
 pub rests_runs : (t t' : TableAt) → Rests t t' → Runs t t'
-rests_runs t t' rests = runs_of t t' rests.nodes.buckets rests.nodes.linked (let same = rests.nodes.changes in omega arith) rests.last
+rests_runs t t' rests = runs_of t t' rests.nodes.buckets rests.nodes.linked (omega (arith, rests.nodes.changes)) rests.last
 
 -- `Runs` holds if only the list has changed.
 pub keeps_runs : (t t' : TableAt) → Keeps t t' → table_changes t ≤ table_changes t' → Runs t t'
@@ -52,8 +52,12 @@ pub state_is : (w : World) (h' h'' : List Entry) (counts' : Counts) (t' : TableA
     ≡ record { limits = w.limits; words = w.words; history = h''; size = size_of w.table; stored = stored_of w.table; linked = linked_of w.table; nodes = nodes_at t'; changes = table_changes t'; stamp = last_of t'; cursors = cursors; gaps = map (gap_by t') sessions'; helper_gaps = helper_gaps_of t'; helpers = helps_of w.table; placed = placed' }
 state_is w h' h'' counts' t' cursors sessions' locks' placed' runs entries same = λ i. record { limits = w.limits; words = w.words; history = entries i; size = runs.size i; stored = runs.stored i; linked = runs.linked i; nodes = nodes_at t'; changes = table_changes t'; stamp = last_of t'; cursors = same i; gaps = map (gap_by t') sessions'; helper_gaps = helper_gaps_of t'; helpers = runs.helps i; placed = placed' }
 
+-- A state with the nodes of a table, and those beside the cursors of callers and helpers.
+abbrev pub with_nodes : TableAt → List Session → State → State
+with_nodes t sessions s = record s { nodes = nodes_at t; gaps = map (gap_by t) sessions; helper_gaps = helper_gaps_of t }
+
 -- A move, from the answer, the state after it, and the changes to the table.
-pub move_is : (w w' : World) (step : Step) (answer : Answer) → IsAllowed (state_of w) step answer → state_of w' ≡ record (after (state_of w) step answer (table_changes w'.table) (last_of w'.table)) { nodes = nodes_at w'.table; gaps = map (gap_by w'.table) w'.sessions; helper_gaps = helper_gaps_of w'.table } → Runs w.table w'.table
+pub move_is : (w w' : World) (step : Step) (answer : Answer) → IsAllowed (state_of w) step answer → state_of w' ≡ with_nodes w'.table w'.sessions (after (state_of w) step answer (table_changes w'.table) (last_of w'.table)) → Runs w.table w'.table
     → (keeps_list answer ≡ true → table_changes w'.table ≡ table_changes w.table) → Move (state_of w) step answer (state_of w')
 move_is w w' step answer allowed is runs kept = record {
   allowed = allowed;

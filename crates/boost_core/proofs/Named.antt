@@ -14,9 +14,7 @@ begun_below : (callers c : ℕ) (h : List Entry) → All (λ e. caller_of e < ca
 begun_below callers c [] all is = absurd (false≢true is)
 begun_below callers c (e ∷ h) all is = elim (or_cases (is_began e && caller_of e == c) (has_begun c h) is) [
   | inl here ↦
-      let same = eqb-true (caller_of e) c (and_parts (is_began e) (caller_of e == c) here).1 in
-      let below = All-head (λ e. caller_of e < callers) e h all in
-      omega arith
+      omega (arith, eqb-true (caller_of e) c (and_parts (is_began e) (caller_of e == c) here).1, All-head (λ e. caller_of e < callers) e h all)
   | inr there ↦ begun_below callers c h (All-tail (λ e. caller_of e < callers) e h all) there
 ]
 

@@ -7,9 +7,7 @@ use Rattle.boost_core.proofs.GapLists.{IsStill, Stay, each_at, place_at, next_he
 
 noted_node : (o : Option NodeAt) (stamp : ℕ) → is_noted o stamp ≡ true → (n : NodeAt) × (o ≡ Some n) × (n.stamp ≡ stamp) × (n.marked ≡ false)
 noted_node None stamp is = absurd (false≢true is)
-noted_node (Some n) stamp is =
-    let parts = and_parts (n.stamp == stamp) (not n.marked) is in
-    (n, refl, eqb-true n.stamp stamp parts.0, not-true n.marked parts.1)
+noted_node (Some n) stamp is = let parts = and_parts (n.stamp == stamp) (not n.marked) is in (n, refl, eqb-true n.stamp stamp parts.0, not-true n.marked parts.1)
 
 abbrev pub NextIs : Option NodeAt → Option Noted → Type 0
 NextIs None None = Unit {0}
@@ -79,15 +77,15 @@ beside (m ∷ rest) place n is live next = elim (cases_Bool (m.place == place)) 
         front = [];
         back = seen rest;
         nodes_are = λ i. record { at = (same i).at; marked = (ap (λ k. k.marked) same ∙ live) i } ∷ seen rest;
-        next = subst (λ (o : Option NodeAt). StartsAt (seen rest) (key_at o)) (sym (next_here m rest place here)) (starts rest (subst Live (next_here m rest place here) next));
+        next = rw (next_here m rest place here) (starts rest (rw (next_here m rest place here) at next));
       }
   | inr apart ↦
-      let more = beside rest place n (node_later m rest place (Some n) is apart) live (subst Live (next_later m rest place apart) next) in
+      let more = beside rest place n (node_later m rest place (Some n) is apart) live (rw (next_later m rest place apart) at next) in
       record {
         front = node_at m ∷ more.front;
         back = more.back;
         nodes_are = ap (λ ns. node_at m ∷ ns) more.nodes_are;
-        next = subst (λ (o : Option NodeAt). StartsAt more.back (key_at o)) (sym (next_later m rest place apart)) more.next;
+        next = rw (next_later m rest place apart) more.next;
       }
 ]
 

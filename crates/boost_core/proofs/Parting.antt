@@ -1,6 +1,6 @@
 -- The steps that begin, divide and end transactions.
-use Rattle.std.proofs.Common.{◌≡◌, ℕ, ◌+◌, ◌≤◌, true, false, cond, List, [], ◌∷◌, ◌++◌, length, take, Option, Some, None, refl, sym, ap, subst, ◌∙◌, add-one, arith, slice_get, slice_set, slice_index, map, nat_eq, nat_lt, not, eq-eqb, leb-false, ltb-false}
-use Rattle.boost_core.proofs.Vocabulary.{option_eq, false≢true, and_from, serial, now, holder_of, log_of, Phase, Closed, Opened, Waiting, LeavingTo, LeavingToEnd, Seat, closed_seat, Next, kept_at, TableAt, map_of, Releases, Session, seat_in, holder_by, refusal_of, is_closed, is_waiting, is_leaving, has_job, is_back_at, is_at_end, IsCovered, World, Tells, state_of, session_changes, side_of, times_kept, changes_of, StaysIn, SavesIn, ReturnsIn, EndsIn, SettlesIn, WithdrawsIn}
+use Rattle.std.proofs.Common.{◌≡◌, ℕ, ◌+◌, ◌≤◌, true, false, cond, List, [], ◌∷◌, ◌++◌, length, take, Option, Some, None, refl, sym, ap, ◌∙◌, add-one, arith, slice_get, slice_set, slice_index, map, nat_eq, nat_lt, not, eq-eqb, leb-false, ltb-false}
+use Rattle.boost_core.proofs.Vocabulary.{option_eq, false≢true, and_from, serial, now, holder_of, log_of, Phase, Closed, Opened, Waiting, LeavingTo, LeavingToEnd, Seat, closed_seat, Next, kept_at, TableAt, map_of, Releases, Session, seat_in, holder_by, refusal_of, is_closed, is_waiting, is_leaving, has_job, is_back_at, is_at_end, World, Tells, state_of, session_changes, side_of, changes_of, StaysIn, SavesIn, ReturnsIn, EndsIn, SettlesIn, WithdrawsIn}
 use Rattle.txn_trace.proofs.Settled.{settled}
 use Rattle.boost_core.proofs.Numbers.{no_more}
 use Rattle.boost_core.proofs.Moves.{runs_same, rests_runs, none_dropped}
@@ -122,7 +122,7 @@ module _ (w : World) (tells : Tells w) (c : ℕ) (x : Session) (at : slice_get w
         content = ap map_of leaves.rests.nodes.regular ∙ tells.content;
         apart = λ d other k held. refl;
         placed = leaves.rests.placed;
-        spares = λ others covered. subst (λ (s : Session). IsCovered (λ place stamp. others place stamp + times_kept (side_of s) place stamp) t') leaves.becomes (leaves.spares others covered);
+        spares = λ others covered. rw leaves.becomes at (leaves.spares others covered);
         largest = leaves.rests.nodes.buckets.largest;
         helpers = ap length leaves.rests.nodes.buckets.helps;
         begins = no_more w.counts.began;
@@ -135,8 +135,7 @@ module _ (w : World) (tells : Tells w) (c : ℕ) (x : Session) (at : slice_get w
       law Closed is closed leaving = absurd (false≢true (sym closed))
       law Opened is closed leaving = laws.left_to_end w.limits.stripes w.history tells.legal c x.seat.seat (tells.seated c x at).seat is
       law (Waiting op) is closed leaving = laws.withdrawn w.limits.stripes w.history tells.legal c op x.seat.seat (tells.seated c x at).seat is
-      law (LeavingTo n) is closed leaving = absurd (false≢true (sym leaving))
-      law LeavingToEnd is closed leaving = absurd (false≢true (sym leaving))
+      law _ is closed leaving = absurd (false≢true (sym leaving))
 
   -- The end of the undoing: no change above the level is left.
   module _ (none : refusal_of (state_of w) (steps.Act c) ≡ None) (no_job : has_job x.seat.seat ≡ false) where

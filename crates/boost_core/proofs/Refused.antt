@@ -142,14 +142,21 @@ pub le_false : (a b : ℕ) → b < a → nat_le a b ≡ false
 le_false a b less = lt-leb a b less
 
 pub lacking : (one : Option Refusal) (b value : Bool) → one ≡ None → b ≡ value → or_else one (cond b (Some Unplaced) None) ≡ cond value (Some Unplaced) None
-lacking one b value none is = ap (λ o. or_else o (cond b (Some Unplaced) None)) none ∙ ap (λ v. cond v (Some Unplaced) None) is
+lacking one b value none is = rw (none, is) refl
 
--- The caller of a step that nothing refuses has a side.
-pub at_free : (w : World) → Tells w → (c : ℕ) (step : Step) → owner_of step ≡ Some (Caller c) → refusal_of (state_of w) step ≡ None → (x : Session) → x ≡ get_or w.sessions c x → slice_get w.sessions c ≡ Some x
-at_free w tells c step owner none x is =
-    let below : c < w.limits.callers = leb-false w.limits.callers c (free (state_of w) c step owner none).within in
-    let count : length w.sessions ≡ w.limits.callers = tells.count in
-    index_at w.sessions c x (omega arith) is
+-- A step that nothing refuses in an equal state: nothing refuses it here, and its caller has a side.
+pub free_at : (w : World) (old : State) → Tells w → state_of w ≡ old → (c : ℕ) (step : Step) → owner_of step ≡ Some (Caller c) → (r : Option Refusal) → r ≡ refusal_of old step → r ≡ None → (x : Session) → x ≡ get_or w.sessions c x
+    → (refusal_of (state_of w) step ≡ None) × (slice_get w.sessions c ≡ Some x)
+free_at w old tells view c step owner r says none x is =
+    let nothing = ap (λ (s : State). refusal_of s step) view ∙ sym says ∙ none in
+    (nothing, index_at w.sessions c x (omega (arith, tells.count, leb-false w.limits.callers c (free (state_of w) c step owner nothing).within)) is)
+
+-- The refusal of a step in an equal state, from its caller's side.
+pub refusal_at : (w : World) (old : State) → Tells w → state_of w ≡ old → (c : ℕ) (x : Session) → x ≡ get_or w.sessions c x → (step : Step) → owner_of step ≡ Some (Caller c) → c < w.limits.callers
+    → refusal_of old step ≡ or_else (refusal_in w.limits.half x.seat.seat step) (cond (lacks_in x.seat.seat (is_some x.cursor) step) (Some Unplaced) None)
+refusal_at w old tells view c x is step owner within =
+    ap (λ (s : State). refusal_of s step) (sym view)
+    ∙ refusal_here w tells c x (index_at w.sessions c x (omega (arith, tells.count, within)) is) step owner (le_false w.limits.callers c within)
 
 pub abort_runs : (half : Bool) (s : Seat) (c : ℕ) → refusal_in half s (Abort c) ≡ None → (is_closed s.phase ≡ false) × (is_leaving s.phase ≡ false)
 abort_runs half s c none =

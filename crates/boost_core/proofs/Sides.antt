@@ -1,6 +1,6 @@
 -- The steps that a caller may take if its side fits the table.
 use Rattle.std.proofs.Common.{◌≡◌, ℕ, ◌+◌, ◌-◌, ◌<◌, ◌&&◌, ◌||◌, Bool, true, false, List, [], ◌∷◌, ◌++◌, length, Option, Some, None, is_some, refl, sym, ap, subst, ◌∙◌, arith, slice_get, map, reverse, nat_lt, not, ltb-true, ltb-false}
-use Rattle.boost_core.proofs.Vocabulary.{not-false, or_right, false≢true, slice_get-get_or, Phase, Waiting, LeavingTo, LeavingToEnd, MapJob, PendingAt, TableAt, Cursor, content, OwnsIf, reverse-append, length_push, get_or_push, is_waiting, is_leaving, has_job, has_target, Log, kept_at, newest_above, Session, level_of, Waits, key_of_newest, target_in, target_of, spare_if, change_of, changes_of, AreDue, IsPlacedFor, IsSoughtAt, GoesWith, CanAct, CanUndo, CanArrive}
+use Rattle.boost_core.proofs.Vocabulary.{not-false, or_right, false≢true, slice_get-get_or, Phase, Waiting, LeavingTo, LeavingToEnd, MapJob, PendingAt, TableAt, Cursor, content, reverse-append, length_push, get_or_push, is_waiting, is_leaving, has_job, has_target, Log, kept_at, newest_above, Session, level_of, Waits, key_of_newest, target_in, target_of, change_of, changes_of, AreDue, IsPlacedFor, IsSoughtAt, GoesWith, CanAct, CanUndo, CanArrive}
 use Rattle.txn_trace.proofs.Seated.{the_some}
 use Rattle.boost_core.proofs.Spares.{newest_owned}
 use Rattle.boost_core.proofs.Refused.{not_some}
@@ -87,7 +87,7 @@ module _ (x : Session) (t : TableAt) (goes : GoesWith x t) where
     pub can_act : is_some x.pending ≡ true → CanAct x t
     can_act some =
         let pending = the_some x.pending some in
-        let waits : Waits x.seat.seat.phase (Some pending.0) x.log.room = subst (λ (o : Option PendingAt). Waits x.seat.seat.phase o x.log.room) pending.1 goes.agrees.waits in
+        let waits : Waits x.seat.seat.phase (Some pending.0) x.log.room = rw pending.1 at goes.agrees.waits in
         let phase = waiting_op x.seat.seat.phase pending.0 x.log.room waits in
         let cursor = cursor_there (ap (λ q. is_waiting q || has_job (record { phase = q; standing = x.seat.seat.standing; kept = x.seat.seat.kept })) phase) in
         record {
@@ -96,7 +96,7 @@ module _ (x : Session) (t : TableAt) (goes : GoesWith x t) where
           waits = pending.1;
           had = cursor.1;
           placed = subst (IsPlacedFor t cursor.0) (ap (λ q. target_in q x.log) phase) (subst (λ (o : Option Cursor). IsSoughtAt t o (target_of x)) cursor.1 goes.sought);
-          owned = subst (λ (o : Option PendingAt). OwnsIf t (spare_if o)) pending.1 goes.withdraws;
+          owned = rw pending.1 at goes.withdraws;
           room = waiting_room x.seat.seat.phase pending.0 x.log.room waits;
         }
 

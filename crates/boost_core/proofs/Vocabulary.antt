@@ -96,9 +96,9 @@ pub use Rattle.txn_words.specs.declared.holder.Holder.TheVariants.{Begun, Now}
 pub use Rattle.txn_words.specs.declared.op.Op.{Op}
 pub use Rattle.txn_words.specs.declared.op.Op.TheVariants.{Get, Put, PutIf, Take}
 pub use Rattle.txn_words.specs.declared.refusal.Refusal.{Refusal}
-pub use Rattle.txn_words.specs.declared.refusal.Refusal.TheVariants.{NoMemory, NoSuchCaller, StaleWord, StampsUsedUp, Unplaced}
+pub use Rattle.txn_words.specs.declared.refusal.Refusal.TheVariants.{NoMemory, NoSuchCaller, StaleWord, StampsUsedUp, Unplaced, NotOpen, NothingToSeek, BadKey, HelperOutOfOrder, NoSuchBucket, NoSuchHelper, ParentMissing, OutOfStep}
 pub use Rattle.txn_words.specs.declared.seat.Phase.{Phase}
 pub use Rattle.txn_words.specs.declared.seat.Phase.TheVariants.{Closed, LeavingTo, LeavingToEnd, Opened, Waiting}
 pub use Rattle.txn_words.specs.declared.step.Step.{Step}
-pub use Rattle.txn_words.specs.declared.step.Step.TheVariants.{Abort, Act, Ask, Back, Begin, Commit, Seek}
+pub use Rattle.txn_words.specs.declared.step.Step.TheVariants.{Abort, Act, Ask, Back, Begin, Commit, Seek, Save}
 pub use Rattle.undo_log.specs.UndoLog.{Log, kept_at, newest_above}

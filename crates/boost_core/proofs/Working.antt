@@ -1,15 +1,15 @@
 -- The steps by which callers work on the map.
-use Rattle.std.proofs.Common.{◌≡◌, ℕ, ◌+◌, ◌-◌, ◌<◌, ◌≤◌, true, cond, List, [], ◌∷◌, ◌++◌, length, Option, Some, None, is_some, refl, sym, ap, subst, ◌∙◌, arith, slice_get, slice_set, map, reverse, slice_index, nat_lt, option_to_list, ne_eqb, ltb-true}
-use Rattle.boost_core.proofs.Vocabulary.{false≢true, reverse-append, stripe_of, holder_of, TableAt, content, table_changes, serial, now, log_of, Phase, Opened, Waiting, LeavingTo, LeavingToEnd, Next, kept_at, MapJob, key_of, reply_of, after, set_at, Map, runs, is_running, changes, Seat, get-after_other, get-set_at, waiting_held, log_held, held_apart, takes_node, key_of_job, value_before, spare_of_job, PendingAt, Session, seat_in, holder_by, refusal_of, has_job, times_of, times_in, IsCovered, World, Tells, state_of, session_changes, IsReply, side_of, level_of, KeepsPlaced, Waits, spare_if, times_kept, change_of, changes_of, AreDue, DoesIn, TakesBackIn}
+use Rattle.std.proofs.Common.{◌≡◌, ℕ, ◌+◌, ◌-◌, ◌<◌, ◌≤◌, true, cond, List, [], ◌∷◌, ◌++◌, length, Option, Some, None, is_some, refl, sym, ap, subst, ◌∙◌, arith, slice_get, slice_set, map, reverse, slice_index, nat_lt, option_to_list, ne_eqb, ltb-true, ◌^◌, false, inl, inr, option_map}
+use Rattle.boost_core.proofs.Vocabulary.{false≢true, reverse-append, stripe_of, holder_of, TableAt, content, table_changes, serial, now, log_of, Phase, Opened, Waiting, LeavingTo, LeavingToEnd, Next, kept_at, MapJob, key_of, reply_of, after, set_at, Map, runs, is_running, changes, Seat, get-after_other, get-set_at, waiting_held, log_held, held_apart, takes_node, key_of_job, value_before, spare_of_job, PendingAt, Session, seat_in, holder_by, refusal_of, has_job, times_of, times_in, IsCovered, World, Tells, state_of, session_changes, IsReply, side_of, level_of, KeepsPlaced, Waits, spare_if, times_kept, change_of, changes_of, AreDue, DoesIn, TakesBackIn, Act, cases_eq, and_from, slice_get_within, fits, Cursor, cursor_changes, map_of, IsPlaced, Owner, Caller, Helper, has_target, IsFresh, is_just_placed, may_be_stale, target_in, target_of, IsPlacedFor, IsSoughtAt, SeeksIn, Drops, Seek}
 use Rattle.boost_core.proofs.Numbers.{no_more}
-use Rattle.boost_core.proofs.Moves.{runs_of}
+use Rattle.boost_core.proofs.Moves.{runs_of, keeps_runs, runs_same, state_is, changes_set, stale_since, move_is}
 use Rattle.boost_core.proofs.Outcomes.{Called, entered}
-use Rattle.boost_core.proofs.Spares.{times_pushed, spent, done_covered}
+use Rattle.boost_core.proofs.Spares.{times_pushed, spent, done_covered, still_covered}
 use Rattle.boost_core.proofs.Due.{NotedIf, noted, changes_noted, due_noted}
 use Rattle.boost_core.proofs.Sides.{IsGoing, going, waiting_op, changes_last}
-use Rattle.boost_core.proofs.Refused.{seat_here}
+use Rattle.boost_core.proofs.Refused.{seat_here, changes_here}
+use Rattle.boost_core.proofs.Grow.{world_after, seated_as, set_cases}
 use Rattle.txn_words.specs.declared.entry.Entry.TheVariants as entry
-use Rattle.txn_words.specs.declared.step.Step.TheVariants as steps
 use Rattle.txn_words.specs.declared.answer.Answer.TheVariants as answers
 use Rattle.txn_trace.proofs.Entries as laws
 
@@ -34,7 +34,7 @@ module _ (w : World) (tells : Tells w) (c : ℕ) (x : Session) (at : slice_get w
   here = seat_here w tells c x at
 
   -- The operation that waits is done.
-  module _ (none : refusal_of (state_of w) (steps.Act c) ≡ None) (reply : Option ℕ) (y : Session) (t' : TableAt) (does : DoesIn x w.table reply y t') (keeps : KeepsPlaced w.table t') where
+  module _ (none : refusal_of (state_of w) (Act c) ≡ None) (reply : Option ℕ) (y : Session) (t' : TableAt) (does : DoesIn x w.table reply y t') (keeps : KeepsPlaced w.table t') where
     waits_was : Waits x.seat.seat.phase (Some does.pending) x.log.room
     waits_was = rw does.had at (tells.seated c x at).agrees.waits
 
@@ -57,9 +57,9 @@ module _ (w : World) (tells : Tells w) (c : ℕ) (x : Session) (at : slice_get w
     did_log =
         rw ((tells.seated c x at).log, reply_is) (changes_noted (now w.history) does.pending.op does.pending.spare x.log.jobs does.job noted_here)
 
-    pub did_called : table_changes w.table ≤ table_changes t' → Called w c x (steps.Act c) (answers.Done reply) y t' w.locks
+    pub did_called : table_changes w.table ≤ table_changes t' → Called w c x (Act c) (answers.Done reply) y t' w.locks
     did_called rises =
-        entered w c x y t' w.locks (steps.Act c) (answers.Done reply) (entry.Did c reply)
+        entered w c x y t' w.locks (Act c) (answers.Done reply) (entry.Did c reply)
         (slice_set (map session_changes w.sessions) c None) refl refl refl refl
         (none, subst (λ (q : Phase). IsReply q (now w.history) reply) (sym (ap (λ (s : Seat). s.phase) here ∙ phase_was)) reply_is)
         (runs_of w.table t' does.does.buckets does.does.linked rises does.does.last) (λ kept. absurd (false≢true kept))
@@ -91,7 +91,7 @@ module _ (w : World) (tells : Tells w) (c : ℕ) (x : Session) (at : slice_get w
         })
 
   -- The newest change is taken back.
-  module _ (none : refusal_of (state_of w) (steps.Act c) ≡ None) (has : has_job x.seat.seat ≡ true) (y : Session) (t' : TableAt) (back : TakesBackIn x w.table y t') (keeps : KeepsPlaced w.table t') where
+  module _ (none : refusal_of (state_of w) (Act c) ≡ None) (has : has_job x.seat.seat ≡ true) (y : Session) (t' : TableAt) (back : TakesBackIn x w.table y t') (keeps : KeepsPlaced w.table t') where
     goes : IsGoing x.seat.seat.phase × (nat_lt (kept_at x.log.kept (level_of x.seat.seat.phase)) (length x.log.jobs) ≡ true)
     goes = going x.seat.seat.phase (length x.log.jobs) x.log.kept (ap has_job (λ i. record { phase = x.seat.seat.phase; standing = sym (tells.seated c x at).agrees.standing i; kept = sym (tells.seated c x at).agrees.kept i }) ∙ has)
 
@@ -128,9 +128,9 @@ module _ (w : World) (tells : Tells w) (c : ℕ) (x : Session) (at : slice_get w
               (λ p s. omega (arith, times_pushed x.log.jobs y.log.jobs back.job p s back.jobs, covered p s)) place stamp,
         )
 
-    pub undone_called : table_changes w.table ≤ table_changes t' → Called w c x (steps.Act c) answers.Undone y t' w.locks
+    pub undone_called : table_changes w.table ≤ table_changes t' → Called w c x (Act c) answers.Undone y t' w.locks
     undone_called rises =
-        entered w c x y t' w.locks (steps.Act c) answers.Undone (entry.Undone c)
+        entered w c x y t' w.locks (Act c) answers.Undone (entry.Undone c)
         (slice_set (map session_changes w.sessions) c None) refl refl refl refl (none, ap has_job here ∙ has) (runs_of w.table t' back.back.buckets back.back.linked rises back.back.last)
         (λ kept. absurd (false≢true kept))
         (record {
@@ -158,3 +158,83 @@ module _ (w : World) (tells : Tells w) (c : ℕ) (x : Session) (at : slice_get w
           long = refl;
           holders = tells.holders;
         })
+
+  -- The caller's seek of the key that it acts on next.
+  pub sought_called : refusal_of (state_of w) (Seek c) ≡ None → (y : Session) (t' : TableAt) → SeeksIn x w.table y t' → KeepsPlaced w.table t' → table_changes w.table ≤ table_changes t' → Called w c x (Seek c) answers.Placed y t' w.locks
+  sought_called none y t' seeks keeps rises =
+      let runs = keeps_runs w.table t' seeks.places.keeps rises in
+      record {
+        comes = record {
+          cursor = Some seeks.cursor;
+          becomes = ap side_of seeks.becomes;
+          waits = subst (λ (s : Session). Waits x.seat.seat.phase x.pending s.log.room) (sym seeks.becomes) (tells.seated c x at).agrees.waits;
+          content = ap map_of seeks.places.keeps.regular;
+          placed = keeps;
+          sought = subst (λ (s : Session). IsPlacedFor t' seeks.cursor (target_in x.seat.seat.phase s.log)) (sym seeks.becomes) (subst (IsPlacedFor t' seeks.cursor) (sym seeks.target) seeks.places.placed);
+          spares = λ others covered. still_covered w.table t' (λ p q. others p q + times_kept (side_of x) p q) seeks.places.spares covered;
+          largest = seeks.places.keeps.buckets.largest;
+          helpers = ap length seeks.places.keeps.buckets.helps;
+          same_locks = refl;
+          same_counts = refl;
+        };
+        move = λ seat'. move_is w (world_after w c (seated_as y seat') (w.history ++ []) w.counts t' w.locks (Some (Caller c))) (Seek c) answers.Placed (none, tt)
+            (state_is w (w.history ++ []) (w.history ++ []) w.counts t' (slice_set (map session_changes w.sessions) c (Some (table_changes t'))) (slice_set w.sessions c (seated_as y seat')) w.locks (Some (Caller c)) runs refl
+            (changes_set w.sessions c (seated_as y seat') (Some (table_changes t')) (ap session_changes seeks.becomes ∙ ap Some seeks.places.changes)))
+            runs (λ kept. absurd (false≢true kept));
+        fresh = λ seat' s cursor at_c had. elim (set_cases w.sessions c c (seated_as y seat') s (slice_get_within w.sessions c x at) at_c) [
+          | inl mine ↦
+              let both : Some seeks.cursor ≡ Some cursor = sym (ap (λ (q : Session). q.cursor) mine.1 ∙ ap (λ (q : Session). q.cursor) seeks.becomes) ∙ had in
+              let same : seeks.cursor ≡ cursor = cc both in rw same at seeks.places.fits
+          | inr other ↦ absurd (other.0 refl)
+        ];
+      }
+
+  -- The cursor did not fit, and is dropped.
+  module _ (none : refusal_of (state_of w) (Act c) ≡ None) (target : has_target x.seat.seat ≡ true) (y : Session) (drops : Drops x w.table y w.table) where
+    not_fresh : is_just_placed (Caller c) w.placed ≡ false
+    not_fresh = at_placed w.placed tells.fresh
+      where
+        at_placed : (o : Option Owner) → IsFresh w.table w.sessions o → is_just_placed (Caller c) o ≡ false
+        at_placed None fresh = refl
+        at_placed (Some (Helper d)) fresh = refl
+        at_placed (Some (Caller d)) fresh = elim (cases_eq c d) [
+          | inl same ↦ absurd (false≢true (sym drops.stale ∙ fresh x drops.cursor (ap (slice_get w.sessions) (sym same) ∙ at) drops.had))
+          | inr other ↦ ne_eqb c d other
+        ]
+
+    has_key : (target : Option ℕ) → IsPlacedFor w.table drops.cursor target → (key : ℕ) × IsPlaced w.table drops.cursor key
+    has_key None is = absurd is
+    has_key (Some key) is = (key, is)
+
+    stale : may_be_stale (state_of w) (Caller c) ≡ true
+    stale =
+        let placed_for = has_key (target_of x) (subst (λ (o : Option Cursor). IsSoughtAt w.table o (target_of x)) drops.had (tells.sought c x at)) in
+        stale_since (state_of w) (Caller c) (cursor_changes drops.cursor)
+        (changes_here w tells c x at ∙ ap (option_map cursor_changes) drops.had) not_fresh
+        (λ same below. false≢true (sym drops.stale ∙ placed_for.1.held (sym same) (subst (λ n. n < 2 ^ 64 - 1) same below)))
+
+    again : Called w c x (Act c) answers.Again y w.table w.locks
+    again = record {
+      comes = record {
+        cursor = None;
+        becomes = ap side_of drops.becomes;
+        waits = subst (λ (s : Session). Waits x.seat.seat.phase x.pending s.log.room) (sym drops.becomes) (tells.seated c x at).agrees.waits;
+        content = refl;
+        placed = record { placed = λ cursor key is. is; sound = λ sound. sound };
+        sought = tt;
+        spares = λ others covered. covered;
+        largest = refl;
+        helpers = refl;
+        same_locks = refl;
+        same_counts = refl;
+      };
+      move = λ seat'. move_is w (world_after w c (seated_as y seat') (w.history ++ []) w.counts w.table w.locks None) (Act c) answers.Again
+          (none, and_from (has_target (seat_in w.history c)) (may_be_stale (state_of w) (Caller c)) (ap has_target here ∙ target) stale)
+          (state_is w (w.history ++ []) (w.history ++ []) w.counts w.table (slice_set (map session_changes w.sessions) c None) (slice_set w.sessions c (seated_as y seat')) w.locks None (runs_same w.table) refl
+          (changes_set w.sessions c (seated_as y seat') None (ap session_changes drops.becomes)))
+          (runs_same w.table) (λ kept. refl);
+      fresh = λ seat'. tt;
+    }
+
+  pub again_called : refusal_of (state_of w) (Act c) ≡ None → has_target x.seat.seat ≡ true → (y : Session) (t' : TableAt) → Drops x w.table y t' → Called w c x (Act c) answers.Again y t' w.locks
+  again_called none target y t' drops = subst (λ u. Called w c x (Act c) answers.Again y u w.locks) (sym drops.table) (again none target y (subst (Drops x w.table y) drops.table drops))
