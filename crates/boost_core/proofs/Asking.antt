@@ -1,38 +1,18 @@
 -- An operation that is asked for.
-use Rattle.std.proofs.Common.{◌≡◌, ℕ, ◌+◌, ◌-◌, ◌^◌, ◌<◌, ◌==◌, ◌||◌, true, false, cond, List, [], ◌++◌, length, Option, Some, None, refl, sym, ap, subst, ◌∙◌, arith, slice_get, slice_set, map, nat_eq, not, eq-eqb, ne_eqb, append-nil, inl, inr, ◌⊎◌}
-use Rattle.boost_core.proofs.Vocabulary.{option_eq, option_map, slice_get_within, Op, Refusal, key_of, takes_node, PendingAt, Step, serial, now, Phase, Opened, Waiting, LeavingToEnd, RoomySeat, Next, TableAt, Cursor, cursor_changes, map_of, nodes_of}
-use Rattle.std.proofs.lemmas.Bool.{false≢true, cases_eq, and_from, or_right}
-use Rattle.txn_words.specs.declared.holder.Holder.TheVariants.{Now}
-use Rattle.txn_words.specs.declared.refusal.Refusal.TheVariants as refusals
-use Rattle.txn_trace.specs.Locks.{stripe_of, is_locked, LocksHold, holder_of}
-use Rattle.txn_trace.proofs.Now.{same_is}
-use Rattle.txn_trace.proofs.Holders.{is_locked-asked, is_locked-busy}
-use Rattle.map_ops.specs.Changes.{Prepares, IsRefused}
-use Rattle.txn_words.specs.declared.entry.Entry.TheVariants as entry
-use Rattle.txn_words.specs.declared.step.Step.TheVariants as steps
-use Rattle.txn_words.specs.declared.answer.Answer.TheVariants as answers
-use Rattle.txn_words.specs.Entries.{entries_of}
-use Rattle.txn_trace.proofs.Entries as laws
-use Rattle.key_locks.specs.Locks.{holder_of as held_by}
-use Rattle.boost_core.specs.declared.session.Session.{Session}
-use Rattle.boost_core.specs.State.{Owner, Caller, Helper, holder_by}
-use Rattle.boost_core.specs.Refusals.{refusal_of, has_stamp_for, MayLack}
-use Rattle.boost_core.specs.Spares.{times_of, times_in, times_out, IsCovered}
-use Rattle.boost_core.specs.Core.{World, Tells, IsFresh, state_of, session_changes, gap_if}
+-- When stripes are words, a right may be stale, and a word may name a caller or none.
+use Rattle.std.proofs.Common.{◌≡◌, ℕ, ◌+◌, ◌-◌, ◌^◌, ◌<◌, ◌==◌, ◌||◌, true, false, cond, List, [], ◌++◌, length, Option, Some, None, refl, sym, ap, subst, ◌∙◌, arith, slice_get, slice_set, map, nat_eq, not, eq-eqb, ne_eqb, append-nil, inl, inr, ◌⊎◌, option_map, Bool}
+use Rattle.boost_core.proofs.Vocabulary.{option_eq, slice_get_within, Op, Refusal, key_of, takes_node, PendingAt, Step, serial, now, Opened, Waiting, LeavingToEnd, RoomySeat, TableAt, cursor_changes, map_of, nodes_of, false≢true, cases_eq, and_from, or_right, Now, stripe_of, is_locked, holder_of, same_is, is_locked-asked, is_locked-busy, Prepares, IsRefused, entries_of, held_by, Session, Owner, Caller, Helper, holder_by, refusal_of, has_stamp_for, MayLack, times_of, times_in, IsCovered, World, Tells, IsFresh, state_of, session_changes, gap_if, may_stand, Move, Claim, Lock, Goes, Side, side_of, KeepsPlaced, times_kept, StaysIn, AsksIn, MeetsIn, NoMemory, StampsUsedUp, Ask, Save, log_of, last_of, or_left, StaleWord, Right, Held, Stale, is_taken, nodes_at, gap_by, helper_gaps_of}
 use Rattle.boost_core.proofs.Numbers.{no_more}
-use Rattle.boost_core.proofs.Moves.{Runs, changes_same, gaps_same, lacks, none_dropped}
+use Rattle.boost_core.proofs.Moves.{Runs, changes_same, gaps_same, lacks, none_dropped, runs_same, state_is}
 use Rattle.boost_core.proofs.Grow.{Stays, world_after, seated_as, set_cases}
-use Rattle.boost_core.proofs.Outcomes.{Comes, Called, CalledBy, same_world, entered}
-use Rattle.boost_core.specs.Answers.{may_stand}
-use Rattle.boost_core.specs.Machine.{Move}
-use Rattle.boost_core.specs.Words.{Claim, Lock, Goes}
-use Rattle.boost_core.specs.Sessions.{Side, side_of, target_in, IsSoughtAt, KeepsPlaced, Waits, spare_if, times_kept, StaysIn, AsksIn, MeetsIn}
-use Rattle.boost_core.proofs.Spares.{spent}
+use Rattle.boost_core.proofs.Outcomes.{Comes, Called, CalledBy, entered}
+use Rattle.boost_core.proofs.Spares.{spent, given_for, open_to}
 use Rattle.boost_core.proofs.Refused.{seat_free, three_tests}
-use Rattle.boost_core.proofs.Quiet.{idle_cursor, nothing_waits}
-use Rattle.boost_core.proofs.Gaps.{same_fits}
-use Rattle.boost_core.proofs.HelperGaps.{same_helper}
-use Rattle.boost_core.proofs.Given.{given_for, open_to}
+use Rattle.boost_core.proofs.Quiet.{idle_cursor, nothing_waits, quiet}
+use Rattle.boost_core.proofs.Gaps.{same_fits, same_helper}
+use Rattle.txn_words.specs.declared.entry.Entry.TheVariants as entry
+use Rattle.txn_words.specs.declared.answer.Answer.TheVariants as answers
+use Rattle.txn_trace.proofs.Entries as laws
 
 module _ (w : World) (tells : Tells w) (c : ℕ) (x : Session) (at : slice_get w.sessions c ≡ Some x) where
   -- The cursor that was placed last still fits if the nodes, the buckets and the caller's cursor are
@@ -54,10 +34,10 @@ module _ (w : World) (tells : Tells w) (c : ℕ) (x : Session) (at : slice_get w
     lacking_stays = record {
       cursor = x.cursor;
       becomes = stays.becomes;
-      waits = subst (λ (q : Phase). Waits q x.pending y.log.room) (sym opened) (subst (λ (o : Option PendingAt). Waits Opened o y.log.room) (sym (nothing_waits w tells c x at Opened opened refl)) tt);
+      waits = rw (opened, nothing_waits w tells c x at Opened opened refl) tt;
       content = refl;
       placed = record { placed = λ cursor key is. is; sound = λ sound. sound };
-      sought = subst (λ (o : Option Cursor). IsSoughtAt w.table o (target_in x.seat.seat.phase y.log)) (sym (idle_cursor w tells c x at Opened opened refl)) tt;
+      sought = rw (idle_cursor w tells c x at Opened opened refl) tt;
       spares = λ others covered. covered;
       largest = refl;
       helpers = refl;
@@ -79,13 +59,13 @@ module _ (w : World) (tells : Tells w) (c : ℕ) (x : Session) (at : slice_get w
     }
 
   -- Memory for a savepoint is refused.
-  pub save_refused : refusal_of (state_of w) (steps.Save c) ≡ None → (y : Session) (t' : TableAt) (locks' : List (Option ℕ)) → StaysIn x y → t' ≡ w.table → locks' ≡ w.locks → Called w c x (steps.Save c) (answers.Refused refusals.NoMemory) y t' locks'
-  save_refused none y t' locks' stays table same = same_world (Called w c x (steps.Save c) (answers.Refused refusals.NoMemory) y) w.table t' w.locks locks' table same
-      (lacking_called Lock (steps.Save c) refusals.NoMemory (lacks (state_of w) (steps.Save c) refusals.NoMemory none tt) (three_tests x.seat.seat _ _ _ _ (seat_free w tells c x at (steps.Save c) refl none)).0 y stays refl)
+  pub save_refused : refusal_of (state_of w) (Save c) ≡ None → (y : Session) (t' : TableAt) (locks' : List (Option ℕ)) → StaysIn x y → t' ≡ w.table → locks' ≡ w.locks → Called w c x (Save c) (answers.Refused NoMemory) y t' locks'
+  save_refused none y t' locks' stays table same =
+      rw (table, same) (lacking_called Lock (Save c) NoMemory (lacks (state_of w) (Save c) NoMemory none tt) (three_tests x.seat.seat _ _ _ _ (seat_free w tells c x at (Save c) refl none)).0 y stays refl)
 
-  module _ (op : Op) (none : refusal_of (state_of w) (steps.Ask c op) ≡ None) where
+  module _ (op : Op) (none : refusal_of (state_of w) (Ask c op) ≡ None) where
     pub opened : x.seat.seat.phase ≡ Opened
-    opened = (three_tests x.seat.seat _ _ _ _ (seat_free w tells c x at (steps.Ask c op) refl none)).0
+    opened = (three_tests x.seat.seat _ _ _ _ (seat_free w tells c x at (Ask c op) refl none)).0
 
     pub nothing : x.pending ≡ None
     nothing = nothing_waits w tells c x at Opened opened refl
@@ -94,18 +74,18 @@ module _ (w : World) (tells : Tells w) (c : ℕ) (x : Session) (at : slice_get w
     no_cursor_there = idle_cursor w tells c x at Opened opened refl
 
     -- Memory is refused, or no stamp is left.
-    pub ask_refused : (claim : Claim) (refusal : Refusal) → (Move (state_of w) (steps.Ask c op) (answers.Refused refusal) (state_of w) → Goes claim (state_of w) (steps.Ask c op) (answers.Refused refusal) (state_of w)) → (y : Session) (t' : TableAt) (locks' : List (Option ℕ))
-        → (refusal ≡ refusals.NoMemory) ⊎ IsRefused w.table op refusal → StaysIn x y → t' ≡ w.table → locks' ≡ w.locks → CalledBy claim w c x (steps.Ask c op) (answers.Refused refusal) y t' locks'
-    ask_refused claim refusal by y t' locks' why stays table same = same_world (CalledBy claim w c x (steps.Ask c op) (answers.Refused refusal) y) w.table t' w.locks locks' table same
-        (lacking_called claim (steps.Ask c op) refusal (by (lacks (state_of w) (steps.Ask c op) refusal none (lack why))) opened y stays refl)
+    pub ask_refused : (claim : Claim) (refusal : Refusal) → (Move (state_of w) (Ask c op) (answers.Refused refusal) (state_of w) → Goes claim (state_of w) (Ask c op) (answers.Refused refusal) (state_of w)) → (y : Session) (t' : TableAt) (locks' : List (Option ℕ))
+        → (refusal ≡ NoMemory) ⊎ IsRefused w.table op refusal → StaysIn x y → t' ≡ w.table → locks' ≡ w.locks → CalledBy claim w c x (Ask c op) (answers.Refused refusal) y t' locks'
+    ask_refused claim refusal by y t' locks' why stays table same =
+        rw (table, same) (lacking_called claim (Ask c op) refusal (by (lacks (state_of w) (Ask c op) refusal none (lack why))) opened y stays refl)
       where
-        may_lack : (refusal : Refusal) → IsRefused w.table op refusal → MayLack (state_of w) (steps.Ask c op) refusal
-        may_lack refusals.StampsUsedUp is = λ i. not (not (is.0 i) || not (is.1 i == 2 ^ 64 - 2))
-        may_lack refusals.NoMemory is = tt
+        may_lack : (refusal : Refusal) → IsRefused w.table op refusal → MayLack (state_of w) (Ask c op) refusal
+        may_lack StampsUsedUp is = λ i. not (not (is.0 i) || not (is.1 i == 2 ^ 64 - 2))
+        may_lack NoMemory is = tt
         may_lack _ is = absurd is
 
-        lack : (refusal ≡ refusals.NoMemory) ⊎ IsRefused w.table op refusal → MayLack (state_of w) (steps.Ask c op) refusal
-        lack (inl is) = subst (MayLack (state_of w) (steps.Ask c op)) (sym is) tt
+        lack : (refusal ≡ NoMemory) ⊎ IsRefused w.table op refusal → MayLack (state_of w) (Ask c op) refusal
+        lack (inl is) = rw is tt
         lack (inr is) = may_lack refusal is
 
     abbrev pub stripe : ℕ
@@ -115,13 +95,8 @@ module _ (w : World) (tells : Tells w) (c : ℕ) (x : Session) (at : slice_get w
     spares_before : (t' : TableAt) (pending : PendingAt) → Prepares w.table t' op pending → (others : ℕ → ℕ → ℕ) → IsCovered (λ place stamp. others place stamp + times_kept (side_of x) place stamp) w.table
         → IsCovered (λ place stamp. others place stamp + times_in x.log.jobs place stamp + times_of pending.spare place stamp) t'
     spares_before t' pending prepares others covered =
-        (given_for w.table t' (takes_node op) pending.spare prepares.given).covered (λ p s. others p s + times_in x.log.jobs p s) (λ p s.
-        let same : times_of (spare_if x.pending) p s ≡ 0 = ap (λ (o : Option PendingAt). times_of (spare_if o) p s) nothing in
-        let exact : others p s + (times_of (spare_if x.pending) p s + times_in x.log.jobs p s) ≡ times_out w.table p s = covered p s in
-        regroup (others p s) (times_of (spare_if x.pending) p s) (times_in x.log.jobs p s) (times_out w.table p s) same exact)
-      where
-        regroup : (a z j n : ℕ) → z ≡ 0 → a + (z + j) ≡ n → a + j ≡ n
-        regroup a z j n same exact = omega arith
+        (given_for w.table t' (takes_node op) pending.spare prepares.given).covered (λ p s. others p s + times_in x.log.jobs p s)
+        (λ p s. omega (arith, rw nothing at (covered p s)))
 
     prepared_runs : (t' : TableAt) (pending : PendingAt) → Prepares w.table t' op pending → Runs w.table t'
     prepared_runs t' pending prepares = record {
@@ -129,7 +104,7 @@ module _ (w : World) (tells : Tells w) (c : ℕ) (x : Session) (at : slice_get w
       stored = prepares.nodes.buckets.stored;
       linked = prepares.nodes.linked;
       helps = prepares.nodes.buckets.helps;
-      rises = let same = prepares.nodes.changes in omega arith;
+      rises = omega (arith, prepares.nodes.changes);
       last = (given_for w.table t' (takes_node op) pending.spare prepares.given).rises;
       one_last = (given_for w.table t' (takes_node op) pending.spare prepares.given).most;
     }
@@ -141,29 +116,23 @@ module _ (w : World) (tells : Tells w) (c : ℕ) (x : Session) (at : slice_get w
 
       locked : is_locked (holder_by w.words) w.limits.stripes w.history (entry.Asked c op) ≡ true
       locked = is_locked-asked (holder_by w.words) w.limits.stripes w.history c op tells.legal.shape tells.legal.locks ∙ open_to (holder_of w.limits.stripes stripe w.history) c
-          (subst (λ (o : Option ℕ). (o ≡ None) ⊎ (o ≡ Some c)) (tells.holders stripe within) asks.grants.open_to_caller)
+          (rw (tells.holders stripe within) at asks.grants.open_to_caller)
 
       asked_holders : (s : ℕ) → s < w.limits.stripes → held_by locks' s ≡ holder s
       asked_holders s below = asks.grants.each s ∙ elim (cases_eq s stripe) [
-        | inl same ↦ ap (λ e. cond e (Some c) (held_by w.locks s)) (eq-eqb s stripe same) ∙ sym (ap (λ e. cond e (Some c) (holder_of w.limits.stripes s w.history)) (eq-eqb stripe s (sym same)))
-        | inr other ↦ ap (λ e. cond e (Some c) (held_by w.locks s)) (ne_eqb s stripe other) ∙ tells.holders s below
-            ∙ sym (ap (λ e. cond e (Some c) (holder_of w.limits.stripes s w.history)) (ne_eqb stripe s (λ e. other (sym e))))
+        | inl same ↦ rw (eq-eqb s stripe same, eq-eqb stripe s (sym same)) refl
+        | inr other ↦ rw (ne_eqb s stripe other, ne_eqb stripe s (λ e. other (sym e))) (tells.holders s below)
       ]
 
       abbrev asked_side : Side
       asked_side = record (side_of x) { pending = Some asks.pending }
 
       asked_covered : (others : ℕ → ℕ → ℕ) → IsCovered (λ place stamp. others place stamp + times_kept (side_of x) place stamp) w.table → IsCovered (λ place stamp. others place stamp + times_kept asked_side place stamp) t'
-      asked_covered others covered place stamp =
-          let after : others place stamp + times_in x.log.jobs place stamp + times_of asks.pending.spare place stamp ≡ times_out t' place stamp = spares_before t' asks.pending asks.prepares others covered place stamp in
-          regroup (others place stamp) (times_in x.log.jobs place stamp) (times_of asks.pending.spare place stamp) (times_out t' place stamp) after
-        where
-          regroup : (a j s n : ℕ) → a + j + s ≡ n → a + (s + j) ≡ n
-          regroup a j s n exact = omega arith
+      asked_covered others covered place stamp = omega (arith, spares_before t' asks.pending asks.prepares others covered place stamp)
 
-      pub asked_called : Called w c x (steps.Ask c op) answers.Asked y t' locks'
+      pub asked_called : Called w c x (Ask c op) answers.Asked y t' locks'
       asked_called =
-          entered w c x y t' locks' (steps.Ask c op) answers.Asked (entry.Asked c op) (map session_changes w.sessions) refl refl refl
+          entered w c x y t' locks' (Ask c op) answers.Asked (entry.Asked c op) (map session_changes w.sessions) refl refl refl
           (none_dropped w.sessions c x at no_cursor_there) (
             none,
             and_from (has_stamp_for (state_of w) op) (may_stand (state_of w) (entry.Asked c op))
@@ -177,8 +146,7 @@ module _ (w : World) (tells : Tells w) (c : ℕ) (x : Session) (at : slice_get w
             holder = holder;
             side = asked_side;
             becomes = asks.becomes ∙ (λ i. record asked_side { cursor = no_cursor_there i });
-            next = subst (λ l. Next (holder_by w.words) w.limits.stripes w.history (entry.Asked c op) (record { phase = Waiting op; standing = x.seat.seat.standing; kept = x.seat.seat.kept }) l (serial w.history) (now w.history) holder)
-                (tells.seated c x at).log (laws.asked w.limits.stripes w.history tells.legal c op x.seat.seat (tells.seated c x at).seat opened locked);
+            next = rw (tells.seated c x at).log at (laws.asked w.limits.stripes w.history tells.legal c op x.seat.seat (tells.seated c x at).seat opened locked);
             mine = refl;
             saved = λ is. absurd (false≢true is);
             kept = (tells.seated c x at).agrees.kept;
@@ -201,9 +169,8 @@ module _ (w : World) (tells : Tells w) (c : ℕ) (x : Session) (at : slice_get w
     module _ (holder : ℕ) (y : Session) (t' : TableAt) (locks' : List (Option ℕ)) (meets : MeetsIn c stripe op holder x w.table w.locks y t' locks') (keeps : KeepsPlaced w.table t') (within : stripe < w.limits.stripes) where
       stands : w.words ≡ false → may_stand (state_of w) (entry.Busy c op holder) ≡ true
       stands words =
-          let locks : LocksHold Now w.limits.stripes w.history = subst (λ b. LocksHold (holder_by b) w.limits.stripes w.history) words tells.legal.locks in
-          subst (λ b. is_locked (holder_by b) w.limits.stripes w.history (entry.Busy c op holder) ≡ true) (sym words)
-          (is_locked-busy Now w.limits.stripes w.history c op holder tells.legal.shape locks
+          rw words (
+          is_locked-busy Now w.limits.stripes w.history c op holder tells.legal.shape (rw words at tells.legal.locks)
           ∙ and_from (not (holder == c)) (option_eq nat_eq (holder_of w.limits.stripes stripe w.history) (Some holder)) (ap not (ne_eqb holder c meets.refuses.by_another))
           (same_is (holder_of w.limits.stripes stripe w.history) (Some holder) (sym (tells.holders stripe within) ∙ meets.refuses.held)))
 
@@ -218,23 +185,18 @@ module _ (w : World) (tells : Tells w) (c : ℕ) (x : Session) (at : slice_get w
             stored = meets.back.nodes.buckets.stored ∙ was.stored;
             linked = meets.back.nodes.linked ∙ was.linked;
             helps = meets.back.nodes.buckets.helps ∙ was.helps;
-            rises = let same = meets.back.nodes.changes in let before = was.rises in omega arith;
-            last = let same = meets.back.last in let before = was.last in omega arith;
-            one_last = let same = meets.back.last in let before = was.one_last in omega arith;
+            rises = omega (arith, meets.back.nodes.changes, was.rises);
+            last = omega (arith, meets.back.last, was.last);
+            one_last = omega (arith, meets.back.last, was.one_last);
           }
 
       pub busy_covered : (others : ℕ → ℕ → ℕ) → IsCovered (λ place stamp. others place stamp + times_kept (side_of x) place stamp) w.table → IsCovered (λ place stamp. others place stamp + times_kept (side_of x) place stamp) t'
       busy_covered others covered place stamp =
-          let exact : others place stamp + times_in x.log.jobs place stamp ≡ times_out t' place stamp = spent meets.between t' meets.pending.spare (λ p s. others p s + times_in x.log.jobs p s) meets.back.spares (spares_before meets.between meets.pending meets.prepares others covered) place stamp in
-          let none : times_of (spare_if x.pending) place stamp ≡ 0 = ap (λ (o : Option PendingAt). times_of (spare_if o) place stamp) nothing in
-          regroup (others place stamp) (times_in x.log.jobs place stamp) (times_of (spare_if x.pending) place stamp) (times_out t' place stamp) none exact
-        where
-          regroup : (a j p n : ℕ) → p ≡ 0 → a + j ≡ n → a + (p + j) ≡ n
-          regroup a j p n none exact = omega arith
+          rw nothing (omega (arith, spent meets.between t' meets.pending.spare (λ p s. others p s + times_in x.log.jobs p s) meets.back.spares (spares_before meets.between meets.pending meets.prepares others covered) place stamp))
 
-      pub busy_called : w.words ≡ false → Called w c x (steps.Ask c op) (answers.Busy holder) y t' locks'
+      pub busy_called : w.words ≡ false → Called w c x (Ask c op) (answers.Busy holder) y t' locks'
       busy_called words =
-          entered w c x y t' locks' (steps.Ask c op) (answers.Busy holder) (entry.Busy c op holder)
+          entered w c x y t' locks' (Ask c op) (answers.Busy holder) (entry.Busy c op holder)
           (map session_changes w.sessions) refl refl refl (none_dropped w.sessions c x at no_cursor_there)
           (none, and_from (w.words || has_stamp_for (state_of w) op) (may_stand (state_of w) (entry.Busy c op holder)) (or_right w.words (has_stamp_for (state_of w) op) busy_stamped) (stands words))
           busy_runs (λ kept. meets.back.nodes.changes ∙ meets.prepares.nodes.changes)
@@ -245,12 +207,11 @@ module _ (w : World) (tells : Tells w) (c : ℕ) (x : Session) (at : slice_get w
             holder = λ s. holder_of w.limits.stripes s w.history;
             side = side_of x;
             becomes = meets.becomes ∙ (λ i. record (side_of x) { cursor = no_cursor_there i });
-            next = subst (λ l. Next (holder_by w.words) w.limits.stripes w.history (entry.Busy c op holder) (record { phase = LeavingToEnd; standing = x.seat.seat.standing; kept = x.seat.seat.kept }) l (serial w.history) (now w.history) (λ s. holder_of w.limits.stripes s w.history))
-                (tells.seated c x at).log (laws.busy w.limits.stripes w.history tells.legal c op holder x.seat.seat (tells.seated c x at).seat opened (stands words));
+            next = rw (tells.seated c x at).log at (laws.busy w.limits.stripes w.history tells.legal c op holder x.seat.seat (tells.seated c x at).seat opened (stands words));
             mine = refl;
             saved = λ is. absurd (false≢true is);
             kept = (tells.seated c x at).agrees.kept;
-            waits = subst (λ (o : Option PendingAt). Waits LeavingToEnd o y.log.room) (sym nothing) tt;
+            waits = rw nothing tt;
             due = (tells.seated c x at).due;
             content = ap map_of (meets.back.nodes.regular ∙ meets.prepares.nodes.regular) ∙ tells.content;
             apart = λ d other k held. refl;
@@ -263,3 +224,78 @@ module _ (w : World) (tells : Tells w) (c : ℕ) (x : Session) (at : slice_get w
             long = ap length meets.refuses.same;
             holders = λ s below. ap (λ ls. held_by ls s) meets.refuses.same ∙ tells.holders s below;
           })
+
+      -- A right to a stripe that another caller holds is stale.
+      same_nodes : nodes_of t' ≡ nodes_of w.table
+      same_nodes = meets.back.nodes.all ∙ meets.prepares.nodes.all
+
+      same_buckets : t'.buckets ≡ w.table.buckets
+      same_buckets = meets.back.nodes.buckets.all ∙ meets.prepares.nodes.buckets.all
+
+      taken : is_taken (state_of w) c op ≡ true
+      taken =
+          let holds = rw (tells.holders stripe within) at meets.refuses.held in
+          ap not (is_locked-asked (holder_by w.words) w.limits.stripes w.history c op tells.legal.shape tells.legal.locks
+          ∙ ap (λ (o : Option ℕ). elim o as (λ _. Bool) [ None ↦ true | Some d ↦ d == c ]) holds ∙ ne_eqb holder c meets.refuses.by_another)
+
+      stale_stays : Stays w c x y t' locks' w.counts
+      stale_stays = record {
+        cursor = x.cursor;
+        becomes = meets.becomes;
+        waits = rw (opened, nothing) tt;
+        content = ap map_of (meets.back.nodes.regular ∙ meets.prepares.nodes.regular);
+        placed = keeps;
+        sought = rw no_cursor_there tt;
+        spares = busy_covered;
+        largest = meets.back.nodes.buckets.largest ∙ meets.prepares.nodes.buckets.largest;
+        helpers = ap length (meets.back.nodes.buckets.helps ∙ meets.prepares.nodes.buckets.helps);
+        same_locks = meets.refuses.same;
+        same_counts = refl;
+      }
+
+      -- Only the last stamp of the state has changed.
+      stale_state : (seat' : RoomySeat) → state_of (world_after w c (seated_as y seat') (w.history ++ []) w.counts t' locks' w.placed)
+          ≡ record (state_of w) { stamp = last_of t'; nodes = nodes_at t'; gaps = map (gap_by t') (slice_set w.sessions c (seated_as y seat')); helper_gaps = helper_gaps_of t' }
+      stale_state seat' =
+          state_is w (w.history ++ []) w.history w.counts t' (map session_changes w.sessions) (slice_set w.sessions c (seated_as y seat')) locks' w.placed busy_runs (append-nil w.history)
+          (changes_same w.sessions c x (seated_as y seat') at (ap (λ (s : Side). option_map cursor_changes s.cursor) meets.becomes))
+          ∙ ap (λ (noted : ℕ). record (state_of w) { changes = noted; stamp = last_of t'; nodes = nodes_at t'; gaps = map (gap_by t') (slice_set w.sessions c (seated_as y seat')); helper_gaps = helper_gaps_of t' }) (meets.back.nodes.changes ∙ meets.prepares.nodes.changes)
+
+      pub stale_called : CalledBy Right w c x (Ask c op) (answers.Refused StaleWord) y t' locks'
+      stale_called = record {
+        comes = stale_stays;
+        move = λ seat'. inl (record {
+          refused = refl;
+          free = none;
+          stale = and_from (has_stamp_for (state_of w) op) (is_taken (state_of w) c op) busy_stamped taken;
+          state = stale_state seat';
+          stamp = busy_runs.last;
+          one_stamp = busy_runs.one_last;
+        });
+        fresh = λ seat'. fresh_kept y
+            (ap (λ (s : Side). s.cursor) meets.becomes) t' same_nodes same_buckets seat' w.placed tells.fresh;
+      }
+
+    -- A word that names a caller that may hold the stripe: the caller leaves to the end.
+    pub held_called : (named : ℕ) → w.words ≡ true → may_stand (state_of w) (entry.Busy c op named) ≡ true → CalledBy (Held named) w c x (Ask c op) (answers.Busy named) x w.table w.locks
+    held_called named words stands =
+        let is : Called w c x (Ask c op) (answers.Busy named) x w.table w.locks =
+        entered w c x x w.table w.locks (Ask c op) (answers.Busy named) (entry.Busy c op named)
+        (map session_changes w.sessions) refl refl refl (none_dropped w.sessions c x at no_cursor_there) (
+          none,
+          and_from (w.words || has_stamp_for (state_of w) op) (may_stand (state_of w) (entry.Busy c op named))
+              (or_left w.words (has_stamp_for (state_of w) op) words) stands,
+        ) (runs_same w.table) (λ kept. refl)
+        (quiet w tells c x at (entry.Busy c op named) x
+        (record { phase = LeavingToEnd; standing = x.seat.seat.standing; kept = x.seat.seat.kept }) x.log.kept (log_of c w.history)
+        (serial w.history) (λ s. holder_of w.limits.stripes s w.history) w.locks w.counts
+        (laws.busy w.limits.stripes w.history tells.legal c op named x.seat.seat (tells.seated c x at).seat opened stands) (tells.seated c x at).log
+        refl (λ is. absurd (false≢true is)) (tells.seated c x at).agrees.kept refl nothing no_cursor_there refl
+        (no_more w.counts.began) (no_more w.counts.committed) refl tells.holders) in
+        record { comes = is.comes; move = λ seat'. inr (eq-eqb named named refl, is.move seat'); fresh = is.fresh }
+
+    -- A word that names no caller that may hold the stripe.
+    pub word_stale_called : CalledBy Stale w c x (Ask c op) (answers.Refused StaleWord) x w.table w.locks
+    word_stale_called = lacking_called Stale (Ask c op) StaleWord
+        (inl (record { refused = refl; free = none; stale = refl; state = refl; stamp = omega arith; one_stamp = omega arith }))
+        opened x (record { becomes = refl }) refl

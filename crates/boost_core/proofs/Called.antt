@@ -1,27 +1,15 @@
 -- The outcome of each step of a caller.
-use Rattle.std.proofs.Common.{◌≡◌, ℕ, ◌+◌, ◌-◌, ◌^◌, ◌<◌, ◌≤◌, Bool, true, false, List, Option, Some, None, is_some, refl, sym, ap, subst, ◌∙◌, arith, slice_get, slice_set, map, reverse, unwrap_or, inr, length-set, get_or-set_same}
-use Rattle.std.proofs.lemmas.Bool.{leb-false}
-use Rattle.boost_core.proofs.Vocabulary.{option_map, false≢true, slice_get_within, slice_get-map, Step, Answer, TableAt, Cursor, cursor_changes, table_changes, key_of, Op, stripe_of}
-use Rattle.txn_words.specs.declared.step.Step.TheVariants as steps
-use Rattle.txn_words.specs.declared.answer.Answer.TheVariants as answers
-use Rattle.boost_core.specs.declared.counts.Counts.{Counts}
-use Rattle.boost_core.specs.declared.session.Session.{Session}
-use Rattle.boost_core.specs.State.{Caller, caller_changes}
-use Rattle.boost_core.specs.Refusals.{refusal_of, owner_of}
-use Rattle.boost_core.specs.Words.{Claim, Lock, Right, Held, Stale, IsClaim}
-use Rattle.boost_core.specs.Spares.{times_of, times_in, times_out}
-use Rattle.boost_core.specs.Core.{World, Tells, state_of, session_changes, all_times}
-use Rattle.boost_core.proofs.Outcomes.{Called, CalledBy, same_world}
-use Rattle.txn_words.specs.declared.refusal.Refusal.TheVariants as refusals
-use Rattle.boost_core.specs.Sessions.{side_of, Does, ActsIn, ReturnsIn, Saves, IsAsked, AsksBy, unless_busy, KeepsPlaced, Takes, AreDue, spare_if, times_kept}
+use Rattle.std.proofs.Common.{◌≡◌, ℕ, ◌+◌, ◌-◌, ◌^◌, ◌<◌, ◌≤◌, Bool, true, false, List, Option, Some, None, is_some, refl, sym, ap, subst, ◌∙◌, arith, slice_get, slice_set, map, inr, leb-false}
+use Rattle.boost_core.proofs.Vocabulary.{false≢true, slice_get_within, slice_get-map, Step, Answer, TableAt, table_changes, key_of, Op, stripe_of, Counts, Session, Caller, caller_changes, refusal_of, owner_of, Claim, Lock, Right, Held, Stale, IsClaim, times_in, World, Tells, state_of, session_changes, all_times, side_of, Does, ActsIn, Saves, IsAsked, AsksBy, unless_busy, KeepsPlaced, Takes, spare_if, times_kept, NoMemory}
+use Rattle.boost_core.proofs.Outcomes.{Called, CalledBy}
 use Rattle.boost_core.proofs.Spares.{owns_if}
 use Rattle.boost_core.proofs.Grow.{one_of_sum}
-use Rattle.boost_core.proofs.Refused.{caller_in, index_at, free, seat_free, cursor_free}
+use Rattle.boost_core.proofs.Refused.{caller_in, free, seat_free, cursor_free, set_here, noted_some}
 use Rattle.boost_core.proofs.Parting.{begun, saved, left, committed, withdrawn, returned, ended}
-use Rattle.boost_core.proofs.Asking.{asked_called, busy_called, ask_refused, save_refused}
-use Rattle.boost_core.proofs.Claims.{stale_called, held_called, word_stale_called}
-use Rattle.boost_core.proofs.Working.{did_called, undone_called}
-use Rattle.boost_core.proofs.Finding.{sought_called, again_called}
+use Rattle.boost_core.proofs.Asking.{asked_called, busy_called, ask_refused, save_refused, stale_called, held_called, word_stale_called}
+use Rattle.boost_core.proofs.Working.{did_called, undone_called, sought_called, again_called}
+use Rattle.txn_words.specs.declared.step.Step.TheVariants as steps
+use Rattle.txn_words.specs.declared.answer.Answer.TheVariants as answers
 
 -- An Ask locks its stripe only if stripes are not words.
 no_words : (words : Bool) → (words ≡ true → true ≡ false) → words ≡ false
@@ -49,28 +37,21 @@ module _ (w : World) (tells : Tells w) (x : Session) (y : Session) (t' : TableAt
   asked_by : (claim : Claim) (c : ℕ) (op : Op) → slice_get w.sessions c ≡ Some x → refusal_of (state_of w) (steps.Ask c op) ≡ None → stripe_of w.limits.stripes (key_of op) < w.limits.stripes → IsClaim claim (state_of w) (steps.Ask c op) → (answer : Answer)
       → AsksBy claim c (stripe_of w.limits.stripes (key_of op)) op x w.table w.locks answer y t' locks' → CalledBy claim w c x (steps.Ask c op) answer y t' locks'
   asked_by Lock c op at none within claims answer does = asked c op at none within (no_words w.words claims) answer does
-  asked_by Right c op at none within claims answer does = subst (λ a. CalledBy Right w c x (steps.Ask c op) a y t' locks') (sym does.1) (asked_with c op at none within does.0 does.2)
-  asked_by (Held named) c op at none within claims answer does =
-      subst (λ a. CalledBy (Held named) w c x (steps.Ask c op) a y t' locks') (sym does.0)
-      (subst (λ s. CalledBy (Held named) w c x (steps.Ask c op) (answers.Busy named) s t' locks') (sym does.1)
-      (same_world (CalledBy (Held named) w c x (steps.Ask c op) (answers.Busy named) x) w.table t' w.locks locks' does.2 does.3 (held_called w tells c x at op none named claims.0 claims.1)))
-  asked_by Stale c op at none within claims answer does =
-      subst (λ a. CalledBy Stale w c x (steps.Ask c op) a y t' locks') (sym does.0)
-      (subst (λ s. CalledBy Stale w c x (steps.Ask c op) (answers.Refused refusals.StaleWord) s t' locks') (sym does.1)
-      (same_world (CalledBy Stale w c x (steps.Ask c op) (answers.Refused refusals.StaleWord) x) w.table t' w.locks locks' does.2 does.3 (word_stale_called w tells c x at op none)))
+  asked_by Right c op at none within claims answer does = rw does.1 (asked_with c op at none within does.0 does.2)
+  asked_by (Held named) c op at none within claims answer does = rw (does.0, does.1, does.2, does.3) (held_called w tells c x at op none named claims.0 claims.1)
+  asked_by Stale c op at none within claims answer does = rw (does.0, does.1, does.2, does.3) (word_stale_called w tells c x at op none)
 
   acted : (c : ℕ) → slice_get w.sessions c ≡ Some x → refusal_of (state_of w) (steps.Act c) ≡ None → (answer : Answer) → ActsIn c x w.table w.locks answer y t' locks' → Called w c x (steps.Act c) answer y t' locks'
-  acted c at none answers.Again does = subst (Called w c x (steps.Act c) answers.Again y t') (sym does.2) (again_called w tells c x at none does.0 y t' does.1)
-  acted c at none (answers.Done reply) does = subst (Called w c x (steps.Act c) (answers.Done reply) y t') (sym does.1) (did_called w tells c x at none reply y t' does.0 keeps rises)
-  acted c at none answers.Undone does = subst (Called w c x (steps.Act c) answers.Undone y t') (sym does.2) (undone_called w tells c x at none does.0 y t' does.1 keeps rises)
-  acted c at none (answers.Returned n) does = same_world (Called w c x (steps.Act c) (answers.Returned n) y) w.table t' w.locks locks' does.2 does.1.locks_stay (returned w tells c x at none does.0 n y (subst (λ l. ReturnsIn n x w.locks y l) does.1.locks_stay does.1))
-  acted c at none answers.Aborted does = subst (λ t. Called w c x (steps.Act c) answers.Aborted y t locks') (sym does.2) (ended w tells c x at none does.0 y locks' does.1)
+  acted c at none answers.Again does = rw does.2 (again_called w tells c x at none does.0 y t' does.1)
+  acted c at none (answers.Done reply) does = rw does.1 (did_called w tells c x at none reply y t' does.0 keeps rises)
+  acted c at none answers.Undone does = rw does.2 (undone_called w tells c x at none does.0 y t' does.1 keeps rises)
+  acted c at none (answers.Returned n) does = rw (does.2, does.1.locks_stay) (returned w tells c x at none does.0 n y (rw does.1.locks_stay at does.1))
+  acted c at none answers.Aborted does = rw does.2 (ended w tells c x at none does.0 y locks' does.1)
   acted c at none _ does = absurd does
 
   saved_here : (c : ℕ) → slice_get w.sessions c ≡ Some x → refusal_of (state_of w) (steps.Save c) ≡ None → (answer : Answer) → Saves x answer y → t' ≡ w.table → locks' ≡ w.locks → Called w c x (steps.Save c) answer y t' locks'
-  saved_here c at none (answers.Saved n) does table same =
-      same_world (Called w c x (steps.Save c) (answers.Saved n) y) w.table t' w.locks locks' table same (saved w tells c x at none n y does)
-  saved_here c at none (answers.Refused refusals.NoMemory) does table same = save_refused w tells c x at none y t' locks' does table same
+  saved_here c at none (answers.Saved n) does table same = rw (table, same) (saved w tells c x at none n y does)
+  saved_here c at none (answers.Refused NoMemory) does table same = save_refused w tells c x at none y t' locks' does table same
   saved_here c at none _ does table same = absurd does
 
   -- The outcome of each step that claims no word.
@@ -78,20 +59,14 @@ module _ (w : World) (tells : Tells w) (x : Session) (y : Session) (t' : TableAt
       → 0 < w.limits.stripes → IsClaim Lock (state_of w) step → (answer : Answer)
       → Does Lock w.limits.stripes w.counts step x w.table w.locks answer y t' locks'
       → Called w (caller_in (owner_of step)) x step answer y t' locks'
-  locked (steps.Begin c) at none some claims (answers.Began n) does =
-      same_world (Called w c x (steps.Begin c) (answers.Began n) y) w.table t' w.locks locks' does.2 does.3
-      (begun w tells c x at none n y does.0 does.1)
+  locked (steps.Begin c) at none some claims (answers.Began n) does = rw (does.2, does.3) (begun w tells c x at none n y does.0 does.1)
   locked (steps.Ask c op) at none some claims answer does = asked c op at none (grind arith) (no_words w.words claims) answer does
-  locked (steps.Seek c) at none some claims answers.Placed does =
-      subst (Called w c x (steps.Seek c) answers.Placed y t') (sym does.1) (sought_called w tells c x at none y t' does.0 keeps rises)
+  locked (steps.Seek c) at none some claims answers.Placed does = rw does.1 (sought_called w tells c x at none y t' does.0 keeps rises)
   locked (steps.Act c) at none some claims answer does = acted c at none answer does
   locked (steps.Save c) at none some claims answer does = saved_here c at none answer does.0 does.1 does.2
-  locked (steps.Back c n) at none some claims answers.Leaving does =
-      same_world (Called w c x (steps.Back c n) answers.Leaving y) w.table t' w.locks locks' does.1 does.2
-      (left w tells c x at n none y does.0)
+  locked (steps.Back c n) at none some claims answers.Leaving does = rw (does.1, does.2) (left w tells c x at n none y does.0)
   locked (steps.Commit c) at none some claims (answers.Committed p) does = committed w tells c x at none p y t' locks' does.0 does.1 does.2
-  locked (steps.Abort c) at none some claims answers.Leaving does =
-      subst (Called w c x (steps.Abort c) answers.Leaving y t') (sym does.1) (withdrawn w tells c x at none y t' does.0)
+  locked (steps.Abort c) at none some claims answers.Leaving does = rw does.1 (withdrawn w tells c x at none y t' does.0)
   locked _ at none some claims _ does = absurd does
 
   claimed : (claim : Claim) (step : Step) → slice_get w.sessions (caller_in (owner_of step)) ≡ Some x → refusal_of (state_of w) step ≡ None
@@ -104,10 +79,10 @@ module _ (w : World) (tells : Tells w) (x : Session) (y : Session) (t' : TableAt
 
   -- The outcome of each step, by its claim.
   pub called : (claim : Claim) (c : ℕ) (step : Step) → owner_of step ≡ Some (Caller c) → slice_get w.sessions c ≡ Some x → refusal_of (state_of w) step ≡ None → 0 < w.limits.stripes → IsClaim claim (state_of w) step → (answer : Answer)
-      → Does claim w.limits.stripes w.counts step x w.table w.locks answer y t' locks' → CalledBy claim w c x step answer y t' locks'
-  called claim c step owner at none some claims answer does =
+      → (stripes : ℕ) → stripes ≡ w.limits.stripes → Does claim stripes w.counts step x w.table w.locks answer y t' locks' → CalledBy claim w c x step answer y t' locks'
+  called claim c step owner at none some claims answer stripes same does =
       subst (λ k. CalledBy claim w k x step answer y t' locks') (ap caller_in owner)
-      (claimed claim step (subst (λ k. slice_get w.sessions k ≡ Some x) (sym (ap caller_in owner)) at) none some claims answer does)
+      (claimed claim step (subst (λ k. slice_get w.sessions k ≡ Some x) (sym (ap caller_in owner)) at) none some claims answer (rw same at does))
 
 -- The requirements of a step on its caller's side, if nothing refuses it.
 pub takes : (w : World) → Tells w → (c : ℕ) (x : Session) → slice_get w.sessions c ≡ Some x → (step : Step) → owner_of step ≡ Some (Caller c) → refusal_of (state_of w) step ≡ None
@@ -116,47 +91,37 @@ takes w tells c x at step owner none callers some began done = record {
   goes = record {
     agrees = (tells.seated c x at).agrees;
     sought = tells.sought c x at;
-    due = subst (λ m. AreDue m (reverse x.log.jobs)) (sym tells.content) (tells.seated c x at).due;
+    due = rw tells.content (tells.seated c x at).due;
     withdraws = owns_if w.table (spare_if x.pending) (all_times w.sessions) (λ place stamp.
-        let most : times_kept (side_of x) place stamp ≤ all_times w.sessions place stamp = one_of_sum (λ s. times_kept (side_of s) place stamp) w.sessions c x at in
-        fewer (times_in x.log.jobs place stamp) (times_of (spare_if x.pending) place stamp) (all_times w.sessions place stamp) most) tells.spares;
+        omega (arith, most place stamp)) tells.spares;
     settles = (
       λ place stamp. all_times w.sessions place stamp - times_in x.log.jobs place stamp,
-      λ place stamp.
-          let most : times_kept (side_of x) place stamp ≤ all_times w.sessions place stamp = one_of_sum (λ s. times_kept (side_of s) place stamp) w.sessions c x at in
-          rejoin (times_in x.log.jobs place stamp) (times_of (spare_if x.pending) place stamp) (all_times w.sessions place stamp) (times_out w.table place stamp) most (tells.spares place stamp),
+      λ place stamp. omega (arith, most place stamp, tells.spares place stamp),
     );
   };
   free = (w.limits.half, seat_free w tells c x at step owner none);
   placed = cursor_free w tells c x at step owner none;
   owner = (c, owner);
   caller = λ d is.
-      let same : d ≡ c = same_caller d c (sym is ∙ owner) in
-      let below : c < w.limits.callers = leb-false w.limits.callers c (free (state_of w) c step owner none).within in
-      omega arith;
+      let same : d ≡ c = cc (is, owner) in
+      omega (arith, same, leb-false w.limits.callers c (free (state_of w) c step owner none).within);
   many = tells.stripes;
   some_stripe = some;
   begins = began;
   commits = done;
 }
   where
-    same_caller : (d c : ℕ) → Some (Caller d) ≡ Some (Caller c) → d ≡ c
-    same_caller d c same = cc (same)
-
-    fewer : (a b n : ℕ) → b + a ≤ n → b ≤ n
-    fewer a b n most = omega arith
-
-    rejoin : (a b n out : ℕ) → b + a ≤ n → n ≡ out → n - a + a ≡ out
-    rejoin a b n out most exact = omega arith
+    most : (place stamp : ℕ) → times_kept (side_of x) place stamp ≤ all_times w.sessions place stamp
+    most place stamp = one_of_sum (λ s. times_kept (side_of s) place stamp) w.sessions c x at
 
 -- A step with the answer `Placed` leaves its caller a cursor.
 pub placed_cursor : (claim : Claim) (stripes : ℕ) (counts : Counts) (step : Step) (x : Session) (t : TableAt) (locks : List (Option ℕ)) (answer : Answer) (y : Session) (t' : TableAt) (locks' : List (Option ℕ)) → Does claim stripes counts step x t locks answer y t' locks' → answer ≡ answers.Placed → is_some y.cursor ≡ true
 placed_cursor claim stripes counts step x t locks answer y t' locks' does is = at step (subst (λ a. Does claim stripes counts step x t locks a y t' locks') is does)
   where
     not_own : (own : Answer) (c : ℕ) (op : Op) → answers.Placed ≡ unless_busy own → IsAsked c (stripe_of stripes (key_of op)) op x t locks own y t' locks' → ⊥
-    not_own answers.Asked c op is does = cc (is)
-    not_own (answers.Busy holder) c op is does = cc (is)
-    not_own (answers.Refused refusal) c op is does = cc (is)
+    not_own answers.Asked c op is does = cc is
+    not_own (answers.Busy holder) c op is does = cc is
+    not_own (answers.Refused refusal) c op is does = cc is
     not_own _ c op is does = does
 
     never_placed : (claim : Claim) (c : ℕ) (op : Op) → AsksBy claim c (stripe_of stripes (key_of op)) op x t locks answers.Placed y t' locks' → ⊥
@@ -173,11 +138,4 @@ placed_cursor claim stripes counts step x t locks answer y t' locks' does is = a
 -- The change number of the cursor of a caller whose side has changed.
 pub changes_there : (sessions : List Session) (c : ℕ) (x z : Session) → slice_get sessions c ≡ Some x → is_some z.cursor ≡ true → is_some (caller_changes (map session_changes (slice_set sessions c z)) c) ≡ true
 changes_there sessions c x z at some =
-    let within = slice_get_within sessions c x at in
-    let long = length-set sessions c z in
-    let there : slice_get (slice_set sessions c z) c ≡ Some z = index_at (slice_set sessions c z) c z (omega arith) (sym (get_or-set_same sessions c z z within)) in
-    ap (λ (o : Option (Option ℕ)). is_some (unwrap_or o None)) (slice_get-map session_changes (slice_set sessions c z) c ∙ ap (option_map session_changes) there) ∙ both z.cursor ∙ some
-  where
-    both : (o : Option Cursor) → is_some (option_map cursor_changes o) ≡ is_some o
-    both None = refl
-    both (Some cursor) = refl
+    rw (slice_get-map session_changes (slice_set sessions c z) c, set_here sessions c z (slice_get_within sessions c x at)) (noted_some z.cursor ∙ some)

@@ -1,30 +1,19 @@
 -- Several steps of one caller in a row: no later one is refused if the first is not, and none has
 -- the answer `again`.
-use Rattle.std.proofs.Common.{◌≡◌, ℕ, ◌-◌, ◌<◌, ◌≤◌, ◌&&◌, ◌||◌, Bool, true, false, cond, List, [], ◌∷◌, ◌++◌, Option, Some, None, is_some, refl, sym, ap, subst, ◌∙◌, arith, nat_le, not, unwrap_or, slice_index, eqb-true, ltb-true, ne_eqb, append-nil, inl, inr, ◌⊎◌}
-use Rattle.std.proofs.Math.Bool.{and-false, or-true}
-use Rattle.boost_core.proofs.Vocabulary.{All, false≢true, and_parts, Op, Entry, Refusal, Step, Answer, Map, Sizes, caller_of, Phase, Opened, Waiting, LeavingTo, LeavingToEnd, Seat, closed_seat, row, seat_after, own}
-use Rattle.std.specs.Option.{option_and_then}
-use Rattle.std.proofs.lemmas.List.Elements.{All-head, All-tail}
-use Rattle.txn_words.specs.declared.entry.Entry.TheVariants as entry
-use Rattle.txn_words.specs.declared.refusal.Refusal.TheVariants as refusals
-use Rattle.txn_words.specs.declared.step.Step.TheVariants.{Ask, Seek, Act, Back, Abort}
-use Rattle.txn_words.specs.declared.answer.Answer.TheVariants.{Refused, Asked, Placed, Again, Done, Undone, Leaving, Returned, Aborted}
-use Rattle.txn_trace.proofs.Pushes.{own-push_in, seat_after-push}
-use Rattle.boost_core.specs.State.{State, Caller, seat_in, caller_changes}
-use Rattle.boost_core.specs.Refusals.{refusal_of, lacks_in, MayLack, is_closed, is_waiting, is_leaving, has_job, has_target}
-use Rattle.boost_core.specs.Answers.{IsReply, is_back_at, is_at_end, end_of, may_be_stale}
-use Rattle.boost_core.specs.Machine.{Move, Event}
-use Rattle.boost_core.specs.Plain.{Operates, Returns, Aborts}
+use Rattle.std.proofs.Common.{◌≡◌, ℕ, ◌-◌, ◌<◌, ◌≤◌, ◌&&◌, ◌||◌, Bool, true, false, cond, List, [], ◌∷◌, ◌++◌, Option, Some, None, is_some, refl, sym, ap, ◌∙◌, arith, nat_le, not, unwrap_or, slice_index, eqb-true, ltb-true, ne_eqb, append-nil, inl, inr, ◌⊎◌, All, option_and_then}
+use Rattle.boost_core.proofs.Vocabulary.{and-false, or-true, false≢true, and_parts, Op, Entry, Refusal, Step, Answer, Map, Sizes, caller_of, Phase, Opened, Waiting, LeavingTo, LeavingToEnd, Seat, closed_seat, row, seat_after, own, All-head, All-tail, Ask, Seek, Act, Back, Abort, Refused, Asked, Placed, Again, Done, Undone, Leaving, Returned, Aborted, own-push_in, seat_after-push, State, Caller, seat_in, caller_changes, refusal_of, lacks_in, MayLack, is_closed, is_waiting, is_leaving, has_job, has_target, IsReply, is_back_at, is_at_end, may_be_stale, Move, Event, Operates, Returns, Aborts, NoSuchCaller, NotOpen, NothingToSeek, Unplaced}
+use Rattle.boost_core.specs.Answers.{end_of}
 use Rattle.boost_core.proofs.Moves.{just_placed}
 use Rattle.boost_core.proofs.Refused.{or_else, refusal_parts, free, three_tests}
+use Rattle.txn_words.specs.declared.entry.Entry.TheVariants as entry
 
 -- The seat of a caller that has a transaction is that of its entries.
 pub seat_there : (h : List Entry) (c : ℕ) → is_closed (seat_in h c).phase ≡ false → seat_after (own c h) ≡ Some (seat_in h c)
-seat_there h c there = at (seat_after (own c h)) refl
+seat_there h c there = at (seat_after (own c h)) there
   where
-    at : (o : Option Seat) → seat_after (own c h) ≡ o → seat_after (own c h) ≡ Some (seat_in h c)
-    at None is = absurd (false≢true (sym there ∙ ap (λ (o : Option Seat). is_closed (unwrap_or o closed_seat).phase) is))
-    at (Some seat) is = is ∙ ap (λ (o : Option Seat). Some (unwrap_or o closed_seat)) (sym is)
+    at : (o : Option Seat) → is_closed (unwrap_or o closed_seat).phase ≡ false → o ≡ Some (unwrap_or o closed_seat)
+    at None some = absurd (false≢true (sym some))
+    at (Some seat) some = refl
 
 -- The seat after one more entry of the caller.
 pub seat_pushed : (h h' : List Entry) (c : ℕ) (e : Entry) (seat' : Seat) → h' ≡ h ++ e ∷ [] → caller_of e ≡ c → is_closed (seat_in h c).phase ≡ false → row (seat_in h c) (seat_in h c).phase e ≡ Some seat' → seat_in h' c ≡ seat'
@@ -41,13 +30,13 @@ never_refused state step refusal none (inr lack) = lack.1
 pub seek_free : (state : State) (c : ℕ) → nat_le state.limits.callers c ≡ false → is_closed (seat_in state.history c).phase ≡ false → has_target (seat_in state.history c) ≡ true → refusal_of state (Seek c) ≡ None
 seek_free state c within there target =
     refusal_parts state c (Seek c) refl
-    ∙ (λ i. cond (within i) (Some refusals.NoSuchCaller) (or_else (cond (there i) (Some refusals.NotOpen) (cond (not (target i)) (Some refusals.NothingToSeek) None)) None))
+    ∙ (λ i. cond (within i) (Some NoSuchCaller) (or_else (cond (there i) (Some NotOpen) (cond (not (target i)) (Some NothingToSeek) None)) None))
 
 pub act_free : (state : State) (c : ℕ) → nat_le state.limits.callers c ≡ false → is_closed (seat_in state.history c).phase ≡ false → (is_leaving (seat_in state.history c).phase || is_waiting (seat_in state.history c).phase) ≡ true
     → lacks_in (seat_in state.history c) (is_some (caller_changes state.cursors c)) (Act c) ≡ false → refusal_of state (Act c) ≡ None
 act_free state c within there busy cursor =
     refusal_parts state c (Act c) refl
-    ∙ (λ i. cond (within i) (Some refusals.NoSuchCaller) (or_else (cond (there i) (Some refusals.NotOpen) (cond (not (busy i)) (Some refusals.NothingToSeek) None)) (cond (cursor i) (Some refusals.Unplaced) None)))
+    ∙ (λ i. cond (within i) (Some NoSuchCaller) (or_else (cond (there i) (Some NotOpen) (cond (not (busy i)) (Some NothingToSeek) None)) (cond (cursor i) (Some Unplaced) None)))
 
 -- A seek that is not refused places a cursor.
 pub seek_places : (old new : State) (c : ℕ) (answer : Answer) → refusal_of old (Seek c) ≡ None → Move old (Seek c) answer new → answer ≡ Placed
@@ -157,32 +146,25 @@ pub took_back : (old between new : State) (c : ℕ) (first second : Answer) → 
 took_back old between new c first second within leaves job seeks cursor acts =
     let open_here = leaving_open (seat_in old.history c).phase leaves in
     let is_placed : first ≡ Placed = seek_places old between c first (seek_free old c within open_here.0 (ap (λ b. is_waiting (seat_in old.history c).phase || b) job ∙ or-true (is_waiting (seat_in old.history c).phase))) seeks in
-    go is_placed (subst (λ a. Move old (Seek c) a between) is_placed seeks)
-  where
-    go : first ≡ Placed → Move old (Seek c) Placed between → TookBack old between new c first second
-    go is_placed sought =
-        let same_history : between.history ≡ old.history = ap (λ (s : State). s.history) sought.state ∙ append-nil old.history in
-        let same_limits : between.limits ≡ old.limits = ap (λ (s : State). s.limits) sought.state in
-        let seat : seat_in between.history c ≡ seat_in old.history c = ap (λ (h : List Entry). seat_in h c) same_history in
-        let leaves_still : is_leaving (seat_in between.history c).phase ≡ true = ap (λ (s : Seat). is_leaving s.phase) seat ∙ leaves in
-        let job_still : has_job (seat_in between.history c) ≡ true = ap has_job seat ∙ job in
-        let is_undone : second ≡ Undone = act_undoes between new c second (ap (λ (l : Sizes). nat_le l.callers c) same_limits ∙ within) leaves_still job_still (cursor is_placed) (ap (λ (s : State). s.placed) sought.state) acts in
-        let move : Move between (Act c) Undone new = subst (λ a. Move between (Act c) a new) is_undone acts in
-        let rows = row_undone (seat_in between.history c) (seat_in between.history c).phase c leaves_still job_still in
-        let after : seat_in new.history c ≡ record (seat_in between.history c) { standing = (seat_in between.history c).standing - 1 } = seat_pushed between.history new.history c (entry.Undone c) _ (ap (λ (s : State). s.history) move.state) refl (leaving_open (seat_in between.history c).phase leaves_still).0 rows.0 in
-        let standing : (seat_in new.history c).standing ≡ (seat_in between.history c).standing - 1 = ap (λ (s : Seat). s.standing) after in
-        let was : (seat_in between.history c).standing ≡ (seat_in old.history c).standing = ap (λ (s : Seat). s.standing) seat in
-        let some : 0 < (seat_in between.history c).standing = rows.1 in
-        record {
-          placed = is_placed;
-          undone = is_undone;
-          limits = ap (λ (s : State). s.limits) move.state ∙ same_limits;
-          phase = ap (λ (s : Seat). s.phase) after ∙ ap (λ (s : Seat). s.phase) seat;
-          fewer = omega arith;
-        }
-
-done_so : (old asked sought new : State) (c : ℕ) (op : Op) (answer : Answer) (reply : Option ℕ) → answer ≡ Done reply → Event old (Ask c op) Asked asked → Event asked (Seek c) Placed sought → Event sought (Act c) answer new → Operates old c op answer new
-done_so old asked sought new c op answer reply is asks seeks acts = subst (λ a. Operates old c op a new) (sym is) (asked, asks, (sought, seeks, (new, subst (λ a. Event sought (Act c) a new) is acts, refl)))
+    let sought : Move old (Seek c) Placed between = rw is_placed at seeks in
+    let same_history : between.history ≡ old.history = ap (λ (s : State). s.history) sought.state ∙ append-nil old.history in
+    let same_limits : between.limits ≡ old.limits = ap (λ (s : State). s.limits) sought.state in
+    let seat : seat_in between.history c ≡ seat_in old.history c = ap (λ (h : List Entry). seat_in h c) same_history in
+    let leaves_still : is_leaving (seat_in between.history c).phase ≡ true = rw seat leaves in
+    let job_still : has_job (seat_in between.history c) ≡ true = rw seat job in
+    let is_undone : second ≡ Undone = act_undoes between new c second (ap (λ (l : Sizes). nat_le l.callers c) same_limits ∙ within) leaves_still job_still (cursor is_placed) (ap (λ (s : State). s.placed) sought.state) acts in
+    let move : Move between (Act c) Undone new = rw is_undone at acts in
+    let rows = row_undone (seat_in between.history c) (seat_in between.history c).phase c leaves_still job_still in
+    let after = seat_pushed between.history new.history c (entry.Undone c) _ (ap (λ (s : State). s.history) move.state) refl (leaving_open (seat_in between.history c).phase leaves_still).0 rows.0 in
+    let standing : (seat_in new.history c).standing ≡ (seat_in between.history c).standing - 1 = ap (λ (s : Seat). s.standing) after in
+    let was : (seat_in between.history c).standing ≡ (seat_in old.history c).standing = ap (λ (s : Seat). s.standing) seat in
+    record {
+      placed = is_placed;
+      undone = is_undone;
+      limits = ap (λ (s : State). s.limits) move.state ∙ same_limits;
+      phase = ap (λ (s : Seat). s.phase) after ∙ ap (λ (s : Seat). s.phase) seat;
+      fewer = omega (arith, standing, was, rows.1);
+    }
 
 -- An operation that was asked for is done.
 pub operated : (old asked sought new : State) (c : ℕ) (op : Op) (first second : Answer) → Event old (Ask c op) Asked asked → Event asked (Seek c) first sought → (first ≡ Placed → is_some (caller_changes sought.cursors c) ≡ true) → Event sought (Act c) second new
@@ -194,10 +176,10 @@ operated old asked sought new c op first second asks seeks cursor acts =
     let waits : (seat_in asked.history c).phase ≡ Waiting op = ap (λ (s : Seat). s.phase) seat in
     let within : nat_le asked.limits.callers c ≡ false = ap (λ (s : State). nat_le s.limits.callers c) asks.move.state ∙ is_free.within in
     let is_placed : first ≡ Placed = seek_places asked sought c first (seek_free asked c within (ap is_closed waits) (ap (λ q. is_waiting q || has_job (seat_in asked.history c)) waits)) seeks.move in
-    let seeks_so : Event asked (Seek c) Placed sought = subst (λ a. Event asked (Seek c) a sought) is_placed seeks in
+    let seeks_so : Event asked (Seek c) Placed sought = rw is_placed at seeks in
     let same : seat_in sought.history c ≡ seat_in asked.history c = ap (λ (h : List Entry). seat_in h c) (ap (λ (s : State). s.history) seeks_so.move.state ∙ append-nil asked.history) in
     let done = act_does sought new c op second (ap (λ (s : State). nat_le s.limits.callers c) seeks_so.move.state ∙ within) (ap (λ (s : Seat). s.phase) same ∙ waits) (cursor is_placed) (ap (λ (s : State). s.placed) seeks_so.move.state) acts.move in
-    done_so old asked sought new c op second done.0 done.1 asks seeks_so acts
+    rw done.1 (asked, asks, (sought, seeks_so, (new, rw done.1 at acts, refl)))
 
 -- An operation that is not granted, a return to a level that is refused, or an abort that is
 -- refused: the first step is the whole call.
@@ -221,7 +203,7 @@ own_none : (callers c : ℕ) (h : List Entry) → All (λ e. caller_of e < calle
 own_none callers c [] all past = refl
 own_none callers c (e ∷ h) all past =
     let below : caller_of e < callers = All-head (λ e. caller_of e < callers) e h all in
-    ap (λ b. cond b (e ∷ own c h) (own c h)) (ne_eqb (caller_of e) c (λ same. omega arith)) ∙ own_none callers c h (All-tail (λ e. caller_of e < callers) e h all) past
+    rw (ne_eqb (caller_of e) c (λ same. omega arith)) (own_none callers c h (All-tail (λ e. caller_of e < callers) e h all) past)
 
 pub seat_past : (callers c : ℕ) (h : List Entry) → All (λ e. caller_of e < callers) h → callers ≤ c → seat_in h c ≡ closed_seat
 seat_past callers c h all past = ap (λ es. unwrap_or (seat_after es) closed_seat) (own_none callers c h all past)

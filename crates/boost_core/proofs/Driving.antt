@@ -1,29 +1,65 @@
 -- A caller's call for help while nobody else takes steps on the core: the invariant of each phase
 -- of its drive, the number of steps left, a round of the call's loop, and its outcome.
-use Rattle.std.proofs.Common.{◌≡◌, ℕ, ◌+◌, ◌*◌, ◌-◌, ◌^◌, ◌%◌, ◌<◌, ◌≤◌, Bool, true, false, if◌then◌else◌, Option, Some, None, refl, sym, ap, subst, ◌∙◌, arith, nat_le, unwrap_or}
-use Rattle.boost_core.proofs.Vocabulary.{false≢true, Step, Answer, Drive, IsAncestor}
-use Rattle.std.proofs.lemmas.Nat.{mod_below}
-use Rattle.txn_words.specs.declared.step.Step.TheVariants as steps
-use Rattle.txn_words.specs.declared.answer.Answer.TheVariants as answers
-use Rattle.txn_words.specs.declared.refusal.Refusal.TheVariants as refusals
-use Rattle.txn_words.specs.Sizes.{is_bad_key, Sizes, are_limits}
+use Rattle.std.proofs.Common.{◌≡◌, ℕ, ◌+◌, ◌*◌, ◌-◌, ◌^◌, ◌%◌, ◌<◌, ◌≤◌, Bool, true, false, if◌then◌else◌, Option, Some, None, refl, sym, ap, subst, ◌∙◌, arith, nat_le, unwrap_or, ◌≢◌, inl, inr, zero, suc, pow_pos}
+use Rattle.boost_core.proofs.Vocabulary.{false≢true, Step, Answer, Drive, IsAncestor, mod_below, is_bad_key, Sizes, are_limits, Way, first_phase, step_in, sized_in, towards, told_help, told_init_seek, told_link, told_store, told_in, new_drive, step_of, sized_of, turn_in, ended_by, end_of, told_of, IsAncestor-root, child_towards-le, State, Helper, is_set, Move, IsWhole, IsOnWay, HelpSuits, is_ask, Drives, Helps, outcome_of, cases_lt, parent_of, highest_cleared, child_within, child_towards, parent_of-zero, parent_of-child_towards, BadKey, NoMemory, StampsUsedUp}
 use Rattle.txn_drive.specs.declared.call.Call.{Call}
-use Rattle.txn_drive.specs.declared.call.Call.TheVariants as calls
 use Rattle.txn_drive.specs.declared.phase.Phase.{Phase}
-use Rattle.txn_drive.specs.declared.phase.Phase.TheVariants as phases
-use Rattle.txn_drive.specs.declared.way.Way.{Way}
-use Rattle.txn_drive.specs.Drives.{first_phase, step_in, sized_in, towards, told_help, told_init_seek, told_link, told_store, told_in, new_drive, step_of, sized_of, turn_in, ended_by, end_of, told_of}
-use Rattle.txn_drive.proofs.WayLemmas.{IsAncestor-root, child_towards-le}
-use Rattle.boost_core.specs.State.{State, Helper, is_set}
-use Rattle.boost_core.specs.Machine.{Move}
-use Rattle.boost_core.specs.Whole.{IsWhole}
-use Rattle.boost_core.specs.Helps.{IsOnWay, HelpSuits}
-use Rattle.boost_core.specs.Words.{is_ask}
-use Rattle.boost_core.specs.Plain.{Drives, Helps, outcome_of}
 use Rattle.boost_core.proofs.InStep.{Sized, sized, is_double, at_towards, at_heading, at_refused, at_double, Reaches, double_reaches, seek_reaches, link_reaches, store_reaches, help_suits_told}
-use Rattle.boost_core.proofs.Ways.{rises}
 use Rattle.boost_core.proofs.Moves.{just_placed}
 use Rattle.boost_core.proofs.Refused.{le_false}
+use Rattle.std.proofs.lemmas.Bool.Decides.{eqb_tells, leb_tells}
+use Rattle.txn_words.specs.declared.step.Step.TheVariants as steps
+use Rattle.txn_words.specs.declared.answer.Answer.TheVariants as answers
+use Rattle.txn_drive.specs.declared.call.Call.TheVariants as calls
+use Rattle.txn_drive.specs.declared.phase.Phase.TheVariants as phases
+
+-- A number without its highest 1 bit is less.
+cleared_less : (width number : ℕ) → 0 < number → number < 2 ^ width → highest_cleared width number < number
+unfolding highest_cleared
+cleared_less zero number some small = omega arith
+cleared_less (suc width) number some small =
+    elim (leb_tells (2 ^ width) number) [
+      | inl over ↦ rw (over.0) (omega (arith, pow_pos width))
+      | inr under ↦ rw (under.0) (cleared_less width number some (omega arith))
+    ]
+
+parent_less : (bucket : ℕ) → 0 < bucket → bucket < 2 ^ 32 → parent_of bucket < bucket
+unfolding parent_of
+parent_less bucket some small = cleared_less 32 bucket some small
+
+-- The bucket that follows bucket 0 is not bucket 0.
+child_some : (rounds bucket : ℕ) → 0 < bucket → 0 < child_within rounds 0 bucket
+unfolding child_within
+child_some zero bucket some = some
+child_some (suc rounds) bucket some =
+    elim (eqb_tells (parent_of bucket) 0) [
+      | inl found ↦ rw (found.0) some
+      | inr missed ↦
+          rw (missed.0) (elim (cases_lt 0 (parent_of bucket)) [
+            | inl less ↦ child_some rounds (parent_of bucket) less
+            | inr none ↦ absurd (missed.1 (omega arith))
+          ])
+    ]
+
+child_root : (bucket : ℕ) → 0 < bucket → 0 < child_towards 0 bucket
+unfolding child_towards
+child_root bucket some = child_some 32 bucket some
+
+-- Each bucket on the way is greater than the one before it.
+pub rises : (last bucket : ℕ) → bucket < 2 ^ 32 → IsAncestor last bucket → last ≢ bucket → last < child_towards last bucket
+rises last bucket small is other =
+    let parent = parent_of-child_towards last bucket small is other in
+    let most = child_towards-le last bucket in
+    elim (cases_lt 0 (child_towards last bucket)) [
+      | inl some ↦ rw parent at (parent_less (child_towards last bucket) some (omega arith))
+      | inr none ↦
+          let at_root : child_towards last bucket ≡ 0 = omega arith in
+          let last_root : last ≡ 0 = sym parent ∙ ap parent_of at_root ∙ parent_of-zero in
+          elim (cases_lt 0 bucket) [
+            | inl more ↦ let some = child_root bucket more in absurd (omega (arith, rw last_root at at_root))
+            | inr fewer ↦ absurd (other (omega arith))
+          ]
+    ]
 
 -- The cursor with which a dummy is to be linked is the one placed last.
 abbrev pub IsPlaced : State → ℕ → Phase → Type 0
@@ -33,7 +69,7 @@ IsPlaced state c phase = Unit {0}
 -- The invariant of each phase.
 abbrev pub Fits : State → ℕ → ℕ → Phase → Type 0
 Fits state c key (phases.Doubling seen) = Unit {0}
-Fits state c key (phases.Refused refusals.BadKey) = Unit {0}
+Fits state c key (phases.Refused BadKey) = Unit {0}
 Fits state c key phase = HelpSuits state c phase × Reaches (Unit {0}) state (key % state.size) phase × IsPlaced state c phase
 
 -- The number of steps left is at most this.
@@ -55,13 +91,13 @@ record Nears (state : State) (c bound : ℕ) (phase : Phase) : Type 0 where
   fewer : left phase < bound
 
 weaker : (state : State) (c bound more : ℕ) (phase : Phase) → bound ≤ more → Nears state c bound phase → Nears state c more phase
-weaker state c bound more phase most nears = record { placed = nears.placed; fewer = let less = nears.fewer in omega arith }
+weaker state c bound more phase most nears = record { placed = nears.placed; fewer = omega (arith, nears.fewer) }
 
 -- After a bucket on the way is initialised.
 towards_nears : (state : State) (c last target : ℕ) → target < 2 ^ 32 → IsAncestor last target → Nears state c (3 * (target - last) + 1) (towards last target)
 towards_nears state c last target small ancestor =
     at_towards (Nears state c (3 * (target - last) + 1)) last target (λ same. record { placed = tt; fewer = omega arith })
-    (λ other. let more = rises last target small ancestor other in let most = child_towards-le last target in record { placed = tt; fewer = omega arith })
+    (λ other. record { placed = tt; fewer = omega (arith, rises last target small ancestor other, child_towards-le last target) })
 
 -- After the doubling.
 doubled_nears : (state new : State) (c key : ℕ) (answer : Answer) → new.size < 2 ^ 32 → 0 < new.size → Move state (steps.Double state.size) answer new → Nears new c (3 * 2 ^ 32 + 4) (told_help key state.size answer)
@@ -102,7 +138,7 @@ fits_suits state c key phase step fits is = fits.0
 
 fits_all : (state : State) (c key : ℕ) (phase : Phase) → HelpSuits state c phase → Reaches (Unit {0}) state (key % state.size) phase → IsPlaced state c phase → Fits state c key phase
 fits_all state c key (phases.Doubling seen) suits reaches placed = tt
-fits_all state c key (phases.Refused refusals.BadKey) suits reaches placed = tt
+fits_all state c key (phases.Refused BadKey) suits reaches placed = tt
 fits_all state c key phase suits reaches placed = (suits, reaches, placed)
 
 -- After a step of the drive and its answer, the next phase keeps its invariant, and fewer steps are
@@ -120,10 +156,10 @@ goes state new c key phase step answer whole most within fits is move =
     grown = sized state new step answer move
 
     small : new.size < 2 ^ 32
-    small = let size = whole.most in let twice = grown.most in omega arith
+    small = omega (arith, whole.most, grown.most)
 
     inside : (target : ℕ) → target < state.size → target < 2 ^ 32
-    inside target less = let size = whole.most in omega arith
+    inside target less = omega (arith, whole.most)
 
     -- The bucket is that of the key at the size after a step that is no doubling.
     keeps : (step : Step) (target : ℕ) → is_double step ≡ false → Move state step answer new → target ≡ key % state.size
@@ -133,29 +169,21 @@ goes state new c key phase step answer whole most within fits is move =
     by : (phase : Phase) → Fits state c key phase → step_in c (calls.Help key) (sized_in state.size phase) ≡ Some step
         → Move state (unwrap_or (step_in c (calls.Help key) (sized_in state.size phase)) step) answer new
         → Reaches (Unit {0}) new (key % new.size) (told_in (calls.Help key) (sized_in state.size phase) answer) × Nears new c (left phase) (told_in (calls.Help key) (sized_in state.size phase) answer)
-    by (phases.Doubling seen) fits is move =
-        let least = whole.least in
-        let more = grown.least in (
-          double_reaches (Unit {0}) state new key answer
-              (λ k stored. ap (λ xs. is_set xs 0) stored ∙ whole.first) move,
-          doubled_nears state new c key answer small (omega arith) move,
-        )
+    by (phases.Doubling seen) fits is move = (
+      double_reaches (Unit {0}) state new key answer (λ k stored. ap (λ xs. is_set xs 0) stored ∙ whole.first) move,
+      doubled_nears state new c key answer small (omega (arith, whole.least, grown.least)) move,
+    )
     by (phases.Initialising way again) fits is move = (
-      seek_reaches (Unit {0}) state new c (key % new.size) way again answer
-          (keeps (steps.InitSeek c way.bucket) way.target refl move fits.1) move,
-      sought_nears state new c again way answer
-          (inside way.target fits.0.target) fits.0 move,
+      seek_reaches (Unit {0}) state new c (key % new.size) way again answer (keeps (steps.InitSeek c way.bucket) way.target refl move fits.1) move,
+      sought_nears state new c again way answer (inside way.target fits.0.target) fits.0 move,
     )
     by (phases.Linking way again) fits is move = (
-      link_reaches (Unit {0}) new (key % new.size) way again answer
-          (keeps (steps.InitLink c) way.target refl move fits.1),
+      link_reaches (Unit {0}) new (key % new.size) way again answer (keeps (steps.InitLink c) way.target refl move fits.1),
       linked_nears state new c again way answer fits.2 move,
     )
     by (phases.Storing way) fits is move = (
-      store_reaches (Unit {0}) state new c (key % new.size) way answer (λ k. (whole, fits.0))
-          (keeps (steps.InitStore c) way.target refl move fits.1) move,
-      stored_nears new c way answer
-          (inside way.target fits.0.0.target) fits.0.0.ancestor,
+      store_reaches (Unit {0}) state new c (key % new.size) way answer (λ k. (whole, fits.0)) (keeps (steps.InitStore c) way.target refl move fits.1) move,
+      stored_nears new c way answer (inside way.target fits.0.0.target) fits.0.0.ancestor,
     )
     by phases.Helped fits is move = absurd (cc is)
     by (phases.Refused refusal) fits is move = absurd (cc is)
@@ -165,7 +193,7 @@ goes state new c key phase step answer whole most within fits is move =
 pub fits_first : (state : State) (c key : ℕ) → Fits state c key (first_phase state.limits.half (calls.Help key))
 fits_first state c key = at (is_bad_key state.limits.half key)
   where
-    at : (b : Bool) → Fits state c key (if b then phases.Refused refusals.BadKey else phases.Doubling 0)
+    at : (b : Bool) → Fits state c key (if b then phases.Refused BadKey else phases.Doubling 0)
     at true = tt
     at false = tt
 
@@ -194,11 +222,8 @@ help_asks_nothing key size drive step call is = sym (ap asks is) ∙ ap (λ made
 
 -- A step leaves the limits unchanged.
 pub limits_stay : (old new : State) (step : Step) (answer : Answer) → Move old step answer new → new.limits ≡ old.limits
-limits_stay old new step answer move = at answer move
-  where
-    at : (answer : Answer) → Move old step answer new → new.limits ≡ old.limits
-    at (answers.Refused refusal) move = ap (λ (s : State). s.limits) move.state
-    at _ move = ap (λ (s : State). s.limits) move.state
+limits_stay old new step (answers.Refused refusal) move = ap (λ (s : State). s.limits) move.state
+limits_stay old new step _ move = ap (λ (s : State). s.limits) move.state
 
 -- The caller's number and the limits are in range, as the call has tested.
 pub within_there : (inside here : Sizes) (c n m : ℕ) → inside ≡ here → c < n → n ≡ m → m ≡ inside.callers → nat_le here.callers c ≡ false
@@ -219,9 +244,9 @@ ended old state c key drive drives caller call fits none = at drive.call drive.p
         → Helps old c key (outcome_of (ended_by (turn_in drive.caller made (sized_in state.size phase)))) state
     at made phases.Helped same fits none its stands = subst (λ made. Helps old c key (outcome_of (ended_by (turn_in drive.caller made phases.Helped))) state) (sym same)
         (record { moves = drives.0; last = drive; drives = drives.1; ended = (λ i. ended_by (turn_in drive.caller (call i) (stands i))) }, fits.1 tt)
-    at made (phases.Refused refusals.BadKey) same fits none its stands = record { moves = drives.0; last = drive; drives = drives.1; ended = (λ i. ended_by (turn_in drive.caller drive.call (stands i))) }
-    at made (phases.Refused refusals.NoMemory) same fits none its stands = record { moves = drives.0; last = drive; drives = drives.1; ended = (λ i. ended_by (turn_in drive.caller drive.call (stands i))) }
-    at made (phases.Refused refusals.StampsUsedUp) same fits none its stands = record { moves = drives.0; last = drive; drives = drives.1; ended = (λ i. ended_by (turn_in drive.caller drive.call (stands i))) }
+    at made (phases.Refused BadKey) same fits none its stands = record { moves = drives.0; last = drive; drives = drives.1; ended = (λ i. ended_by (turn_in drive.caller drive.call (stands i))) }
+    at made (phases.Refused NoMemory) same fits none its stands = record { moves = drives.0; last = drive; drives = drives.1; ended = (λ i. ended_by (turn_in drive.caller drive.call (stands i))) }
+    at made (phases.Refused StampsUsedUp) same fits none its stands = record { moves = drives.0; last = drive; drives = drives.1; ended = (λ i. ended_by (turn_in drive.caller drive.call (stands i))) }
     at made (phases.Refused refusal) same fits none its stands = absurd fits.0
     at made (phases.Doubling seen) same fits none its stands = absurd (cc (none))
     at made (phases.Initialising way again) same fits none its stands = absurd (cc (none))

@@ -1,12 +1,6 @@
 -- The jobs of a caller stay due while others work on other keys.
 use Rattle.std.proofs.Common.{◌≡◌, ℕ, ◌==◌, true, false, cond, List, [], ◌∷◌, ◌++◌, Option, Some, None, is_some, refl, sym, ap, subst, ◌∙◌, IsSome, map, reverse, option_to_list, nat_eq, eq-eqb, ne_eqb, append-nil, inl, inr}
-use Rattle.boost_core.proofs.Vocabulary.{option_eq, AllByRecursion, cases_Bool, cases_eq, reverse-append, SpareAt, Op, Put, Take, Get, PutIf, MapJob, Relink}
-use Rattle.txn_words.specs.Map.{Map, get, insert, key_of, reply_of, after, set_at}
-use Rattle.txn_words.specs.Shape.{changes}
-use Rattle.txn_words.proofs.Maps.{same_map, get-insert-here, get-remove-here, get-set_at}
-use Rattle.txn_words.proofs.Effects.{after_unchanged, get-after_other, changes-reply}
-use Rattle.map_ops.specs.Jobs.{takes_node, key_of_job, value_before, IsDue, unput, relink, job_of}
-use Rattle.boost_core.specs.Sessions.{change_of, changes_of, AreDue}
+use Rattle.boost_core.proofs.Vocabulary.{option_eq, AllByRecursion, cases_Bool, cases_eq, reverse-append, SpareAt, Op, Put, Take, Get, PutIf, MapJob, Relink, Map, get, key_of, reply_of, after, set_at, changes, same_map, get-insert-here, get-remove-here, get-set_at, after_unchanged, get-after_other, changes-reply, takes_node, key_of_job, value_before, IsDue, unput, relink, job_of, change_of, changes_of, AreDue}
 
 -- Each job is of a key that passes the test.
 abbrev pub AllOf : (ℕ → Type 0) → List MapJob → Type 0
@@ -50,11 +44,11 @@ NotedIf m op spare None = changes op (reply_of m op) ≡ false
 NotedIf m op spare (Some job) = Noted m op spare job
 
 put_if_due : (m : Map) (k : ℕ) (expected : Option ℕ) (v : ℕ) → option_eq nat_eq (get m k) expected ≡ true → IsSome (get (after m (PutIf k expected v)) k)
-put_if_due m k expected v made = subst (λ (n : Map). IsSome (get n k)) (sym (ap (λ b. cond b (insert m k v) m) made)) (subst (λ o. IsSome o) (sym (get-insert-here m k v)) refl)
+put_if_due m k expected v made = rw (made, get-insert-here m k v) refl
 
 put_noted : (m : Map) (k v : ℕ) (spare : Option SpareAt) (o : Option ℕ) → get m k ≡ o → NotedIf m (Put k v) spare (unput k o)
-put_noted m k v spare None is = record { change = ap (λ (o : Option ℕ). (k, o)) (sym is); is_change = refl; due = subst (λ o. IsSome o) (sym (get-insert-here m k v)) refl }
-put_noted m k v spare (Some old) is = record { change = ap (λ (o : Option ℕ). (k, o)) (sym is); is_change = refl; due = subst (λ o. IsSome o) (sym (get-insert-here m k v)) refl }
+put_noted m k v spare None is = record { change = rw is refl; is_change = refl; due = rw (get-insert-here m k v) refl }
+put_noted m k v spare (Some old) is = record { change = rw is refl; is_change = refl; due = rw (get-insert-here m k v) refl }
 
 take_noted : (m : Map) (k : ℕ) (spare : Option SpareAt) (o : Option ℕ) → get m k ≡ o → is_some spare ≡ true → NotedIf m (Take k) spare (relink k o spare)
 take_noted m k None o is there = absurd (cc (there))
@@ -62,16 +56,16 @@ take_noted m k (Some spare) None is there = ap is_some is
 take_noted m k (Some spare) (Some old) is there = record { change = ap (λ (o : Option ℕ). (k, o)) (sym is); is_change = ap is_some is; due = get-remove-here m k }
 
 put_if_noted : (m : Map) (k : ℕ) (expected : Option ℕ) (v : ℕ) (spare : Option SpareAt) → option_eq nat_eq (get m k) expected ≡ true → (o : Option ℕ) → get m k ≡ o → NotedIf m (PutIf k expected v) spare (unput k o)
-put_if_noted m k expected v spare made None is = record { change = ap (λ (o : Option ℕ). (k, o)) (sym is); is_change = made; due = put_if_due m k expected v made }
-put_if_noted m k expected v spare made (Some old) is = record { change = ap (λ (o : Option ℕ). (k, o)) (sym is); is_change = made; due = put_if_due m k expected v made }
+put_if_noted m k expected v spare made None is = record { change = rw is refl; is_change = made; due = put_if_due m k expected v made }
+put_if_noted m k expected v spare made (Some old) is = record { change = rw is refl; is_change = made; due = put_if_due m k expected v made }
 
 pub noted : (m : Map) (op : Op) (spare : Option SpareAt) → is_some spare ≡ takes_node op → NotedIf m op spare (job_of m op spare)
 noted m (Put k v) spare there = put_noted m k v spare (get m k) refl
 noted m (Take k) spare there = take_noted m k spare (get m k) refl there
 noted m (Get k) spare there = refl
 noted m (PutIf k expected v) spare there = elim (cases_Bool (option_eq nat_eq (get m k) expected)) [
-  | inl made ↦ subst (NotedIf m (PutIf k expected v) spare) (sym (ap (λ b. cond b (unput k (get m k)) None) made)) (put_if_noted m k expected v spare made (get m k) refl)
-  | inr same ↦ subst (NotedIf m (PutIf k expected v) spare) (sym (ap (λ b. cond b (unput k (get m k)) None) same)) same
+  | inl made ↦ rw made (put_if_noted m k expected v spare made (get m k) refl)
+  | inr same ↦ rw same same
 ]
 
 -- The changes of a caller with one more job, or the same.
@@ -82,12 +76,9 @@ changes_noted m op spare jobs (Some job) is =
     ap (λ b. cond b ((key_of op, reply_of m op) ∷ changes_of jobs) (changes_of jobs)) is.is_change ∙ ap (λ (change : ℕ × Option ℕ). change ∷ changes_of jobs) (sym is.change)
     ∙ ap (map change_of) (sym (reverse-append jobs (job ∷ [])))
 
-no_change : (m : Map) (op : Op) → changes op (reply_of m op) ≡ false → after m op ≡ m
-no_change m op same = after_unchanged m op (sym (changes-reply m op) ∙ same)
-
 -- After an operation its job is due, and then all that were due before.
 pub due_noted : (m : Map) (op : Op) (spare : Option SpareAt) (jobs : List MapJob) (job : Option MapJob) → NotedIf m op spare job → AreDue m (reverse jobs) → AreDue (after m op) (reverse (jobs ++ option_to_list job))
-due_noted m op spare jobs None is due = subst (λ (js : List MapJob). AreDue (after m op) (reverse js)) (sym (append-nil jobs)) (subst (λ n. AreDue n (reverse jobs)) (sym (no_change m op is)) due)
+due_noted m op spare jobs None is due = rw (append-nil jobs, after_unchanged m op (sym (changes-reply m op) ∙ is)) due
 due_noted m op spare jobs (Some job) is due =
     subst (λ (js : List MapJob). AreDue (after m op) js) (sym (reverse-append jobs (job ∷ [])))
     (is.due, subst (λ n. AreDue n (reverse jobs)) (sym (set_at-after m op) ∙ ap (λ (change : ℕ × Option ℕ). set_at (after m op) change.0 change.1) (sym is.change)) due)

@@ -1,12 +1,6 @@
 -- Two neighbouring nodes, before and after a change of the list.
-use Rattle.std.proofs.Common.{◌≡◌, ℕ, ◌==◌, Bool, true, false, cond, inl, inr, List, [], ◌∷◌, Some, refl, sym, ap, subst, ◌∙◌, arith, nat_lt, eq-eqb, eqb-true, ltb-true}
-use Rattle.boost_core.proofs.Vocabulary.{AllByRecursion, false≢true, cases_Bool}
-use Rattle.split_key.specs.Sort.{is_before, IsBefore}
-use Rattle.node_list.specs.Nodes.{NodeAt, node_of, next_of, first, linked_after, changed_at}
-use Rattle.node_list.specs.Order.{IsRising, IsSpread, IsNodeBefore, AbsentFrom}
-use Rattle.list_steps.specs.Seek.{cleaned, sought}
-use Rattle.list_steps.specs.Steps.{without_first_marked}
-use Rattle.boost_core.specs.State.{SortKey}
+use Rattle.std.proofs.Common.{◌≡◌, ℕ, ◌==◌, true, false, inl, inr, List, [], ◌∷◌, Some, refl, sym, ap, subst, ◌∙◌, arith, eq-eqb, eqb-true, ltb-true, Bool, cond}
+use Rattle.boost_core.proofs.Vocabulary.{AllByRecursion, false≢true, cases_Bool, is_before, IsBefore, NodeAt, node_of, next_of, first, linked_after, changed_at, IsRising, IsSpread, IsNodeBefore, AbsentFrom, cleaned, sought, without_first_marked, SortKey}
 use Rattle.boost_core.proofs.NodeLists.{node_here, node_later, none_of_none}
 
 -- A node that is linked and unmarked is still linked at its place, with its stamp.
@@ -31,14 +25,20 @@ found_later : (m : NodeAt) (rest : List NodeAt) (place : ℕ) → (m.place == pl
 unfolding node_of
 found_later m rest place apart = rw apart refl
 
--- `Stay` holds with one node put before both lists.
-stay_cons : (m : NodeAt) (old new : List NodeAt) → Stay old new → Stay (m ∷ old) (m ∷ new)
-stay_cons m old new stay place n is live = elim (cases_Bool (m.place == place)) [
-  | inl here ↦ record { node = m; is = found_here m new place here; at = ap (λ k. k.at) (node_here m old place n is here); stamp = ap (λ k. k.stamp) (node_here m old place n is here) }
+-- `Stay` holds with one node put before both lists, and with a node put before one and its like
+-- before the other.
+stay_like : (m m' : NodeAt) (old new : List NodeAt) → (m'.place ≡ m.place) × (m'.at ≡ m.at) × (m'.stamp ≡ m.stamp) → Stay old new → Stay (m ∷ old) (m' ∷ new)
+stay_like m m' old new same stay place n is live = elim (cases_Bool (m.place == place)) [
+  | inl here ↦
+      let one = node_here m old place n is here in
+      record { node = m'; is = found_here m' new place (rw same.0 here); at = rw one at same.1; stamp = rw one at same.2 }
   | inr apart ↦
       let still = stay place n (node_later m old place (Some n) is apart) live in
-      record { node = still.node; is = found_later m new place apart ∙ still.is; at = still.at; stamp = still.stamp }
+      record { node = still.node; is = found_later m' new place (rw same.0 apart) ∙ still.is; at = still.at; stamp = still.stamp }
 ]
+
+stay_cons : (m : NodeAt) (old new : List NodeAt) → Stay old new → Stay (m ∷ old) (m ∷ new)
+stay_cons m old new stay = stay_like m m old new (refl, refl, refl) stay
 
 -- `Stay` holds when a marked node is left out.
 stay_without : (m : NodeAt) (old new : List NodeAt) → m.marked ≡ true → Stay old new → Stay (m ∷ old) new
@@ -51,15 +51,7 @@ pub stay_changed : (nodes : List NodeAt) (place : ℕ) (change : NodeAt → Node
 unfolding changed_at
 stay_changed [] place change same = stay_same [] [] refl
 stay_changed (m ∷ rest) place change same = elim (cases_Bool (m.place == place)) [
-  | inl at_place ↦ rw at_place (λ p n is live. elim (cases_Bool (m.place == p)) [
-    | inl here ↦ record {
-      node = change m;
-      is = found_here (change m) rest p (ap (λ q. q == p) (same m).0 ∙ here);
-      at = (same m).1 ∙ ap (λ k. k.at) (node_here m rest p n is here);
-      stamp = (same m).2 ∙ ap (λ k. k.stamp) (node_here m rest p n is here);
-    }
-    | inr apart ↦ record { node = n; is = found_later (change m) rest p (ap (λ q. q == p) (same m).0 ∙ apart) ∙ node_later m rest p (Some n) is apart; at = refl; stamp = refl }
-  ])
+  | inl at_place ↦ rw at_place (stay_like m (change m) rest rest (same m) (stay_same rest rest refl))
   | inr later ↦ rw later (stay_cons m rest (changed_at rest place change) (stay_changed rest place change same))
 ]
 
@@ -111,9 +103,9 @@ first_found (m ∷ rest) n is =
     let same : m ≡ n = cc (is) in
     found_here m rest n.place (eq-eqb m.place n.place (ap (λ k. k.place) same)) ∙ ap Some same
 
-not_here : (m : NodeAt) (rest : List NodeAt) (n : NodeAt) → AbsentFrom m.place rest → node_of rest n.place ≡ Some n → (m.place == n.place) ≡ false
-not_here m rest n absent is = elim (cases_Bool (m.place == n.place)) [
-  | inl here ↦ absurd (absent_found rest m.place n absent (ap (node_of rest) (eqb-true m.place n.place here) ∙ is))
+not_here : (m : NodeAt) (rest : List NodeAt) (place : ℕ) (n : NodeAt) → AbsentFrom m.place rest → node_of rest place ≡ Some n → (m.place == place) ≡ false
+not_here m rest place n absent is = elim (cases_Bool (m.place == place)) [
+  | inl here ↦ absurd (absent_found rest m.place n absent (rw (eqb-true m.place place here) is))
   | inr apart ↦ apart
 ]
 
@@ -125,42 +117,18 @@ next_found (m ∷ rest) place n spread is =
       | inl here ↦ first_found rest n (sym (next_here m rest place here) ∙ is)
       | inr apart ↦ next_found rest place n spread.1 (sym (next_later m rest place apart) ∙ is)
     ] in
-    found_later m rest n.place (not_here m rest n spread.0 later) ∙ later
-
-linked_here : (m : NodeAt) (rest : List NodeAt) (place : ℕ) (x : NodeAt) → (m.place == place) ≡ true → linked_after (m ∷ rest) place x ≡ m ∷ x ∷ rest
-unfolding linked_after
-linked_here m rest place x here = rw here refl
-
-linked_later : (m : NodeAt) (rest : List NodeAt) (place : ℕ) (x : NodeAt) → (m.place == place) ≡ false → linked_after (m ∷ rest) place x ≡ m ∷ linked_after rest place x
-unfolding linked_after
-linked_later m rest place x apart = rw apart refl
-
-later_spread : (m : NodeAt) (rest : List NodeAt) → IsSpread (m ∷ rest) → IsSpread rest
-unfolding IsSpread
-later_spread m rest spread = spread.1
-
-behind_spread : (m x : NodeAt) (rest : List NodeAt) → IsSpread (m ∷ x ∷ rest) → AbsentFrom x.place rest
-unfolding IsSpread
-behind_spread m x rest spread = spread.1.0
+    found_later m rest n.place (not_here m rest n.place n spread.0 later) ∙ later
 
 stay_behind : (x : NodeAt) (rest : List NodeAt) → AbsentFrom x.place rest → Stay rest (x ∷ rest)
-stay_behind x rest absent place n is live = record {
-  node = n;
-  is = found_later x rest place (elim (cases_Bool (x.place == place)) [
-    | inl here ↦ absurd (absent_found rest x.place n absent (ap (node_of rest) (eqb-true x.place place here) ∙ is))
-    | inr apart ↦ apart
-  ]) ∙ is;
-  at = refl;
-  stamp = refl;
-}
+stay_behind x rest absent place n is live = record { node = n; is = found_later x rest place (not_here x rest place n absent is) ∙ is; at = refl; stamp = refl }
 
 -- If nodes have different places, one more node changes none of the others.
 pub stay_linked : (nodes : List NodeAt) (place : ℕ) (x : NodeAt) → IsSpread (linked_after nodes place x) → Stay nodes (linked_after nodes place x)
-unfolding linked_after
+unfolding linked_after IsSpread
 stay_linked [] place x spread = stay_same [] [] refl
 stay_linked (m ∷ rest) place x spread = elim (cases_Bool (m.place == place)) [
-  | inl here ↦ rw here (stay_cons m rest (x ∷ rest) (stay_behind x rest (behind_spread m x rest (subst IsSpread (linked_here m rest place x here) spread))))
-  | inr apart ↦ rw apart (stay_cons m rest (linked_after rest place x) (stay_linked rest place x (later_spread m (linked_after rest place x) (subst IsSpread (linked_later m rest place x apart) spread))))
+  | inl here ↦ rw here (stay_cons m rest (x ∷ rest) (stay_behind x rest (rw here at spread).1.0))
+  | inr apart ↦ rw apart (stay_cons m rest (linked_after rest place x) (stay_linked rest place x (rw apart at spread).1))
 ]
 
 -- Unmarked nodes are not unlinked.
@@ -192,18 +160,13 @@ stay_sought sort (m ∷ rest) place = elim (cases_Bool (m.place == place)) [
   | inr apart ↦ rw apart (stay_cons m rest (sought rest place sort) (stay_sought sort rest place))
 ]
 
-no_less : (k : ℕ) → nat_lt k k ≡ true → ⊥
-no_less k less = let below = ltb-true k k less in omega arith
-
 -- No node is before itself.
 not_before : (at : SortKey) → IsBefore at at → ⊥
 unfolding is_before
-not_before at is =
-    let same : cond (at.split == at.split) (nat_lt at.key at.key) (nat_lt at.split at.split) ≡ nat_lt at.key at.key = ap (λ b. cond b (nat_lt at.key at.key) (nat_lt at.split at.split)) (eq-eqb at.split at.split refl) in
-    no_less at.key (sym same ∙ is)
+not_before at is = let less = ltb-true at.key at.key (rw (eq-eqb at.split at.split refl) at is) in omega arith
 
 pub apart_keys : (a b : SortKey) → a ≡ b → IsBefore a b → ⊥
-apart_keys a b same is = not_before a (subst (IsBefore a) (sym same) is)
+apart_keys a b same is = not_before b (rw same at is)
 
 later_next : (k : NodeAt) (rest : List NodeAt) (p : ℕ) (n : NodeAt) → AllByRecursion (IsNodeBefore k) rest → next_of (k ∷ rest) p ≡ Some n → IsBefore k.at n.at
 later_next k rest p n each next = elim (cases_Bool (k.place == p)) [

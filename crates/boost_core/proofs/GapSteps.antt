@@ -1,25 +1,21 @@
--- The effect of each step of a caller on the cursors.
-use Rattle.std.proofs.Common.{◌≡◌, ◌≢◌, ℕ, inl, inr, List, length, set, Option, Some, is_some, sym, ap, subst, ◌∙◌, arith, map, slice_get, slice_set, length-set, get_or-set_same, get_or-set_other}
-use Rattle.boost_core.proofs.Vocabulary.{cases_lt, regular_at, Op, key_of, stripe_of, Refusal, Step, Answer, nodes_of, IsSound}
-use Rattle.std.proofs.lemmas.Option.{slice_get_within, slice_get_past, slice_get-get_or}
-use Rattle.txn_words.specs.declared.refusal.Refusal.TheVariants as refusals
-use Rattle.txn_words.specs.declared.step.Step.TheVariants as steps
-use Rattle.txn_words.specs.declared.answer.Answer.TheVariants as answers
-use Rattle.boost_core.specs.declared.session.Session.{Session}
-use Rattle.boost_core.specs.State.{State, Gap, Caller, Helper, gap_in, gap_for}
-use Rattle.boost_core.specs.Refusals.{owner_of}
-use Rattle.boost_core.specs.Words.{Claim, Lock, Right}
-use Rattle.boost_core.specs.Nodes.{AreNeighbours, Cursors, Fits, KeepsGaps, StandsAt, mover_of, next_key}
-use Rattle.boost_core.specs.Sessions.{Side, Does, ActsIn, SeeksIn, IsAsked, AsksBy}
-use Rattle.boost_core.specs.Core.{World, Tells, state_of, nodes_at, gap_by, gap_if}
-use Rattle.boost_core.proofs.Refused.{index_at}
+-- The effect of each step on the cursors: of a caller, and of others.
+use Rattle.std.proofs.Common.{◌≡◌, ◌≢◌, ℕ, inl, inr, List, length, set, Option, Some, is_some, sym, ap, subst, ◌∙◌, arith, map, slice_get, slice_set, length-set, get_or-set_other, None, Result, Ok, Err, refl, slice_index_or}
+use Rattle.boost_core.proofs.Vocabulary.{cases_lt, regular_at, Op, key_of, stripe_of, Refusal, Step, Answer, nodes_of, IsSound, slice_get_within, slice_get_past, slice_get-get_or, Session, State, Gap, Caller, Helper, gap_in, gap_for, owner_of, Claim, Lock, Right, AreNeighbours, Cursors, Fits, KeepsGaps, StandsAt, mover_of, next_key, Side, Does, ActsIn, SeeksIn, IsAsked, AsksBy, World, Tells, state_of, nodes_at, gap_by, gap_if, NoMemory, dummy_at, InitSeek, InitLink, SweepOutcome, dummy_node, Sweeps, found_fits, found_placed, TableHelper, Idle, Seeking, Holding, SeekChanges, LinkChanges, StoreChanges, link_answer_of, seek_answer, TableAt, KeepsList, cursor_in, helper_cursor, size_of, stored_of, helps_of, Serves, StampsUsedUp}
+use Rattle.boost_core.proofs.Refused.{set_here}
 use Rattle.boost_core.proofs.Moves.{gaps_same}
 use Rattle.boost_core.proofs.NodeSteps.{next_is}
-use Rattle.boost_core.proofs.GapLists.{Stay}
+use Rattle.boost_core.proofs.GapLists.{Stay, stay_same, stay_swept, stay_sought}
 use Rattle.boost_core.proofs.Neighbours.{fit_of}
-use Rattle.boost_core.proofs.Gaps.{gap_here, no_gap, gap_by_side, gap_kept, stands, same_gap}
-use Rattle.boost_core.proofs.HelperGaps.{cursors_stay, helper_kept}
-use Rattle.boost_core.proofs.Staying.{does_stay}
+use Rattle.boost_core.proofs.Gaps.{gap_here, no_gap, gap_by_side, gap_kept, stands, same_gap, cursors_stay, helper_kept, helper_gap, helper_stands, no_helper_gap}
+use Rattle.boost_core.proofs.Staying.{does_stay, linked}
+use Rattle.boost_core.proofs.Linking.{fits_where, stale_where}
+use Rattle.boost_core.proofs.Tables.{doubled_helpers, links_node, other_cursor, seeker_is, seeker_there}
+use Rattle.txn_words.specs.declared.step.Step.TheVariants as steps
+use Rattle.txn_words.specs.declared.answer.Answer.TheVariants as answers
+use Rattle.map_ops.specs.InitSeek.TheVariants as seeks
+use Rattle.map_ops.specs.InitLink.TheVariants as links
+use Rattle.map_ops.specs.SweepOutcome.TheVariants as outcomes
+use Rattle.boost_core.specs.Serves as said
 
 -- The cursors after a step of an equal state.
 pub cursors_of : (state old new : State) (step : Step) (answer : Answer) → state ≡ old → Cursors state step answer new → Cursors old step answer new
@@ -37,22 +33,14 @@ refused old new step c refusal owner same = record { fits = refused_fits old new
 set_other : (sessions : List Session) (c d : ℕ) (z : Session) → d ≢ c → slice_get (slice_set sessions c z) d ≡ slice_get sessions d
 set_other sessions c d z other = elim (cases_lt d (length sessions)) [
   | inl within ↦
-      let long = length-set sessions c z in
-      slice_get-get_or (set sessions c z) d z (omega arith) ∙ ap Some (get_or-set_other sessions c d z z other) ∙ sym (slice_get-get_or sessions d z within)
-  | inr past ↦
-      let long = length-set sessions c z in
-      slice_get_past (set sessions c z) d (omega arith) ∙ sym (slice_get_past sessions d past)
+      slice_get-get_or (set sessions c z) d z (omega (arith, length-set sessions c z)) ∙ ap Some (get_or-set_other sessions c d z z other)
+      ∙ sym (slice_get-get_or sessions d z within)
+  | inr past ↦ slice_get_past (set sessions c z) d (omega (arith, length-set sessions c z)) ∙ sym (slice_get_past sessions d past)
 ]
-
-set_here : (sessions : List Session) (c : ℕ) (x z : Session) → slice_get sessions c ≡ Some x → slice_get (slice_set sessions c z) c ≡ Some z
-set_here sessions c x z at =
-    let within = slice_get_within sessions c x at in
-    let long = length-set sessions c z in
-    index_at (slice_set sessions c z) c z (omega arith) (sym (get_or-set_same sessions c z z within))
 
 module _ (w : World) (tells : Tells w) (c : ℕ) (x : Session) (at : slice_get w.sessions c ≡ Some x) (w' : World) (y z : Session) (same : z.cursor ≡ y.cursor) (sides : w'.sessions ≡ slice_set w.sessions c z) (sound : IsSound w'.table.list) (locks' : List (Option ℕ)) where
   here : slice_get w'.sessions c ≡ Some z
-  here = ap (λ ss. slice_get ss c) sides ∙ set_here w.sessions c x z at
+  here = ap (λ ss. slice_get ss c) sides ∙ set_here w.sessions c z (slice_get_within w.sessions c x at)
 
   -- A refusal leaves the caller's cursor and the nodes unchanged.
   asked_stays : (claim : Claim) (d stripe : ℕ) (op : Op) (refusal : Refusal) → AsksBy claim d stripe op x w.table w.locks (answers.Refused refusal) y w'.table locks' → (y.cursor ≡ x.cursor) × (nodes_of w'.table ≡ nodes_of w.table)
@@ -68,7 +56,7 @@ module _ (w : World) (tells : Tells w) (c : ℕ) (x : Session) (at : slice_get w
 
   stays : (claim : Claim) (step : Step) (refusal : Refusal) (stripes : ℕ) → Does claim stripes w.counts step x w.table w.locks (answers.Refused refusal) y w'.table locks' → (y.cursor ≡ x.cursor) × (nodes_of w'.table ≡ nodes_of w.table)
   stays claim (steps.Ask d op) refusal stripes is = asked_stays claim d (stripe_of stripes (key_of op)) op refusal is
-  stays claim (steps.Save d) refusals.NoMemory stripes is = (ap (λ (s : Side). s.cursor) is.0.becomes, ap nodes_of is.1)
+  stays claim (steps.Save d) NoMemory stripes is = (ap (λ (s : Side). s.cursor) is.0.becomes, ap nodes_of is.1)
   stays claim (steps.Save d) _ stripes is = absurd is.0
   stays claim (steps.Act d) refusal stripes is = absurd is
   stays claim _ refusal stripes is = absurd is
@@ -98,7 +86,7 @@ module _ (w : World) (tells : Tells w) (c : ℕ) (x : Session) (at : slice_get w
       does).buckets) is near
 
   sought : SeeksIn x w.table y w'.table → StandsAt (state_of w') (Caller c) (regular_at (next_key (state_of w) c))
-  sought is = subst (λ k. StandsAt (state_of w') (Caller c) (regular_at k)) (sym (next_is w tells c x at is.key is.target))
+  sought is = rw (next_is w tells c x at is.key is.target)
       (stands w' c is.key z is.cursor here (same ∙ ap (λ (s : Session). s.cursor) is.becomes) sound.spread is.places.placed is.places.fits)
 
   acted : (answer : Answer) → ActsIn c x w.table w.locks answer y w'.table locks' → Fits (state_of w) (steps.Act c) answer (state_of w')
@@ -110,13 +98,9 @@ module _ (w : World) (tells : Tells w) (c : ℕ) (x : Session) (at : slice_get w
   acted _ is = absurd is
 
   fits : (claim : Claim) (step : Step) → owner_of step ≡ Some (Caller c) → (stripes : ℕ) (answer : Answer) → Does claim stripes w.counts step x w.table w.locks answer y w'.table locks' → Fits (state_of w) step answer (state_of w')
-  fits claim (steps.Seek d) owner stripes answers.Placed is =
-      let own : d ≡ c = cc (owner) in
-      subst (λ k. Fits (state_of w) (steps.Seek k) answers.Placed (state_of w')) (sym own) (sought is.0)
+  fits claim (steps.Seek d) owner stripes answers.Placed is = let own : d ≡ c = cc owner in rw own (sought is.0)
   fits claim (steps.Seek d) owner stripes _ is = absurd is
-  fits claim (steps.Act d) owner stripes answer is =
-      let own : d ≡ c = cc (owner) in
-      subst (λ k. Fits (state_of w) (steps.Act k) answer (state_of w')) (sym own) (acted answer (subst (λ k. ActsIn k x w.table w.locks answer y w'.table locks') own is))
+  fits claim (steps.Act d) owner stripes answer is = let own : d ≡ c = cc owner in rw own (acted answer (rw own at is))
   fits claim (steps.InitSeek h b) owner stripes answer is = absurd is
   fits claim (steps.InitLink h) owner stripes answer is = absurd is
   fits claim _ owner stripes answer is = tt
@@ -127,3 +111,95 @@ module _ (w : World) (tells : Tells w) (c : ℕ) (x : Session) (at : slice_get w
     fits = fits claim step owner stripes answer is;
     keeps = keeps claim step owner stripes answer is;
   }
+
+module _ (t t' : TableAt) (sound : IsSound t'.list) where
+  kept : KeepsList t t' → Stay (nodes_of t) (nodes_of t')
+  kept same = stay_same (nodes_of t) (nodes_of t') (ap (λ l. l.nodes) same)
+
+  swept : (outcome : SweepOutcome) → Sweeps t t' outcome → Stay (nodes_of t) (nodes_of t')
+  swept outcomes.Swept is = subst (Stay (nodes_of t)) (sym is.0.nodes) (stay_swept (nodes_of t))
+  swept outcomes.Clean is = kept is.0
+
+  sought_bucket : (h b : ℕ) (outcome : Result InitSeek Refusal) → SeekChanges t t' h b outcome → Stay (nodes_of t) (nodes_of t')
+  sought_bucket h b (Ok seeks.Placed) changes =
+      subst (Stay (nodes_of t)) (sym changes.nodes) (stay_sought (dummy_at b) (nodes_of t) changes.from)
+  sought_bucket h b (Ok seeks.Ready) changes = kept changes.1
+  sought_bucket h b (Err refusal) changes = kept (ap (λ u. u.list) changes)
+
+  linked_dummy : (h : ℕ) (outcome : Result InitLink Refusal) → LinkChanges t t' h outcome → Stay (nodes_of t) (nodes_of t')
+  linked_dummy h (Ok links.Linked) changes =
+      linked t.list t'.list (dummy_node changes.place changes.bucket _) sound.spread (links_node _ _ _ _ _ changes.links)
+  linked_dummy h (Ok links.Again) changes = kept changes.1
+  linked_dummy h (Ok links.Present) changes = kept changes.1
+  linked_dummy h (Err refusal) changes = kept (ap (λ u. u.list) changes)
+
+  serves_stay : (step : Step) (answer : Answer) → Serves step t answer t' → Stay (nodes_of t) (nodes_of t')
+  serves_stay steps.Sweep answer is = swept is.outcome is.sweeps
+  serves_stay (steps.InitSeek h b) answer is = sought_bucket h b is.outcome is.changes
+  serves_stay (steps.InitLink h) answer is = linked_dummy h is.outcome is.changes
+  serves_stay (steps.InitStore h) answer is = kept is.list
+  serves_stay (steps.Double seen) answer is = kept is.list
+  serves_stay _ answer is = absurd is
+
+-- The cursors of all helpers but the one that steps.
+module _ (t t' : TableAt) (h : ℕ) where
+  moved : (k : ℕ) (now : TableHelper) → t'.buckets.helpers ≡ slice_set t.buckets.helpers k now → Some (Helper k) ≢ Some (Helper h)
+      → helper_cursor t' h ≡ helper_cursor t h
+  moved k now is other = other_cursor t t' k h now is (λ e. other (ap (λ n. Some (Helper n)) (sym e)))
+
+  sought_cursor : (k b : ℕ) (outcome : Result InitSeek Refusal) → SeekChanges t t' k b outcome → mover_of (steps.InitSeek k b) (said.sought outcome) ≢ Some (Helper h) → helper_cursor t' h ≡ helper_cursor t h
+  sought_cursor k b (Ok seeks.Ready) changes other = moved k Idle (ap (λ d. d.helpers) changes.0) other
+  sought_cursor k b (Ok seeks.Placed) changes other = moved k (Seeking b changes.cursor) (ap (λ d. d.helpers) changes.now) other
+  sought_cursor k b (Err refusal) changes other = ap (λ u. helper_cursor u h) changes
+
+  linked_cursor : (k : ℕ) (outcome : Result InitLink Refusal) → LinkChanges t t' k outcome → mover_of (steps.InitLink k) (said.linked outcome) ≢ Some (Helper h) → helper_cursor t' h ≡ helper_cursor t h
+  linked_cursor k (Ok links.Again) changes other = moved k Idle (ap (λ d. d.helpers) changes.0) other
+  linked_cursor k (Ok links.Present) changes other =
+      moved k (Holding changes.0.bucket changes.0.place) (ap (λ d. d.helpers) changes.0.now) other
+  linked_cursor k (Ok links.Linked) changes other = moved k (Holding changes.bucket changes.place) (ap (λ d. d.helpers) changes.now) other
+  linked_cursor k (Err refusal) changes other = ap (λ u. helper_cursor u h) changes
+
+  stored_cursor : (k : ℕ) (outcome : Result Unit Refusal) → StoreChanges t t' k outcome → mover_of (steps.InitStore k) (said.stored outcome) ≢ Some (Helper h) → helper_cursor t' h ≡ helper_cursor t h
+  stored_cursor k (Ok done) changes other = moved k Idle (ap (λ d. d.helpers) changes.now) other
+  stored_cursor k (Err refusal) changes other = ap (λ u. helper_cursor u h) changes
+
+  serves_cursor : (step : Step) (answer : Answer) → Serves step t answer t' → mover_of step answer ≢ Some (Helper h) → helper_cursor t' h ≡ helper_cursor t h
+  serves_cursor steps.Sweep answer is other = cursors_stay t t' h is.keeps.buckets.all
+  serves_cursor (steps.InitSeek k b) answer is other = sought_cursor k b is.outcome is.changes (subst (λ a. mover_of (steps.InitSeek k b) a ≢ Some (Helper h)) is.answer_is other)
+  serves_cursor (steps.InitLink k) answer is other = linked_cursor k is.outcome is.changes (subst (λ a. mover_of (steps.InitLink k) a ≢ Some (Helper h)) is.answer_is other)
+  serves_cursor (steps.InitStore k) answer is other = stored_cursor k is.outcome is.changes (subst (λ a. mover_of (steps.InitStore k) a ≢ Some (Helper h)) is.answer_is other)
+  serves_cursor (steps.Double seen) answer is other =
+      ap (λ hs. slice_index_or (map cursor_in hs) h None) (doubled_helpers t t' is.outcome is.changes)
+  serves_cursor _ answer is other = absurd is
+
+module _ (w w' : World) (tells : Tells w) (sound : IsSound w'.table.list) where
+  sought_fits : (h b : ℕ) (outcome : Result InitSeek Refusal)
+      → outcome ≡ seek_answer (size_of w.table) (stored_of w.table) (slice_get (helps_of w.table) h) b
+      → SeekChanges w.table w'.table h b outcome → Fits (state_of w) (steps.InitSeek h b) (said.sought outcome) (state_of w')
+  sought_fits h b (Ok seeks.Placed) says changes =
+      helper_stands w' h b changes.cursor sound.spread (seeker_is w.table w'.table h b changes (seeker_there w.table h b (sym says)))
+      (found_placed w'.table.list changes.cursor changes.found sound) changes.at (found_fits w'.table.list changes.cursor changes.found)
+  sought_fits h b _ says changes = tt
+
+  linked_fits : (h : ℕ) (outcome : Result InitLink Refusal) → (outcome ≢ Err NoMemory → outcome ≡ link_answer_of w.table h) → (outcome ≡ Err NoMemory → link_answer_of w.table h ≡ Ok links.Linked) → Fits (state_of w) (steps.InitLink h) (said.linked outcome) (state_of w')
+  linked_fits h (Ok links.Again) says no_memory = no_helper_gap w.table h (stale_where w.table h (sym (says (λ e. cc (e)))))
+  linked_fits h (Ok links.Present) says no_memory = helper_gap w.table h (fits_where w.table h (Ok links.Present) (sym (says (λ e. cc (e)))) refl (λ e. cc (e)))
+  linked_fits h (Ok links.Linked) says no_memory = helper_gap w.table h (fits_where w.table h (Ok links.Linked) (sym (says (λ e. cc (e)))) refl (λ e. cc (e)))
+  linked_fits h (Err NoMemory) says no_memory = helper_gap w.table h (fits_where w.table h (Ok links.Linked) (no_memory refl) refl (λ e. cc (e)))
+  linked_fits h (Err StampsUsedUp) says no_memory = helper_gap w.table h (fits_where w.table h (Err StampsUsedUp) (sym (says (λ e. cc (e)))) refl (λ e. cc (e)))
+  linked_fits h (Err _) says no_memory = tt
+
+  serves_fits : (step : Step) (answer : Answer) → Serves step w.table answer w'.table → Fits (state_of w) step answer (state_of w')
+  serves_fits (steps.Seek c) answer is = absurd is
+  serves_fits (steps.Act c) answer is = absurd is
+  serves_fits (steps.InitSeek h b) answer is = subst (λ a. Fits (state_of w) (steps.InitSeek h b) a (state_of w')) (sym is.answer_is) (sought_fits h b is.outcome is.says is.changes)
+  serves_fits (steps.InitLink h) answer is = subst (λ a. Fits (state_of w) (steps.InitLink h) a (state_of w')) (sym is.answer_is) (linked_fits h is.outcome is.says is.no_memory)
+  serves_fits _ answer is = tt
+
+  serves_keeps : w'.sessions ≡ w.sessions → (step : Step) (answer : Answer) → Serves step w.table answer w'.table → KeepsGaps (state_of w) step answer (state_of w')
+  serves_keeps sides step answer is (Caller d) gap other had near = gap_kept w w' tells.sound.spread sound.rising (serves_stay w.table w'.table sound step answer is) d gap (ap (λ ss. slice_get ss d) sides) had near
+  serves_keeps sides step answer is (Helper h) gap other had near =
+      helper_kept w.table w'.table tells.sound.spread sound.rising (serves_stay w.table w'.table sound step answer is) h gap (serves_cursor w.table w'.table h step answer is other) had near
+
+  pub serves_cursors : w'.sessions ≡ w.sessions → (step : Step) (answer : Answer) → Serves step w.table answer w'.table → Cursors (state_of w) step answer (state_of w')
+  serves_cursors sides step answer is = record { fits = serves_fits step answer is; keeps = serves_keeps sides step answer is }

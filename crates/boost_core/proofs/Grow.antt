@@ -1,24 +1,8 @@
 -- The invariants of a core that hold when one caller's side changes.
-use Rattle.std.proofs.Common.{◌≡◌, ◌≢◌, ℕ, ◌+◌, ◌-◌, ◌<◌, ◌≤◌, true, cond, List, [], ◌∷◌, ◌++◌, length, get_or, set, Option, Some, None, refl, sym, ap, subst, ◌∙◌, arith, slice_get, slice_set, sum_by, reverse, length-set, get_or-set_same, get_or-set_other, ◌⊎◌, inl, inr}
-use Rattle.std.specs.Option.{option_and_then}
-use Rattle.boost_core.proofs.Vocabulary.{AllByRecursion, cases_eq, slice_get_within, get_or_from_slice_get, slice_get-get_or, Entry, Map, get, caller_of, is_began, is_commit, now, Phase, Closed, LeavingTo, Seat, RoomySeat, row, seat_after, own, log_of, stripe_of, holder_of, IsLevelIn, seat_leveled, MapJob, TableAt, Cursor, content, IsPlaced, largest_of, helps_of}
-use Rattle.std.proofs.lemmas.List.{length-map, length-reverse}
-use Rattle.std.proofs.lemmas.List.Sums.{sum_by-set, get_or-le-sum_by}
-use Rattle.std.proofs.lemmas.List.Elements.{All-push}
+use Rattle.std.proofs.Common.{◌≡◌, ◌≢◌, ℕ, ◌+◌, ◌-◌, ◌<◌, ◌≤◌, true, cond, List, [], ◌∷◌, ◌++◌, length, get_or, set, Option, Some, None, refl, sym, ap, subst, ◌∙◌, arith, slice_get, slice_set, sum_by, reverse, length-set, get_or-set_same, get_or-set_other, ◌⊎◌, inl, inr, option_and_then}
+use Rattle.boost_core.proofs.Vocabulary.{cases_eq, slice_get_within, get_or_from_slice_get, slice_get-get_or, Entry, Map, get, caller_of, is_began, is_commit, now, Phase, Closed, LeavingTo, Seat, RoomySeat, row, seat_after, own, log_of, stripe_of, holder_of, IsLevelIn, seat_leveled, MapJob, TableAt, Cursor, content, IsPlaced, largest_of, helps_of, length-map, length-reverse, sum_by-set, get_or-le-sum_by, All-push, is_saved, IsLegal, is_running, how_many-push, Next, seat-own, log_held, held_by, Counts, Session, Owner, holder_by, IsCovered, Side, side_of, level_of, target_in, target_of, KeepsPlaced, IsSought, IsSoughtAt, Waits, Agrees, change_of, times_kept, changes_of, AreDue, World, Tells, IsSeated, IsFresh, all_times}
 use Rattle.txn_words.specs.declared.holder.Holder.{Holder}
-use Rattle.txn_words.specs.Seats.{is_saved}
-use Rattle.txn_trace.specs.Legal.{IsLegal, runs, is_running}
-use Rattle.txn_trace.proofs.Pushes.{how_many-push}
-use Rattle.txn_trace.proofs.Next.{Next, seat-own}
 use Rattle.txn_trace.proofs.Entries.{length-log_of}
-use Rattle.txn_trace.proofs.Held.{log_held}
-use Rattle.key_locks.specs.Locks.{holder_of as held_by}
-use Rattle.boost_core.specs.declared.counts.Counts.{Counts}
-use Rattle.boost_core.specs.declared.session.Session.{Session}
-use Rattle.boost_core.specs.State.{Owner, holder_by}
-use Rattle.boost_core.specs.Spares.{times_out, IsCovered}
-use Rattle.boost_core.specs.Sessions.{Side, side_of, level_of, target_in, target_of, KeepsPlaced, IsSought, IsSoughtAt, Waits, Agrees, change_of, times_kept, changes_of, AreDue}
-use Rattle.boost_core.specs.Core.{World, Tells, IsSeated, IsFresh, all_times}
 use Rattle.boost_core.proofs.Due.{all_of_changes, due_same}
 
 -- The session at another number is unchanged, and at this number it is the new one.
@@ -34,35 +18,22 @@ set_cases sessions c d y s within at =
 
 -- A sum over all sessions in which one changes.
 pub sum_changed : (f : Session → ℕ) (sessions : List Session) (c : ℕ) (x y : Session) → slice_get sessions c ≡ Some x → sum_by f (slice_set sessions c y) + f x ≡ sum_by f sessions + f y
-sum_changed f sessions c x y at =
-    let is : get_or sessions c x ≡ x = get_or_from_slice_get sessions c x x at in
-    ap (λ s. sum_by f (set sessions c y) + f s) (sym is) ∙ sum_by-set f sessions c y x (slice_get_within sessions c x at)
+sum_changed f sessions c x y at = rw (get_or_from_slice_get sessions c x x at) at (sum_by-set f sessions c y x (slice_get_within sessions c x at))
 
 pub one_of_sum : (f : Session → ℕ) (sessions : List Session) (c : ℕ) (x : Session) → slice_get sessions c ≡ Some x → f x ≤ sum_by f sessions
-one_of_sum f sessions c x at =
-    let is : f (get_or sessions c x) ≡ f x = ap f (get_or_from_slice_get sessions c x x at) in
-    let most : f (get_or sessions c x) ≤ sum_by f sessions = get_or-le-sum_by f sessions c x (slice_get_within sessions c x at) in
-    omega arith
+one_of_sum f sessions c x at = rw (get_or_from_slice_get sessions c x x at) at (get_or-le-sum_by f sessions c x (slice_get_within sessions c x at))
 
 -- Spares stay covered if those that one caller keeps are exchanged.
 pub traded : (t t' : TableAt) (sessions : List Session) (c : ℕ) (x y : Session) → slice_get sessions c ≡ Some x
     → ((others : ℕ → ℕ → ℕ) → IsCovered (λ place stamp. others place stamp + times_kept (side_of x) place stamp) t → IsCovered (λ place stamp. others place stamp + times_kept (side_of y) place stamp) t')
     → IsCovered (all_times sessions) t → IsCovered (all_times (slice_set sessions c y)) t'
 traded t t' sessions c x y at trade covered place stamp =
-    let others : ℕ → ℕ → ℕ = λ p s. all_times sessions p s - times_kept (side_of x) p s in
-    let before : IsCovered (λ p s. others p s + times_kept (side_of x) p s) t = λ p s.
-    let most : times_kept (side_of x) p s ≤ all_times sessions p s = one_of_sum (λ session. times_kept (side_of session) p s) sessions c x at in
-    subst (λ n. n ≡ times_out t p s) (rejoin (all_times sessions p s) (times_kept (side_of x) p s) most) (covered p s) in
-    let after = trade others before place stamp in
-    let sums : all_times (slice_set sessions c y) place stamp + times_kept (side_of x) place stamp ≡ all_times sessions place stamp + times_kept (side_of y) place stamp = sum_changed (λ session. times_kept (side_of session) place stamp) sessions c x y at in
-    let most : times_kept (side_of x) place stamp ≤ all_times sessions place stamp = one_of_sum (λ session. times_kept (side_of session) place stamp) sessions c x at in
-    subst (λ n. n ≡ times_out t' place stamp) (same_sum (all_times (slice_set sessions c y) place stamp) (times_kept (side_of x) place stamp) (all_times sessions place stamp) (times_kept (side_of y) place stamp) most sums) after
+    let after = trade (λ p s. all_times sessions p s - times_kept (side_of x) p s) (λ p s. omega (arith, most p s, covered p s)) place stamp in
+    let sums = sum_changed (λ session. times_kept (side_of session) place stamp) sessions c x y at in
+    omega (arith, most place stamp, sums, after)
   where
-    rejoin : (a b : ℕ) → b ≤ a → a ≡ a - b + b
-    rejoin a b most = omega arith
-
-    same_sum : (n x a y : ℕ) → x ≤ a → n + x ≡ a + y → a - x + y ≡ n
-    same_sum n x a y most sums = omega arith
+    most : (p s : ℕ) → times_kept (side_of x) p s ≤ all_times sessions p s
+    most p s = one_of_sum (λ session. times_kept (side_of session) p s) sessions c x at
 
 -- A cursor stays placed.
 pub still_sought_at : (t t' : TableAt) (cursor : Option Cursor) (target : Option ℕ) → ((cursor : Cursor) (key : ℕ) → IsPlaced t cursor key → IsPlaced t' cursor key) → IsSoughtAt t cursor target → IsSoughtAt t' cursor target
@@ -86,17 +57,13 @@ still_due stripes h d s room current legal is same = at s.seat.phase refl
     keyed : is_running (seat_after (own d h)) ≡ true → AreDue current (reverse s.jobs)
     keyed active =
         let P : ℕ → Type 0 = λ k. holder_of stripes (stripe_of stripes k) h ≡ Some d in
-        let held : AllByRecursion (λ (change : ℕ × Option ℕ). P change.0) (changes_of s.jobs) = subst (λ (log : List (ℕ × Option ℕ)). AllByRecursion (λ (change : ℕ × Option ℕ). P change.0) log) is.log (log_held stripes h legal d active) in
-        due_same P (now h) current (reverse s.jobs) same (all_of_changes P (reverse s.jobs) held) is.due
-
-    run : (q : Phase) → s.seat.phase ≡ q → runs q ≡ true → AreDue current (reverse s.jobs)
-    run q is_q active = keyed (ap is_running is.seat ∙ ap runs is_q ∙ active)
+        due_same P (now h) current (reverse s.jobs) same (all_of_changes P (reverse s.jobs) (rw is.log at (log_held stripes h legal d active))) is.due
 
     at : (q : Phase) → s.seat.phase ≡ q → AreDue current (reverse s.jobs)
     at Closed is_q =
-        let none : s.seat.standing ≡ 0 = (subst (λ q. IsLevelIn q s.seat.standing s.seat.kept) is_q (seat_leveled (own d h) s.seat is.seat).within).0 in
+        let none : s.seat.standing ≡ 0 = (rw is_q at (seat_leveled (own d h) s.seat is.seat).within).0 in
         closed_due current (reverse s.jobs) (length-reverse s.jobs ∙ sym is.agrees.standing ∙ none)
-    at q is_q = run q is_q refl
+    at q is_q = keyed (rw (is.seat, is_q) refl)
 
 -- A step that adds an entry: the history after it, the caller's side, which has no cursor, before
 -- its seat enters the entry, and the proof that no other caller is disturbed.
@@ -177,10 +144,10 @@ module _ (w : World) (tells : Tells w) (c : ℕ) (x y : Session) (at : slice_get
     }
 
     seated_then : IsSeated (w.history ++ e ∷ []) c (side_of z) y.log.room
-    seated_then = subst (λ (side : Side). IsSeated (w.history ++ e ∷ []) c side y.log.room) (sym side_then) (record {
-      seat = ap (λ k. seat_after (own k (w.history ++ e ∷ []))) (sym is.mine) ∙ is.next.seat_is;
-      log = ap (λ k. log_of k (w.history ++ e ∷ [])) (sym is.mine) ∙ is.next.log_is;
-      due = subst (λ n. AreDue n (reverse is.side.jobs)) (sym is.next.now_is) is.due;
+    seated_then = rw side_then (record {
+      seat = rw is.mine at is.next.seat_is;
+      log = rw is.mine at is.next.log_is;
+      due = rw is.next.now_is is.due;
       agrees = agrees_then;
     })
 
@@ -193,19 +160,19 @@ module _ (w : World) (tells : Tells w) (c : ℕ) (x y : Session) (at : slice_get
       content = is.content ∙ sym is.next.now_is;
       count = length-set w.sessions c z ∙ tells.count;
       seated = λ d s at_d. elim (set_cases w.sessions c d z s within at_d) [
-        | inl here ↦ subst (λ (q : Session). IsSeated (w.history ++ e ∷ []) d (side_of q) q.log.room) (sym here.1) (subst (λ k. IsSeated (w.history ++ e ∷ []) k (side_of z) z.log.room) (sym here.0) seated_then)
+        | inl here ↦ rw (here.1, here.0) seated_then
         | inr other ↦
             let was = tells.seated d s other.1 in
             let away : d ≢ caller_of e = λ same. other.0 (same ∙ is.mine) in
             record {
               seat = is.next.other_seats d away ∙ was.seat;
               log = is.next.other_logs d away ∙ was.log;
-              due = subst (λ n. AreDue n (reverse s.log.jobs)) (sym is.next.now_is) (still_due w.limits.stripes w.history d (side_of s) s.log.room is.current tells.legal was (is.apart d other.0));
+              due = rw is.next.now_is (still_due w.limits.stripes w.history d (side_of s) s.log.room is.current tells.legal was (is.apart d other.0));
               agrees = was.agrees;
             }
       ];
       sought = λ d s at_d. elim (set_cases w.sessions c d z s within at_d) [
-        | inl here ↦ subst (IsSought t') (sym here.1) (subst (λ (o : Option Cursor). IsSoughtAt t' o (target_of z)) (sym (ap (λ (side : Side). side.cursor) is.becomes)) tt)
+        | inl here ↦ rw (here.1, ap (λ (side : Side). side.cursor) is.becomes) tt
         | inr other ↦ still_sought_at w.table t' s.cursor (target_of s) is.placed.placed (tells.sought d s other.1)
       ];
       spares = traded w.table t' w.sessions c x z at (λ others covered. subst (λ (side : Side). IsCovered (λ p s. others p s + times_kept side p s) t') (sym is.becomes) (is.spares others covered)) tells.spares;

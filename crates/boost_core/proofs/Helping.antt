@@ -1,35 +1,21 @@
 -- The steps of the table and of its helpers.
-use Rattle.std.proofs.Common.{◌≡◌, ◌≢◌, ℕ, ◌≤◌, ◌&&◌, Bool, true, false, cond, List, [], ◌++◌, length, Option, Some, None, Result, Ok, Err, refl, sym, ap, subst, ◌∙◌, arith, slice_get, slice_set, unwrap_or, map, nat_le, not, le-leb, append-nil, inl, inr}
-use Rattle.boost_core.proofs.Vocabulary.{false≢true, cases_lt, slice_get_within, slice_get-get_or, unwrap_or-slice_get, InitSeek, Refusal, Entry, Step, Answer}
-use Rattle.map_ops.specs.InitSeek.TheVariants as seeks
-use Rattle.bucket_table.specs.declared.answer.InitRefusal.{InitRefusal}
-use Rattle.bucket_table.specs.declared.answer.InitRefusal.TheVariants as inits
-use Rattle.txn_words.specs.declared.refusal.Refusal.TheVariants as refusals
-use Rattle.map_ops.specs.Buckets.{is_stored, answer_for, seek_answer, store_answer, parent_of, LacksSegment}
-use Rattle.txn_words.specs.declared.step.Step.TheVariants as steps
-use Rattle.txn_words.specs.declared.answer.Answer.TheVariants as answers
-use Rattle.map_ops.specs.TableAt.{TableAt, Help, Nothing, Sought, Dummy, Follows, Keeps, KeepsList, KeepsSpares, content, map_of, regular, size_of, stored_of, linked_of, helps_of, table_changes, last_of, largest_of}
-use Rattle.boost_core.specs.State.{State, Owner, Helper, is_set, help_in, bucket_at}
-use Rattle.boost_core.specs.Refusals.{refusal_of, has_dummy}
-use Rattle.boost_core.specs.Answers.{keeps_list, after}
-use Rattle.boost_core.specs.Machine.{Move, IsAllowed}
-use Rattle.boost_core.specs.Core.{World, Tells, IsFresh, state_of, session_changes, nodes_at, gap_by, helper_gaps_of, all_times}
-use Rattle.bucket_table.specs.declared.helper.Helper.TheVariants.{Idle, Holding}
-use Rattle.bucket_table.specs.Directory.{with_helper}
-use Rattle.bucket_table.specs.Changes.{Seeks, Stores}
+use Rattle.std.proofs.Common.{◌≡◌, ◌≢◌, ℕ, ◌≤◌, ◌&&◌, Bool, true, false, cond, List, [], ◌++◌, length, Option, Some, None, Result, Ok, Err, refl, sym, ap, ◌∙◌, arith, slice_get, slice_set, unwrap_or, map, nat_le, not, le-leb, append-nil, inl, inr}
+use Rattle.boost_core.proofs.Vocabulary.{false≢true, cases_lt, slice_get_within, slice_get-get_or, unwrap_or-slice_get, InitSeek, Refusal, Step, Answer, InitRefusal, is_stored, answer_for, seek_answer, store_answer, LacksSegment, TableAt, Help, Nothing, Sought, Dummy, Follows, Keeps, KeepsList, KeepsSpares, map_of, regular, size_of, stored_of, linked_of, helps_of, table_changes, last_of, largest_of, State, Owner, Helper, is_set, help_in, bucket_at, refusal_of, has_dummy, keeps_list, Move, IsAllowed, World, Tells, IsFresh, state_of, session_changes, all_times, Idle, Holding, with_helper, Seeks, Stores, HelperOutOfOrder, NoMemory, NoSuchBucket, NoSuchHelper, ParentMissing}
+use Rattle.map_ops.specs.Buckets.{parent_of}
+use Rattle.boost_core.specs.Answers.{after}
 use Rattle.boost_core.proofs.Tables.{Becomes, help_is, idle_becomes, sought_becomes, stored_becomes}
 use Rattle.boost_core.proofs.Spares.{still_covered}
 use Rattle.boost_core.proofs.Refused.{le_false}
 use Rattle.boost_core.proofs.Grow.{table_stayed}
-use Rattle.boost_core.proofs.Moves.{keeps_runs, refused, lacks, state_is}
+use Rattle.boost_core.proofs.Moves.{keeps_runs, refused, lacks, state_is, move_is, Runs, with_nodes}
+use Rattle.map_ops.specs.InitSeek.TheVariants as seeks
+use Rattle.bucket_table.specs.declared.answer.InitRefusal.TheVariants as inits
+use Rattle.txn_words.specs.declared.step.Step.TheVariants as steps
+use Rattle.txn_words.specs.declared.answer.Answer.TheVariants as answers
 
 -- A world after a step that is no caller's.
 abbrev pub served : World → TableAt → Option Owner → World
 served w t' placed' = record { limits = w.limits; history = w.history; counts = w.counts; table = t'; sessions = w.sessions; locks = w.locks; placed = placed'; words = w.words }
-
--- The content is determined by the pairs.
-pub same_content : (t t' : TableAt) → regular t' ≡ regular t → content t' ≡ content t
-same_content t t' same = ap map_of same
 
 -- The invariants of a core still hold if the pairs, the spares, the largest size and the number of
 -- helpers are unchanged.
@@ -37,7 +23,7 @@ pub tells_table : (w : World) → Tells w
     → (t' : TableAt) (placed' : Option Owner) → regular t' ≡ regular w.table → Follows w.table t' → KeepsSpares w.table t' → largest_of t' ≡ largest_of w.table → length (helps_of t') ≡ length (helps_of w.table) → IsFresh t' w.sessions placed'
     → Tells (served w t' placed')
 tells_table w tells t' placed' same follows spares largest helpers fresh =
-    table_stayed w tells t' placed' (same_content w.table t' same) (record { placed = follows.placed; sound = follows.list.sound })
+    table_stayed w tells t' placed' (ap map_of same) (record { placed = follows.placed; sound = follows.list.sound })
     (still_covered w.table t' (all_times w.sessions) spares tells.spares) largest helpers fresh
 
 -- Sweep.
@@ -46,34 +32,17 @@ pub sweep_tells : (w : World) → Tells w
 sweep_tells w tells t' keeps spares follows =
     tells_table w tells t' None keeps.regular follows spares keeps.buckets.largest (ap length keeps.buckets.helps) tt
 
-append_none : (h : List Entry) → h ≡ h ++ []
-append_none h = sym (append-nil h)
+module _ (w : World) (t' : TableAt) (keeps : Keeps w.table t') (rises : table_changes w.table ≤ table_changes t') where
+  runs : Runs w.table t'
+  runs = keeps_runs w.table t' keeps rises
 
-pub swept_move : (w : World) (t' : TableAt) → Keeps w.table t' → table_changes w.table ≤ table_changes t'
-    → Move (state_of w) steps.Sweep answers.Swept (state_of (served w t' None))
-swept_move w t' keeps rises =
-    let runs = keeps_runs w.table t' keeps rises in
-    record {
-      allowed = (refl, tt);
-      state = state_is w w.history (w.history ++ []) w.counts t' (map session_changes w.sessions) w.sessions w.locks None runs (append_none w.history) refl;
-      changes = rises;
-      list_kept = λ kept. absurd (false≢true kept);
-      stamp = runs.last;
-      one_stamp = runs.one_last;
-    }
+  pub swept_move : Move (state_of w) steps.Sweep answers.Swept (state_of (served w t' None))
+  swept_move = move_is w (served w t' None) steps.Sweep answers.Swept (refl, tt)
+      (state_is w w.history (w.history ++ []) w.counts t' (map session_changes w.sessions) w.sessions w.locks None runs (sym (append-nil w.history)) refl) runs (λ kept. absurd (false≢true kept))
 
-pub clean_move : (w : World) (t' : TableAt) → Keeps w.table t' → table_changes t' ≡ table_changes w.table
-    → Move (state_of w) steps.Sweep answers.Clean (state_of (served w t' None))
-clean_move w t' keeps stays =
-    let runs = keeps_runs w.table t' keeps (omega arith) in
-    record {
-      allowed = (refl, tt);
-      state = state_is w w.history (w.history ++ []) w.counts t' (map session_changes w.sessions) w.sessions w.locks None runs (append_none w.history) refl;
-      changes = runs.rises;
-      list_kept = λ kept. stays;
-      stamp = runs.last;
-      one_stamp = runs.one_last;
-    }
+  pub clean_move : table_changes t' ≡ table_changes w.table → Move (state_of w) steps.Sweep answers.Clean (state_of (served w t' None))
+  clean_move stays = move_is w (served w t' None) steps.Sweep answers.Clean (refl, tt)
+      (state_is w w.history (w.history ++ []) w.counts t' (map session_changes w.sessions) w.sessions w.locks None runs (sym (append-nil w.history)) refl) runs (λ kept. stays)
 
 -- The invariants of a core, if only the buckets and the helpers change.
 pub becomes_tells : (w : World) → Tells w
@@ -98,25 +67,9 @@ became w t' placed' size stored linked helps = record (state_of w) {
 
 -- The state after such a change.
 pub becomes_state : (w : World) (t' : TableAt) (placed' : Option Owner) (size : ℕ) (stored linked : List Bool) (helps : List Help)
-    → Becomes w.table t' size stored linked helps → state_of (served w t' placed')
-    ≡ record (became w t' placed' size stored linked helps) {
-      nodes = nodes_at t';
-      gaps = map (gap_by t') w.sessions;
-      helper_gaps = helper_gaps_of t';
-    }
-becomes_state w t' placed' size stored linked helps becomes = λ i. record (state_of w) {
-  history = append_none w.history i;
-  size = becomes.size_is i;
-  stored = becomes.stored_is i;
-  linked = becomes.linked_is i;
-  nodes = nodes_at t';
-  changes = table_changes t';
-  stamp = last_of t';
-  gaps = map (gap_by t') w.sessions;
-  helper_gaps = helper_gaps_of t';
-  helpers = becomes.helps_is i;
-  placed = placed';
-}
+    → Becomes w.table t' size stored linked helps → state_of (served w t' placed') ≡ with_nodes t' w.sessions (became w t' placed' size stored linked helps)
+becomes_state w t' placed' size stored linked helps becomes = λ i.
+    with_nodes t' w.sessions (record (became w t' placed' (becomes.size_is i) (becomes.stored_is i) (becomes.linked_is i) (becomes.helps_is i)) { history = sym (append-nil w.history) i })
 
 -- The move, if the last stamp is unchanged.
 pub becomes_move : (w : World) (t' : TableAt) (placed' : Option Owner) (size : ℕ) (stored linked : List Bool) (helps : List Help)
@@ -126,9 +79,7 @@ pub becomes_move : (w : World) (t' : TableAt) (placed' : Option Owner) (size : �
     → last_of t' ≡ last_of w.table → Move (state_of w) step answer (state_of (served w t' placed'))
 becomes_move w t' placed' size stored linked helps step answer becomes allowed after_is rises kept same = record {
   allowed = allowed;
-  state = becomes_state w t' placed' size stored linked helps becomes
-      ∙ ap (λ (s : State). record s { nodes = nodes_at t'; gaps = map (gap_by t') w.sessions; helper_gaps = helper_gaps_of t' })
-      (sym after_is);
+  state = becomes_state w t' placed' size stored linked helps becomes ∙ ap (with_nodes t' w.sessions) (sym after_is);
   changes = rises;
   list_kept = kept;
   stamp = omega arith;
@@ -142,9 +93,8 @@ pub quiet_move : (w : World) (t' : TableAt) (size : ℕ) (stored linked : List B
     → after (state_of w) step answer (table_changes t') (last_of t') ≡ became w t' None size stored linked helps
     → Move (state_of w) step answer (state_of (served w t' None))
 quiet_move w t' size stored linked helps step answer becomes list allowed after_is =
-    let stays : table_changes t' ≡ table_changes w.table = ap (λ l. l.changes) list in
     becomes_move w t' None size stored linked helps step answer becomes allowed after_is
-    (omega arith) (λ kept. stays) (ap (λ l. l.last) list)
+    (omega (arith, ap (λ l. l.changes) list)) (λ kept. ap (λ l. l.changes) list) (ap (λ l. l.last) list)
 
 -- The refusal of a helper's step, if it has one.
 abbrev pub refusal_in_result : {A : Type 0} → Result A Refusal → Option Refusal
@@ -153,7 +103,7 @@ refusal_in_result (Err refusal) = Some refusal
 
 -- Whether there is a helper of this number.
 pub helper_there : (helps : List Help) (n h : ℕ) (help : Help) → length helps ≡ n → slice_get helps h ≡ Some help → nat_le n h ≡ false
-helper_there helps n h help long is = le_false n h (let within = slice_get_within helps h help is in omega arith)
+helper_there helps n h help long is = le_false n h (omega (arith, long, slice_get_within helps h help is))
 
 pub helper_none : (helps : List Help) (n h : ℕ) → length helps ≡ n → slice_get helps h ≡ None → nat_le n h ≡ true
 helper_none helps n h long none = elim (cases_lt h (length helps)) [
@@ -162,7 +112,7 @@ helper_none helps n h long none = elim (cases_lt h (length helps)) [
 ]
 
 -- InitSeek.
-seek_tests : (large here above : Bool) → cond large (Some refusals.NoSuchBucket) (cond (not here && not above) (Some refusals.ParentMissing) None)
+seek_tests : (large here above : Bool) → cond large (Some NoSuchBucket) (cond (not here && not above) (Some ParentMissing) None)
     ≡ refusal_in_result (answer_for (cond {A = Result InitSeek InitRefusal} large (Err inits.NoSuchBucket) (cond here (Ok seeks.Ready) (cond above (Ok seeks.Placed) (Err inits.ParentMissing)))))
 seek_tests true here above = refl
 seek_tests false true above = refl
@@ -177,11 +127,11 @@ pub seek_refusal : (w : World) (helper bucket : ℕ) → length (helps_of w.tabl
 seek_refusal w helper bucket many = at (slice_get (helps_of w.table) helper) refl
   where
     at : (o : Option Help) → slice_get (helps_of w.table) helper ≡ o → refusal_of (state_of w) (steps.InitSeek helper bucket) ≡ refusal_in_result (seek_answer (size_of w.table) (stored_of w.table) o bucket)
-    at None is = ap (λ b. cond b (Some refusals.NoSuchHelper) (cond (nat_le (size_of w.table) bucket) (Some refusals.NoSuchBucket) (cond (not (is_set (stored_of w.table) bucket) && not (is_set (stored_of w.table) (parent_of bucket))) (Some refusals.ParentMissing) None))) (helper_none (helps_of w.table) w.limits.callers helper many is)
+    at None is = ap (λ b. cond b (Some NoSuchHelper) (cond (nat_le (size_of w.table) bucket) (Some NoSuchBucket) (cond (not (is_set (stored_of w.table) bucket) && not (is_set (stored_of w.table) (parent_of bucket))) (Some ParentMissing) None))) (helper_none (helps_of w.table) w.limits.callers helper many is)
     at (Some help) is =
-        ap (λ b. cond b (Some refusals.NoSuchHelper) (cond (nat_le (size_of w.table) bucket) (Some refusals.NoSuchBucket) (cond (not (is_set (stored_of w.table) bucket) && not (is_set (stored_of w.table) (parent_of bucket))) (Some refusals.ParentMissing) None)))
+        ap (λ b. cond b (Some NoSuchHelper) (cond (nat_le (size_of w.table) bucket) (Some NoSuchBucket) (cond (not (is_set (stored_of w.table) bucket) && not (is_set (stored_of w.table) (parent_of bucket))) (Some ParentMissing) None)))
         (helper_there (helps_of w.table) w.limits.callers helper help many is)
-        ∙ (λ i. cond (nat_le (size_of w.table) bucket) (Some refusals.NoSuchBucket) (cond (not (is_set_is (stored_of w.table) bucket i) && not (is_set_is (stored_of w.table) (parent_of bucket) i)) (Some refusals.ParentMissing) None))
+        ∙ (λ i. cond (nat_le (size_of w.table) bucket) (Some NoSuchBucket) (cond (not (is_set_is (stored_of w.table) bucket i) && not (is_set_is (stored_of w.table) (parent_of bucket) i)) (Some ParentMissing) None))
         ∙ seek_tests (nat_le (size_of w.table) bucket) (is_stored (stored_of w.table) bucket) (is_stored (stored_of w.table) (parent_of bucket))
 
 seek_ready : (large here above : Bool) → answer_for (cond {A = Result InitSeek InitRefusal} large (Err inits.NoSuchBucket) (cond here (Ok seeks.Ready) (cond above (Ok seeks.Placed) (Err inits.ParentMissing)))) ≡ Ok seeks.Ready → here ≡ true
@@ -223,45 +173,39 @@ seek_placed_move w t' helper bucket many is sought same linked rises =
 -- A helper's step that the table refuses.
 pub helper_refused : (w : World) (t' : TableAt) (step : Step) (refusal : Refusal) → t' ≡ w.table → refusal_of (state_of w) step ≡ Some refusal
     → Move (state_of w) step (answers.Refused refusal) (state_of (served w t' w.placed))
-helper_refused w t' step refusal same is =
-    subst (λ u. Move (state_of w) step (answers.Refused refusal) (state_of (served w u w.placed))) (sym same) (refused (state_of w) step refusal is)
+helper_refused w t' step refusal same is = rw same (refused (state_of w) step refusal is)
 
 -- InitStore.
 pub store_refusal : (w : World) (helper : ℕ) → length (helps_of w.table) ≡ w.limits.callers
     → refusal_of (state_of w) (steps.InitStore helper) ≡ refusal_in_result (store_answer (slice_get (helps_of w.table) helper))
 store_refusal w helper many = at (slice_get (helps_of w.table) helper) refl
   where
-    held : (help : Help) → cond (not (has_dummy help)) (Some refusals.HelperOutOfOrder) None ≡ refusal_in_result (store_answer (Some help))
+    held : (help : Help) → cond (not (has_dummy help)) (Some HelperOutOfOrder) None ≡ refusal_in_result (store_answer (Some help))
     held Nothing = refl
     held (Sought bucket noted) = refl
     held (Dummy bucket) = refl
 
     at : (o : Option Help) → slice_get (helps_of w.table) helper ≡ o → refusal_of (state_of w) (steps.InitStore helper) ≡ refusal_in_result (store_answer o)
-    at None is = ap (λ b. cond b (Some refusals.NoSuchHelper) (cond (not (has_dummy (help_in (helps_of w.table) helper))) (Some refusals.HelperOutOfOrder) None)) (helper_none (helps_of w.table) w.limits.callers helper many is)
+    at None is = ap (λ b. cond b (Some NoSuchHelper) (cond (not (has_dummy (help_in (helps_of w.table) helper))) (Some HelperOutOfOrder) None)) (helper_none (helps_of w.table) w.limits.callers helper many is)
     at (Some help) is =
-        ap (λ b. cond b (Some refusals.NoSuchHelper) (cond (not (has_dummy (help_in (helps_of w.table) helper))) (Some refusals.HelperOutOfOrder) None)) (helper_there (helps_of w.table) w.limits.callers helper help many is)
-        ∙ ap (λ (o : Option Help). cond (not (has_dummy (unwrap_or o Nothing))) (Some refusals.HelperOutOfOrder) None) is ∙ held help
+        ap (λ b. cond b (Some NoSuchHelper) (cond (not (has_dummy (help_in (helps_of w.table) helper))) (Some HelperOutOfOrder) None)) (helper_there (helps_of w.table) w.limits.callers helper help many is)
+        ∙ ap (λ (o : Option Help). cond (not (has_dummy (unwrap_or o Nothing))) (Some HelperOutOfOrder) None) is ∙ held help
 
 -- If a store is refused memory, no bucket of the helper's segment is stored.
 store_lacks : (w : World) (helper : ℕ) (o : Option Help) → slice_get (helps_of w.table) helper ≡ o → store_answer o ≡ Ok tt
     → ((bucket : ℕ) → slice_get (helps_of w.table) helper ≡ Some (Dummy bucket) → LacksSegment (stored_of w.table) bucket) → LacksSegment (stored_of w.table) (bucket_at (help_in (helps_of w.table) helper))
-store_lacks w helper (Some (Dummy bucket)) is answer lacks =
-    subst (LacksSegment (stored_of w.table)) (sym (ap (λ (o : Option Help). bucket_at (unwrap_or o Nothing)) is)) (lacks bucket is)
+store_lacks w helper (Some (Dummy bucket)) is answer lacks = rw is (lacks bucket is)
 store_lacks w helper _ is answer lacks = absurd (cc answer)
 
-abbrev wants_memory : Result Unit Refusal → Bool
-wants_memory (Err refusals.NoMemory) = true
-wants_memory _ = false
-
-pub store_refused_move : (w : World) (t' : TableAt) (helper : ℕ) → length (helps_of w.table) ≡ w.limits.callers → (result : Result Unit Refusal) → (result ≢ Err refusals.NoMemory → result ≡ store_answer (slice_get (helps_of w.table) helper))
-    → (result ≡ Err refusals.NoMemory → store_answer (slice_get (helps_of w.table) helper) ≡ Ok tt) → ((bucket : ℕ) → slice_get (helps_of w.table) helper ≡ Some (Dummy bucket) → result ≡ Err refusals.NoMemory → LacksSegment (stored_of w.table) bucket)
+pub store_refused_move : (w : World) (t' : TableAt) (helper : ℕ) → length (helps_of w.table) ≡ w.limits.callers → (result : Result Unit Refusal) → (result ≢ Err NoMemory → result ≡ store_answer (slice_get (helps_of w.table) helper))
+    → (result ≡ Err NoMemory → store_answer (slice_get (helps_of w.table) helper) ≡ Ok tt) → ((bucket : ℕ) → slice_get (helps_of w.table) helper ≡ Some (Dummy bucket) → result ≡ Err NoMemory → LacksSegment (stored_of w.table) bucket)
     → (refusal : Refusal) → result ≡ Err refusal → t' ≡ w.table → Move (state_of w) (steps.InitStore helper) (answers.Refused refusal) (state_of (served w t' w.placed))
-store_refused_move w t' helper many result says no_memory lacking refusals.NoMemory is same =
-    subst (λ u. Move (state_of w) (steps.InitStore helper) (answers.Refused refusals.NoMemory) (state_of (served w u w.placed))) (sym same)
-    (lacks (state_of w) (steps.InitStore helper) refusals.NoMemory (store_refusal w helper many ∙ ap refusal_in_result (no_memory is)) (store_lacks w helper (slice_get (helps_of w.table) helper) refl (no_memory is) (λ bucket had. lacking bucket had is)))
+store_refused_move w t' helper many result says no_memory lacking NoMemory is same =
+    rw same
+    (lacks (state_of w) (steps.InitStore helper) NoMemory (store_refusal w helper many ∙ ap refusal_in_result (no_memory is)) (store_lacks w helper (slice_get (helps_of w.table) helper) refl (no_memory is) (λ bucket had. lacking bucket had is)))
 store_refused_move w t' helper many result says no_memory lacking refusal is same =
     helper_refused w t' (steps.InitStore helper) refusal same
-    (store_refusal w helper many ∙ ap refusal_in_result (sym (says (λ e. false≢true (ap wants_memory (sym is ∙ e)))) ∙ is))
+    (store_refusal w helper many ∙ ap refusal_in_result (sym (says (λ e. cc (is, e))) ∙ is))
 
 pub stored_move : (w : World) (t' : TableAt) (helper : ℕ) → length (helps_of w.table) ≡ w.limits.callers
     → store_answer (slice_get (helps_of w.table) helper) ≡ Ok tt → Stores w.table.buckets t'.buckets helper → KeepsList w.table t'

@@ -1,28 +1,15 @@
 -- A call for help and the core stay in step over each move of the call, whoever else takes steps on
 -- the core between them; and the call keeps to its bucket, which is stored when the call is at its
 -- end.
-use Rattle.std.proofs.Common.{◌≡◌, ◌≢◌, ℕ, ◌*◌, ◌^◌, ◌%◌, ◌<◌, ◌≤◌, ◌==◌, ◌&&◌, nat_lt, Bool, true, false, if◌then◌else◌, List, [], ◌∷◌, length, Some, None, refl, sym, ap, subst, ◌∙◌, arith, nat_le, not, unwrap_or, slice_get, slice_set, eqb-true, lt-ltb, get_or-set_same}
-use Rattle.std.proofs.lemmas.Bool.{false≢true, eqb-false, leb-false}
-use Rattle.std.proofs.lemmas.Nat.{mod_below}
-use Rattle.boost_core.proofs.Vocabulary.{unwrap_or-slice_get, Step, Answer, Refusal}
-use Rattle.txn_words.specs.declared.step.Step.TheVariants as steps
-use Rattle.txn_words.specs.declared.answer.Answer.TheVariants as answers
-use Rattle.txn_words.specs.declared.refusal.Refusal.TheVariants as refusals
-use Rattle.txn_drive.specs.declared.call.Call.TheVariants as calls
+use Rattle.std.proofs.Common.{◌≡◌, ◌≢◌, ℕ, ◌*◌, ◌^◌, ◌%◌, ◌<◌, ◌≤◌, ◌==◌, ◌&&◌, nat_lt, Bool, true, false, if◌then◌else◌, List, [], ◌∷◌, length, Some, None, refl, sym, ap, subst, ◌∙◌, arith, nat_le, not, unwrap_or, slice_get, slice_set, eqb-true, lt-ltb, get_or-set_same, leb-false}
+use Rattle.boost_core.proofs.Vocabulary.{false≢true, eqb-false, mod_below, unwrap_or-slice_get, Step, Answer, Refusal, Way, child_towards, step_in, sized_in, towards, heading, refused_help, told_help, told_init_seek, told_link, told_store, told_in, IsAncestor-root, IsAncestor-child_towards, parent_of-child_towards, child_towards-le, parent_of, IsAncestor, State, Help, Nothing, Sought, Dummy, is_set, with_bucket, help_in, bucket_at, refusal_of, MayLack, has_cursor, has_dummy, first_of, Move, IsWhole, IsOnWay, HelpSuits, HelperOutOfOrder, NoMemory, NoSuchBucket, NoSuchHelper, OutOfStep, ParentMissing, StampsUsedUp}
 use Rattle.txn_drive.specs.declared.phase.Phase.{Phase}
 use Rattle.txn_drive.specs.declared.phase.Phase.TheVariants.{Doubling, Initialising, Linking, Storing, Helped, Refused}
-use Rattle.txn_drive.specs.declared.way.Way.{Way}
-use Rattle.txn_drive.specs.Ways.{child_towards}
-use Rattle.txn_drive.specs.Drives.{step_in, sized_in, towards, heading, refused_help, told_help, told_init_seek, told_link, told_store, told_in}
-use Rattle.txn_drive.proofs.WayLemmas.{IsAncestor-root, IsAncestor-child_towards, parent_of-child_towards, child_towards-le}
-use Rattle.split_key.specs.Split.{parent_of, IsAncestor}
-use Rattle.boost_core.specs.State.{State, Help, Nothing, Sought, Dummy, is_set, with_bucket, help_in, bucket_at}
-use Rattle.boost_core.specs.Refusals.{refusal_of, MayLack, has_cursor, has_dummy, first_of}
-use Rattle.boost_core.specs.Machine.{Move}
-use Rattle.boost_core.specs.Whole.{IsWhole}
-use Rattle.boost_core.specs.Helps.{IsOnWay, HelpSuits}
 use Rattle.boost_core.proofs.Refused.{le_false}
 use Rattle.boost_core.proofs.Calls.{never_refused, and_none}
+use Rattle.txn_words.specs.declared.step.Step.TheVariants as steps
+use Rattle.txn_words.specs.declared.answer.Answer.TheVariants as answers
+use Rattle.txn_drive.specs.declared.call.Call.TheVariants as calls
 
 -- The size after a move: only a doubling changes it.
 abbrev pub is_double : Step → Bool
@@ -40,8 +27,7 @@ size_stays m n step is = record { least = omega arith; most = omega arith; same 
 pub sized : (m n : State) (step : Step) (a : Answer) → Move m step a n → Sized m n step
 sized m n (steps.Double seen) (answers.Doubled size) move =
     let is : n.size ≡ size = ap (λ (s : State). s.size) move.state in
-    let twice = move.allowed.1.0 in
-    record { least = omega arith; most = omega arith; same = λ other. absurd (false≢true (sym other)) }
+    record { least = omega (arith, move.allowed.1.0); most = omega (arith, move.allowed.1.0); same = λ other. absurd (false≢true (sym other)) }
 sized m n step (answers.Doubled size) move = absurd move.allowed.1
 sized m n step (answers.Refused r) move = size_stays m n step (ap (λ (s : State). s.size) move.state)
 sized m n step _ move = size_stays m n step (ap (λ (s : State). s.size) move.state)
@@ -55,17 +41,17 @@ at_towards P last target there on = at (last == target) refl
     at true same = there (eqb-true last target same)
     at false differs = on (eqb-false last target differs)
 
-pub at_heading : (P : Phase → Type 0) (key size : ℕ) → P (towards 0 (key % size)) → ((nat_lt 0 size && nat_lt size (2 ^ 32)) ≡ false → P (Refused refusals.OutOfStep)) → P (heading key size)
+pub at_heading : (P : Phase → Type 0) (key size : ℕ) → P (towards 0 (key % size)) → ((nat_lt 0 size && nat_lt size (2 ^ 32)) ≡ false → P (Refused OutOfStep)) → P (heading key size)
 at_heading P key size on out = at (nat_lt 0 size && nat_lt size (2 ^ 32)) refl
   where
-    at : (b : Bool) → (nat_lt 0 size && nat_lt size (2 ^ 32)) ≡ b → P (if b then towards 0 (key % size) else Refused refusals.OutOfStep)
+    at : (b : Bool) → (nat_lt 0 size && nat_lt size (2 ^ 32)) ≡ b → P (if b then towards 0 (key % size) else Refused OutOfStep)
     at true fits = on
     at false none = out none
 
 pub at_refused : (P : Phase → Type 0) (r : Refusal) → ((r : Refusal) → P (Refused r)) → P (refused_help r)
-at_refused P refusals.NoMemory ends = ends refusals.NoMemory
-at_refused P refusals.StampsUsedUp ends = ends refusals.StampsUsedUp
-at_refused P r ends = ends refusals.OutOfStep
+at_refused P NoMemory ends = ends NoMemory
+at_refused P StampsUsedUp ends = ends StampsUsedUp
+at_refused P r ends = ends OutOfStep
 
 pub at_double : (P : Phase → Type 0) (m n : State) (key : ℕ) (a : Answer) → Move m (steps.Double m.size) a n → (n.stored ≡ m.stored → P (heading key n.size)) → P (told_help key m.size a)
 at_double P m n key (answers.Refused r) move on = absurd (never_refused m (steps.Double m.size) r refl move.allowed)
@@ -82,10 +68,8 @@ set_there xs i x other within = unwrap_or-slice_get (slice_set xs i x) i other �
 -- The bucket that the storing of a dummy stores.
 stored_there : (m n : State) (c : ℕ) (way : Way) → IsWhole m → HelpSuits m c (Storing way) → Move m (steps.InitStore c) answers.Stored n → is_set n.stored way.bucket ≡ true
 stored_there m n c way whole suits move =
-    let below = suits.0.bucket in
-    let most = whole.most in
-    let many = whole.buckets in
-    ap (λ (s : State). is_set s.stored way.bucket) move.state ∙ ap (λ b. is_set (with_bucket m.stored b) way.bucket) suits.2 ∙ set_there m.stored way.bucket true false (omega arith)
+    ap (λ (s : State). is_set s.stored way.bucket) move.state ∙ ap (λ b. is_set (with_bucket m.stored b) way.bucket) suits.2
+    ∙ set_there m.stored way.bucket true false (omega (arith, suits.0.bucket, whole.most, whole.buckets))
 
 -- A call for help keeps to this bucket; if `known`, the bucket is stored when the call is at its
 -- end.
@@ -130,19 +114,17 @@ store_reaches known m n c bucket way _ suits to move = tt
 help_suits_towards : (n : State) (c last target : ℕ) → target < 2 ^ 32 → IsAncestor last target → target < n.size → is_set n.stored last ≡ true → HelpSuits n c (towards last target)
 help_suits_towards n c last target small ancestor within stored =
     at_towards (HelpSuits n c) last target (λ same. tt)
-    (λ other. let most = child_towards-le last target in record {
+    (λ other. record {
       ancestor = IsAncestor-child_towards last target;
       target = within;
-      bucket = omega arith;
+      bucket = omega (arith, child_towards-le last target);
       parent = ap (is_set n.stored) (parent_of-child_towards last target small ancestor other) ∙ stored;
     })
 
 -- After the doubling.
 pub help_suits_double : (m n : State) (c key : ℕ) (a : Answer) → IsWhole m → n.size < 2 ^ 32 → Move m (steps.Double m.size) a n → HelpSuits n c (told_help key m.size a)
 help_suits_double m n c key a whole small move =
-    let least = whole.least in
-    let more = (sized m n (steps.Double m.size) a move).least in
-    let some : 0 < n.size = omega arith in
+    let some : 0 < n.size = omega (arith, whole.least, (sized m n (steps.Double m.size) a move).least) in
     let rest = mod_below key n.size some in
     let rest_small : key % n.size < 2 ^ 32 = omega arith in
     at_double (HelpSuits n c) m n key a move
@@ -160,10 +142,10 @@ way_stays m n way size stored on = record {
 }
 
 target_small : (m : State) (way : Way) → IsWhole m → IsOnWay m way → way.target < 2 ^ 32
-target_small m way whole on = let less = on.target in let most = whole.most in let fits = whole.fits in omega arith
+target_small m way whole on = omega (arith, on.target, whole.most, whole.fits)
 
 helper_there : (m : State) (c : ℕ) → IsWhole m → nat_le m.limits.callers c ≡ false → c < length m.helpers
-helper_there m c whole within = let less = leb-false m.limits.callers c within in let count = whole.helpers in omega arith
+helper_there m c whole within = omega (arith, leb-false m.limits.callers c within, whole.helpers)
 
 -- After the position of a bucket's dummy was sought.
 pub help_suits_seek : (m n : State) (c : ℕ) (way : Way) (again : ℕ) (a : Answer) → IsWhole m → nat_le m.limits.callers c ≡ false → IsOnWay m way → Move m (steps.InitSeek c way.bucket) a n → HelpSuits n c (told_init_seek way again a)
@@ -173,7 +155,7 @@ help_suits_seek m n c way again a whole within on move = at a move
     parent = ap (λ b. not (is_set m.stored way.bucket) && not b) on.parent ∙ and_none (not (is_set m.stored way.bucket))
 
     none : refusal_of m (steps.InitSeek c way.bucket) ≡ None
-    none = λ i. first_of ((within i, refusals.NoSuchHelper) ∷ (le_false m.size way.bucket on.bucket i, refusals.NoSuchBucket) ∷ (parent i, refusals.ParentMissing) ∷ [])
+    none = λ i. first_of ((within i, NoSuchHelper) ∷ (le_false m.size way.bucket on.bucket i, NoSuchBucket) ∷ (parent i, ParentMissing) ∷ [])
 
     at : (a : Answer) → Move m (steps.InitSeek c way.bucket) a n → HelpSuits n c (told_init_seek way again a)
     at (answers.Refused r) move = absurd (never_refused m (steps.InitSeek c way.bucket) r none move.allowed)
@@ -187,12 +169,12 @@ help_suits_seek m n c way again a whole within on move = at a move
 
 -- A link may be refused memory or a stamp, and a store memory.
 link_lacks : (m n : State) (c : ℕ) (r : Refusal) → MayLack m (steps.InitLink c) r → HelpSuits n c (refused_help r)
-link_lacks m n c refusals.NoMemory lack = tt
-link_lacks m n c refusals.StampsUsedUp lack = tt
+link_lacks m n c NoMemory lack = tt
+link_lacks m n c StampsUsedUp lack = tt
 link_lacks m n c r lack = absurd lack
 
 store_lacks : (m n : State) (c : ℕ) (r : Refusal) → MayLack m (steps.InitStore c) r → HelpSuits n c (refused_help r)
-store_lacks m n c refusals.NoMemory lack = tt
+store_lacks m n c NoMemory lack = tt
 store_lacks m n c r lack = absurd lack
 
 -- After the answer to linking the dummy.
@@ -200,7 +182,7 @@ pub help_suits_link : (m n : State) (c : ℕ) (way : Way) (again : ℕ) (a : Ans
 help_suits_link m n c way again a whole within suits move = at a move
   where
     none : refusal_of m (steps.InitLink c) ≡ None
-    none = λ i. first_of ((within i, refusals.NoSuchHelper) ∷ (not (suits.1 i), refusals.HelperOutOfOrder) ∷ [])
+    none = λ i. first_of ((within i, NoSuchHelper) ∷ (not (suits.1 i), HelperOutOfOrder) ∷ [])
 
     holds : n.size ≡ m.size → n.stored ≡ m.stored → n.helpers ≡ slice_set m.helpers c (Dummy (bucket_at (help_in m.helpers c))) → HelpSuits n c (Storing way)
     holds size stored helpers =
@@ -219,7 +201,7 @@ pub help_suits_store : (m n : State) (c : ℕ) (way : Way) (a : Answer) → IsWh
 help_suits_store m n c way a whole within suits move = at a move
   where
     none : refusal_of m (steps.InitStore c) ≡ None
-    none = λ i. first_of ((within i, refusals.NoSuchHelper) ∷ (not (suits.1 i), refusals.HelperOutOfOrder) ∷ [])
+    none = λ i. first_of ((within i, NoSuchHelper) ∷ (not (suits.1 i), HelperOutOfOrder) ∷ [])
 
     at : (a : Answer) → Move m (steps.InitStore c) a n → HelpSuits n c (told_store way a)
     at (answers.Refused r) move = store_lacks m n c r (never_refused m (steps.InitStore c) r none move.allowed)

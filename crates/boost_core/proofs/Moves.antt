@@ -1,18 +1,8 @@
 -- Moves of the machine, from the changes of a step to the table and to one caller's side.
-use Rattle.std.proofs.Common.{◌≡◌, ℕ, ◌+◌, ◌≤◌, List, set, Option, Some, None, refl, sym, ap, subst, ◌∙◌, arith, ◌-◌, ◌^◌, ◌<◌, ◌==◌, ◌&&◌, Bool, true, false, map, nat_lt, not, slice_get, slice_set, eq-eqb, eqb-true, ltb-true, inl, inr}
-use Rattle.boost_core.proofs.Vocabulary.{option_map, and_parts, cases_Bool, get_or_from_slice_get, Entry, Refusal, Step, Answer}
-use Rattle.std.proofs.lemmas.List.{map-set}
+use Rattle.std.proofs.Common.{◌≡◌, ℕ, ◌+◌, ◌≤◌, List, set, Option, Some, None, refl, sym, ap, subst, ◌∙◌, arith, ◌-◌, ◌^◌, ◌<◌, ◌==◌, ◌&&◌, Bool, true, false, map, nat_lt, not, slice_get, slice_set, eq-eqb, eqb-true, ltb-true, inl, inr, option_map}
+use Rattle.boost_core.proofs.Vocabulary.{and_parts, cases_Bool, get_or_from_slice_get, Entry, Refusal, Step, Answer, map-set, Refused, cursor_changes, TableAt, Keeps, KeepsBuckets, size_of, stored_of, linked_of, helps_of, table_changes, last_of, Rests, Counts, Session, State, Owner, Caller, Helper, owner_changes, is_just_placed, may_be_stale, refusal_of, MayLack, Move, World, state_of, session_changes, nodes_at, gap_by, helper_gaps_of, IsAllowed, keeps_list}
 use Rattle.std.proofs.Math.Seq.{map-set_same}
-use Rattle.txn_words.specs.declared.answer.Answer.TheVariants.{Refused}
-use Rattle.map_ops.specs.TableAt.{cursor_changes, TableAt, Keeps, KeepsBuckets, size_of, stored_of, linked_of, helps_of, table_changes, last_of}
-use Rattle.boost_core.specs.Sessions.{Rests}
-use Rattle.boost_core.specs.declared.counts.Counts.{Counts}
-use Rattle.boost_core.specs.declared.session.Session.{Session}
-use Rattle.boost_core.specs.State.{State, Owner, Caller, Helper}
-use Rattle.boost_core.specs.Answers.{owner_changes, is_just_placed, may_be_stale}
-use Rattle.boost_core.specs.Refusals.{refusal_of, MayLack}
-use Rattle.boost_core.specs.Machine.{Move}
-use Rattle.boost_core.specs.Core.{World, state_of, session_changes, nodes_at, gap_by, helper_gaps_of}
+use Rattle.boost_core.specs.Answers.{after}
 
 -- A step that is refused leaves the state unchanged.
 pub refused : (state : State) (step : Step) (refusal : Refusal) → refusal_of state step ≡ Some refusal → Move state step (Refused refusal) state
@@ -50,7 +40,7 @@ runs_of t t' buckets linked rises same = record {
 
 -- `Runs` holds if only spares have changed.
 pub rests_runs : (t t' : TableAt) → Rests t t' → Runs t t'
-rests_runs t t' rests = runs_of t t' rests.nodes.buckets rests.nodes.linked (let same = rests.nodes.changes in omega arith) rests.last
+rests_runs t t' rests = runs_of t t' rests.nodes.buckets rests.nodes.linked (omega (arith, rests.nodes.changes)) rests.last
 
 -- `Runs` holds if only the list has changed.
 pub keeps_runs : (t t' : TableAt) → Keeps t t' → table_changes t ≤ table_changes t' → Runs t t'
@@ -61,6 +51,22 @@ pub state_is : (w : World) (h' h'' : List Entry) (counts' : Counts) (t' : TableA
     → state_of (record { limits = w.limits; history = h'; counts = counts'; table = t'; sessions = sessions'; locks = locks'; placed = placed'; words = w.words })
     ≡ record { limits = w.limits; words = w.words; history = h''; size = size_of w.table; stored = stored_of w.table; linked = linked_of w.table; nodes = nodes_at t'; changes = table_changes t'; stamp = last_of t'; cursors = cursors; gaps = map (gap_by t') sessions'; helper_gaps = helper_gaps_of t'; helpers = helps_of w.table; placed = placed' }
 state_is w h' h'' counts' t' cursors sessions' locks' placed' runs entries same = λ i. record { limits = w.limits; words = w.words; history = entries i; size = runs.size i; stored = runs.stored i; linked = runs.linked i; nodes = nodes_at t'; changes = table_changes t'; stamp = last_of t'; cursors = same i; gaps = map (gap_by t') sessions'; helper_gaps = helper_gaps_of t'; helpers = runs.helps i; placed = placed' }
+
+-- A state with the nodes of a table, and those beside the cursors of callers and helpers.
+abbrev pub with_nodes : TableAt → List Session → State → State
+with_nodes t sessions s = record s { nodes = nodes_at t; gaps = map (gap_by t) sessions; helper_gaps = helper_gaps_of t }
+
+-- A move, from the answer, the state after it, and the changes to the table.
+pub move_is : (w w' : World) (step : Step) (answer : Answer) → IsAllowed (state_of w) step answer → state_of w' ≡ with_nodes w'.table w'.sessions (after (state_of w) step answer (table_changes w'.table) (last_of w'.table)) → Runs w.table w'.table
+    → (keeps_list answer ≡ true → table_changes w'.table ≡ table_changes w.table) → Move (state_of w) step answer (state_of w')
+move_is w w' step answer allowed is runs kept = record {
+  allowed = allowed;
+  state = is;
+  changes = runs.rises;
+  list_kept = kept;
+  stamp = runs.last;
+  one_stamp = runs.one_last;
+}
 
 -- The change numbers of the callers' cursors, after one is set or dropped.
 pub changes_set : (sessions : List Session) (c : ℕ) (y : Session) (noted : Option ℕ) → session_changes y ≡ noted → map session_changes (slice_set sessions c y) ≡ slice_set (map session_changes sessions) c noted

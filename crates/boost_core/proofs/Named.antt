@@ -1,16 +1,8 @@
 -- The holder that a Busy entry names is one of the callers, so the entries of a core are small.
-use Rattle.std.proofs.Common.{◌≡◌, ℕ, ◌<◌, ◌≤◌, ◌==◌, ◌&&◌, Bool, true, false, not, List, [], ◌∷◌, ◌++◌, arith, eqb-true, append-nil, inl, inr}
-use Rattle.boost_core.proofs.Vocabulary.{All, Entry, caller_of, is_began}
-use Rattle.std.proofs.lemmas.Bool.{false≢true, and_parts, or_cases}
-use Rattle.std.proofs.lemmas.List.Elements.{All-head, All-tail}
-use Rattle.txn_words.specs.declared.entry.Entry.TheVariants.{Busy}
-use Rattle.txn_words.specs.declared.holder.Holder.TheVariants.{Begun}
-use Rattle.txn_trace.specs.Locks.{has_begun, is_locked}
-use Rattle.txn_trace.specs.Legal.{IsLegal}
+use Rattle.std.proofs.Common.{◌≡◌, ℕ, ◌<◌, ◌≤◌, ◌==◌, ◌&&◌, Bool, true, false, not, List, [], ◌∷◌, ◌++◌, arith, eqb-true, append-nil, inl, inr, All}
+use Rattle.boost_core.proofs.Vocabulary.{Entry, caller_of, is_began, false≢true, and_parts, or_cases, All-head, All-tail, Busy, Begun, has_begun, is_locked, IsLegal, legal_begun, holder_by}
 use Rattle.txn_words.specs.Packed.{holder_in, is_small}
-use Rattle.txn_trace.proofs.Naming.{legal_begun}
 use Rattle.txn_words.proofs.Packing.{small_of}
-use Rattle.boost_core.specs.State.{holder_by}
 
 -- A history that is legal by either rule is legal by the wider one.
 wider : (words : Bool) (stripes : ℕ) (h : List Entry) → IsLegal (holder_by words) stripes h → IsLegal Begun stripes h
@@ -22,9 +14,7 @@ begun_below : (callers c : ℕ) (h : List Entry) → All (λ e. caller_of e < ca
 begun_below callers c [] all is = absurd (false≢true is)
 begun_below callers c (e ∷ h) all is = elim (or_cases (is_began e && caller_of e == c) (has_begun c h) is) [
   | inl here ↦
-      let same = eqb-true (caller_of e) c (and_parts (is_began e) (caller_of e == c) here).1 in
-      let below = All-head (λ e. caller_of e < callers) e h all in
-      omega arith
+      omega (arith, eqb-true (caller_of e) c (and_parts (is_began e) (caller_of e == c) here).1, All-head (λ e. caller_of e < callers) e h all)
   | inr there ↦ begun_below callers c h (All-tail (λ e. caller_of e < callers) e h all) there
 ]
 

@@ -1,23 +1,13 @@
 -- A cursor still fits if its two nodes are still neighbours.
-use Rattle.std.proofs.Common.{◌≡◌, ℕ, ◌==◌, ◌&&◌, true, false, inl, inr, List, [], ◌∷◌, ◌++◌, Option, Some, None, refl, sym, ap, subst, ◌∙◌, not, eq-eqb, eqb-true}
-use Rattle.std.proofs.lemmas.Bool.{not-true}
-use Rattle.boost_core.proofs.Vocabulary.{option_map, AllByRecursion, false≢true, cases_Bool, and_parts, and_from, IsBefore}
-use Rattle.node_list.specs.Nodes.{NodeAt, Listing, node_of, next_of, first}
-use Rattle.node_list.specs.Order.{IsRising, IsSpread, IsNodeBefore}
-use Rattle.list_steps.specs.declared.cursor.Cursor.{Cursor}
-use Rattle.list_steps.specs.declared.cursor.Noted.{Noted}
-use Rattle.list_steps.specs.Found.{pred_of, behind, fits, is_noted, is_next_noted}
-use Rattle.boost_core.specs.State.{Node, SortKey, plain_node}
-use Rattle.boost_core.specs.Nodes.{StartsAt, AreNeighbours}
-use Rattle.boost_core.specs.Core.{node_at}
+use Rattle.std.proofs.Common.{◌≡◌, ℕ, ◌==◌, ◌&&◌, true, false, inl, inr, List, [], ◌∷◌, ◌++◌, Option, Some, None, refl, sym, ap, subst, ◌∙◌, not, eq-eqb, eqb-true, option_map}
+use Rattle.boost_core.proofs.Vocabulary.{not-true, AllByRecursion, false≢true, cases_Bool, and_parts, and_from, IsBefore, NodeAt, Listing, node_of, next_of, first, IsRising, IsSpread, IsNodeBefore, Cursor, Noted, pred_of, behind, is_noted, is_next_noted, Node, SortKey, plain_node, StartsAt, AreNeighbours, node_at}
+use Rattle.list_steps.specs.Found.{fits}
 use Rattle.boost_core.proofs.NodeLists.{seen, node_here, node_later, none_of_none, order_behind}
 use Rattle.boost_core.proofs.GapLists.{IsStill, Stay, each_at, place_at, next_here, next_later, next_found, one_of_key, apart_keys}
 
 noted_node : (o : Option NodeAt) (stamp : ℕ) → is_noted o stamp ≡ true → (n : NodeAt) × (o ≡ Some n) × (n.stamp ≡ stamp) × (n.marked ≡ false)
 noted_node None stamp is = absurd (false≢true is)
-noted_node (Some n) stamp is =
-    let parts = and_parts (n.stamp == stamp) (not n.marked) is in
-    (n, refl, eqb-true n.stamp stamp parts.0, not-true n.marked parts.1)
+noted_node (Some n) stamp is = let parts = and_parts (n.stamp == stamp) (not n.marked) is in (n, refl, eqb-true n.stamp stamp parts.0, not-true n.marked parts.1)
 
 abbrev pub NextIs : Option NodeAt → Option Noted → Type 0
 NextIs None None = Unit {0}
@@ -87,15 +77,15 @@ beside (m ∷ rest) place n is live next = elim (cases_Bool (m.place == place)) 
         front = [];
         back = seen rest;
         nodes_are = λ i. record { at = (same i).at; marked = (ap (λ k. k.marked) same ∙ live) i } ∷ seen rest;
-        next = subst (λ (o : Option NodeAt). StartsAt (seen rest) (key_at o)) (sym (next_here m rest place here)) (starts rest (subst Live (next_here m rest place here) next));
+        next = rw (next_here m rest place here) (starts rest (rw (next_here m rest place here) at next));
       }
   | inr apart ↦
-      let more = beside rest place n (node_later m rest place (Some n) is apart) live (subst Live (next_later m rest place apart) next) in
+      let more = beside rest place n (node_later m rest place (Some n) is apart) live (rw (next_later m rest place apart) at next) in
       record {
         front = node_at m ∷ more.front;
         back = more.back;
         nodes_are = ap (λ ns. node_at m ∷ ns) more.nodes_are;
-        next = subst (λ (o : Option NodeAt). StartsAt more.back (key_at o)) (sym (next_later m rest place apart)) more.next;
+        next = rw (next_later m rest place apart) more.next;
       }
 ]
 

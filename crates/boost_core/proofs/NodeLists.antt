@@ -1,15 +1,6 @@
 -- The changes to a list of nodes, as the core's contracts see it.
-use Rattle.std.proofs.Common.{◌≡◌, ℕ, ◌==◌, true, false, cond, inl, inr, List, [], ◌∷◌, ◌++◌, Option, Some, refl, sym, ap, ◌∙◌, map, not, filter, eq-eqb}
-use Rattle.boost_core.proofs.Vocabulary.{AllByRecursion, false≢true, cases_Bool}
-use Rattle.split_key.specs.Sort.{is_before, IsBefore}
-use Rattle.node_list.specs.Nodes.{NodeAt, IsLinked, node_of, linked_after, changed_at, written_at}
-use Rattle.node_list.specs.Order.{IsRising, IsNodeBefore}
-use Rattle.list_steps.specs.Seek.{cleaned, sought}
-use Rattle.list_steps.specs.Steps.{without_first_marked}
-use Rattle.boost_core.specs.State.{Node, SortKey, marked_node}
-use Rattle.boost_core.specs.Nodes.{IsClean, IsInOrder, StopsAt, is_unmarked}
-use Rattle.boost_core.specs.Core.{node_at}
-use Rattle.list_steps.proofs.SeekLemmas.{cleaned_marked}
+use Rattle.std.proofs.Common.{◌≡◌, ℕ, ◌==◌, true, false, inl, inr, List, [], ◌∷◌, ◌++◌, Option, Some, refl, sym, ap, ◌∙◌, map, filter, eq-eqb}
+use Rattle.boost_core.proofs.Vocabulary.{AllByRecursion, false≢true, cases_Bool, is_before, IsBefore, NodeAt, IsLinked, node_of, linked_after, changed_at, written_at, IsRising, IsNodeBefore, cleaned, sought, without_first_marked, Node, SortKey, marked_node, IsClean, IsInOrder, StopsAt, is_unmarked, node_at, plain_node}
 
 abbrev pub seen : List NodeAt → List Node
 seen nodes = map node_at nodes
@@ -74,13 +65,11 @@ inserted (n ∷ rest) place x linked = elim (cases_Bool (n.place == place)) [
 -- The node at a place, if the first node has this place and if it has not.
 pub node_here : (m : NodeAt) (rest : List NodeAt) (place : ℕ) (n : NodeAt) → node_of (m ∷ rest) place ≡ Some n → (m.place == place) ≡ true → m ≡ n
 unfolding node_of
-node_here m rest place n is here =
-    let both : Some m ≡ Some n = sym (ap (λ b. cond b (Some m) (node_of rest place)) here) ∙ is in
-    cc (both)
+node_here m rest place n is here = cc (rw here at is)
 
 pub node_later : (m : NodeAt) (rest : List NodeAt) (place : ℕ) (o : Option NodeAt) → node_of (m ∷ rest) place ≡ o → (m.place == place) ≡ false → node_of rest place ≡ o
 unfolding node_of
-node_later m rest place o is apart = sym (ap (λ b. cond b (Some m) (node_of rest place)) apart) ∙ is
+node_later m rest place o is apart = rw apart at is
 
 pub none_of_none : (place : ℕ) (n : NodeAt) → node_of [] place ≡ Some n → ⊥
 unfolding node_of
@@ -108,41 +97,28 @@ written_seen (m ∷ rest) place value = elim (cases_Bool (m.place == place)) [
   | inr apart ↦ rw apart (ap (λ ns. node_at m ∷ ns) (written_seen rest place value))
 ]
 
-cleaned_passed : (n : NodeAt) (rest : List NodeAt) (sort : SortKey) → n.marked ≡ false → is_before n.at sort ≡ true → cleaned sort (n ∷ rest) ≡ n ∷ cleaned sort rest
-unfolding cleaned
-cleaned_passed n rest sort is less = rw (is, less) refl
-
-cleaned_stopped : (n : NodeAt) (rest : List NodeAt) (sort : SortKey) → n.marked ≡ false → is_before n.at sort ≡ false → cleaned sort (n ∷ rest) ≡ n ∷ rest
-unfolding cleaned
-cleaned_stopped n rest sort is more = rw (is, more) refl
-
-cleaned_none : (sort : SortKey) → cleaned sort [] ≡ []
-unfolding cleaned
-cleaned_none sort = refl
-
 pub cleans : (sort : SortKey) (nodes : List NodeAt) → Cleaned sort (seen nodes) (seen (cleaned sort nodes))
-cleans sort [] = record { passed = []; back = []; old_is = refl; new_is = ap seen (cleaned_none sort); passes = tt; stops = tt }
-cleans sort (n ∷ rest) = elim (cases_Bool n.marked) [
-  | inl gone ↦ record {
-    passed = node_at n ∷ (cleans sort rest).passed;
-    back = (cleans sort rest).back;
-    old_is = ap (λ ns. node_at n ∷ ns) (cleans sort rest).old_is;
-    new_is = ap seen (cleaned_marked n rest sort gone) ∙ (cleans sort rest).new_is
-        ∙ sym (ap (λ b. cond (not b) (node_at n ∷ filter is_unmarked (cleans sort rest).passed) (filter is_unmarked (cleans sort rest).passed) ++ (cleans sort rest).back) gone);
-    passes = (λ live. absurd (false≢true (sym live ∙ gone)), (cleans sort rest).passes);
-    stops = (cleans sort rest).stops;
-  }
+unfolding cleaned
+cleans sort [] = record { passed = []; back = []; old_is = refl; new_is = refl; passes = tt; stops = tt }
+cleans sort (n ∷ rest) = let more = cleans sort rest in elim (cases_Bool n.marked) [
+  | inl gone ↦ rw gone (record {
+    passed = marked_node n.at ∷ more.passed;
+    back = more.back;
+    old_is = ap (λ ns. marked_node n.at ∷ ns) more.old_is;
+    new_is = more.new_is;
+    passes = (λ live. absurd (false≢true (sym live)), more.passes);
+    stops = more.stops;
+  })
   | inr live ↦ elim (cases_Bool (is_before n.at sort)) [
-    | inl less ↦ record {
-      passed = node_at n ∷ (cleans sort rest).passed;
-      back = (cleans sort rest).back;
-      old_is = ap (λ ns. node_at n ∷ ns) (cleans sort rest).old_is;
-      new_is = ap seen (cleaned_passed n rest sort live less) ∙ ap (λ ns. node_at n ∷ ns) (cleans sort rest).new_is
-          ∙ sym (ap (λ b. cond (not b) (node_at n ∷ filter is_unmarked (cleans sort rest).passed) (filter is_unmarked (cleans sort rest).passed) ++ (cleans sort rest).back) live);
-      passes = (λ is. less, (cleans sort rest).passes);
-      stops = (cleans sort rest).stops;
-    }
-    | inr most ↦ record { passed = []; back = seen (n ∷ rest); old_is = refl; new_is = ap seen (cleaned_stopped n rest sort live most); passes = tt; stops = (live, most) }
+    | inl less ↦ rw (live, less) (record {
+      passed = plain_node n.at ∷ more.passed;
+      back = more.back;
+      old_is = ap (λ ns. plain_node n.at ∷ ns) more.old_is;
+      new_is = ap (λ ns. plain_node n.at ∷ ns) more.new_is;
+      passes = (λ is. less, more.passes);
+      stops = more.stops;
+    })
+    | inr most ↦ rw (live, most) (record { passed = []; back = plain_node n.at ∷ seen rest; old_is = refl; new_is = refl; passes = tt; stops = (refl, most) })
   ]
 ]
 
@@ -185,35 +161,20 @@ pub clean_seen : (nodes : List NodeAt) → AllPlain nodes → IsClean (seen node
 clean_seen [] clean = tt
 clean_seen (n ∷ rest) clean = (clean.0, clean_seen rest clean.1)
 
-first_gone : (n : NodeAt) (rest : List NodeAt) → n.marked ≡ true → without_first_marked (n ∷ rest) ≡ rest
-unfolding without_first_marked
-first_gone n rest is = rw is refl
-
-first_stays : (n : NodeAt) (rest : List NodeAt) → n.marked ≡ false → without_first_marked (n ∷ rest) ≡ n ∷ without_first_marked rest
-unfolding without_first_marked
-first_stays n rest is = rw is refl
-
 pub sweeps : (nodes : List NodeAt) → (AllPlain nodes → ⊥) → Swept (seen nodes) (seen (without_first_marked nodes))
+unfolding without_first_marked
 sweeps [] some = absurd (some tt)
 sweeps (n ∷ rest) some = elim (cases_Bool n.marked) [
-  | inl gone ↦ record {
-    front = [];
-    at = n.at;
-    back = seen rest;
-    old_is = λ i. record { at = n.at; marked = gone i } ∷ seen rest;
-    new_is = ap seen (first_gone n rest gone);
-    first = tt;
-  }
+  | inl gone ↦ rw gone (record { front = []; at = n.at; back = seen rest; old_is = refl; new_is = refl; first = tt })
   | inr live ↦
-      let more = sweeps rest (λ clean. some (live, clean)) in
-      record {
-        front = node_at n ∷ more.front;
+      let more = sweeps rest (λ clean. some (live, clean)) in rw live (record {
+        front = plain_node n.at ∷ more.front;
         at = more.at;
         back = more.back;
-        old_is = ap (λ ns. node_at n ∷ ns) more.old_is;
-        new_is = ap seen (first_stays n rest live) ∙ ap (λ ns. node_at n ∷ ns) more.new_is;
-        first = (live, more.first);
-      }
+        old_is = ap (λ ns. plain_node n.at ∷ ns) more.old_is;
+        new_is = ap (λ ns. plain_node n.at ∷ ns) more.new_is;
+        first = (refl, more.first);
+      })
 ]
 
 -- The order of the nodes.

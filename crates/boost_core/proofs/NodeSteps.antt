@@ -1,31 +1,23 @@
--- The effect of each step on the nodes, the change number and the last stamp.
-use Rattle.std.proofs.Common.{◌≡◌, ◌⊎◌, ℕ, ◌-◌, ◌%◌, ◌<◌, Bool, true, false, cond, List, [], ◌∷◌, ◌++◌, length, Option, Some, None, is_some, inl, inr, refl, sym, ap, subst, ◌∙◌, arith, reverse, slice_get, unwrap_or, nat_lt, nat_eq, IsSome, ltb-true}
-use Rattle.boost_core.proofs.Vocabulary.{option_map, option_eq, false≢true, cases_Bool, slice_get-map, unwrap_or-slice_get, regular_at, Op, Put, Take, Get, PutIf, Refusal, Step, Answer, Phase, Waiting, LeavingTo, LeavingToEnd, Map, get, key_of, now, log_of, stripe_of, Seat, kept_at, newest_above, MapJob, Unput, Restore, Relink}
-use Rattle.std.proofs.lemmas.List.{length-map, reverse-append}
-use Rattle.split_key.specs.Split.{ancestor_of}
-use Rattle.node_list.specs.Nodes.{NodeAt, changes_after}
-use Rattle.list_steps.specs.Seek.{sought}
-use Rattle.bucket_table.specs.Directory as directories
-use Rattle.bucket_table.specs.Dummies.{IsDummyAt}
-use Rattle.txn_words.specs.declared.refusal.Refusal.TheVariants as refusals
-use Rattle.txn_words.specs.declared.step.Step.TheVariants as steps
-use Rattle.txn_words.specs.declared.answer.Answer.TheVariants as answers
-use Rattle.map_ops.specs.Jobs.{PendingAt, key_of_job, value_before, takes_node, IsDue}
-use Rattle.map_ops.specs.TableAt.{TableAt, SpareAt, KeepsNodes, KeepsList, NamesDummies, content, nodes_of, size_of, stored_of, table_changes, last_of}
-use Rattle.map_ops.specs.Changes.{SeeksNear, IsRefused}
-use Rattle.map_ops.specs.Nodes as writes
-use Rattle.boost_core.specs.declared.session.Session.{Session}
-use Rattle.boost_core.specs.State.{State, Caller, is_set, seat_in}
-use Rattle.boost_core.specs.Refusals.{owner_of}
-use Rattle.boost_core.specs.Nodes.{Touches, stamp_after, Keeps, Writes, Links, Marks, SeeksFrom, SeeksKey, IsNearest, Changes, PutsIf, OpDoes, OpDoesIn, BackDoes, Lists, key_in, next_key, newest_key}
-use Rattle.boost_core.specs.Sessions.{Does, ActsIn, DoesIn, TakesBackIn, SeeksIn, IsAsked, AsksBy, unless_busy, Waits, AreDue, key_of_newest, target_in, target_of, changes_of}
-use Rattle.boost_core.specs.Words.{Claim, Lock, Right, IsClaim, ListsAsk, ListsBy, stamp_by}
-use Rattle.boost_core.specs.Core.{World, Tells, state_of, node_at}
-use Rattle.boost_core.proofs.Given.{given_for}
-use Rattle.boost_core.proofs.NodeLists.{seen, inserted, replaced, written_seen, seeks_from}
+-- The effect of each step on the nodes, the change number and the last stamp: of a caller, and of
+-- others.
+use Rattle.std.proofs.Common.{◌≡◌, ◌⊎◌, ℕ, ◌-◌, ◌%◌, ◌<◌, Bool, true, false, List, [], ◌∷◌, ◌++◌, length, Option, Some, None, is_some, inl, inr, refl, sym, ap, subst, ◌∙◌, reverse, slice_get, unwrap_or, nat_lt, nat_eq, IsSome, option_map, Result, Ok, Err}
+use Rattle.boost_core.proofs.Vocabulary.{option_eq, false≢true, cases_Bool, slice_get-map, unwrap_or-slice_get, regular_at, Op, Put, Take, Get, PutIf, Refusal, Step, Answer, Phase, Waiting, LeavingTo, LeavingToEnd, Map, get, key_of, now, log_of, stripe_of, Seat, kept_at, newest_above, MapJob, Unput, Restore, Relink, length-map, reverse-append, ancestor_of, NodeAt, changes_after, sought, IsDummyAt, PendingAt, key_of_job, value_before, takes_node, IsDue, TableAt, SpareAt, KeepsNodes, KeepsList, NamesDummies, content, nodes_of, size_of, stored_of, table_changes, last_of, SeeksNear, IsRefused, Session, State, Caller, is_set, seat_in, owner_of, Touches, stamp_after, Writes, Links, Marks, SeeksFrom, SeeksKey, IsNearest, Changes, PutsIf, OpDoes, OpDoesIn, BackDoes, Lists, key_in, next_key, newest_key, Does, ActsIn, DoesIn, TakesBackIn, SeeksIn, IsAsked, AsksBy, unless_busy, Waits, AreDue, key_of_newest, target_in, target_of, changes_of, Claim, Lock, Right, IsClaim, ListsAsk, ListsBy, stamp_by, World, Tells, state_of, node_at, NoMemory, StaleWord, Abort, Act, Ask, Back, Begin, Commit, Save, Seek, dummy_at, InitSeek, InitLink, SweepOutcome, dummy_node, Sweeps, Seeking, SeekChanges, LinkChanges, Help, Nothing, helps_of, help_in, bucket_at, Serves, Sweeping}
+use Rattle.boost_core.specs.Nodes.{Keeps}
+use Rattle.boost_core.proofs.Spares.{given_for}
+use Rattle.boost_core.proofs.NodeLists.{seen, inserted, replaced, written_seen, seeks_from, clean_seen, sweeps as swept_nodes}
 use Rattle.boost_core.proofs.Outcomes.{is_stale_word}
 use Rattle.boost_core.proofs.Refused.{caller_in, seat_here}
-use Rattle.boost_core.proofs.Sides.{last_job, at_last, changes_last, waiting_op}
+use Rattle.boost_core.proofs.Sides.{changes_last, waiting_op, newest_is}
+use Rattle.map_ops.specs.Buckets.{parent_of}
+use Rattle.boost_core.proofs.Tables.{help_is, links_node}
+use Rattle.bucket_table.specs.Directory as directories
+use Rattle.txn_words.specs.declared.answer.Answer.TheVariants as answers
+use Rattle.map_ops.specs.Nodes as writes
+use Rattle.txn_words.specs.declared.step.Step.TheVariants as steps
+use Rattle.map_ops.specs.InitSeek.TheVariants as seeks
+use Rattle.map_ops.specs.InitLink.TheVariants as links
+use Rattle.map_ops.specs.SweepOutcome.TheVariants as outcomes
+use Rattle.boost_core.specs.Serves as said
 
 -- The changes to the list from an equal state.
 pub lists_of : (state old new : State) (step : Step) (answer : Answer) → state ≡ old → Lists state step answer new → Lists old step answer new
@@ -46,8 +38,8 @@ pub rested : (w w' : World) → KeepsNodes w.table w'.table → Keeps (state_of 
 rested w w' keeps = record { nodes = ap seen keeps.all; changes = keeps.changes }
 
 -- A node is linked, or marked, or written.
-pub links : (w w' : World) (node : NodeAt) → node.marked ≡ false → writes.LinksNode w.table.list w'.table.list node → Links (state_of w) (state_of w') node.at
-links w w' node live is =
+pub linked_node : (w w' : World) (node : NodeAt) → node.marked ≡ false → writes.LinksNode w.table.list w'.table.list node → Links (state_of w) (state_of w') node.at
+linked_node w w' node live is =
     let more = inserted (nodes_of w.table) is.before node is.linked in
     record {
       front = more.front;
@@ -75,9 +67,9 @@ pub nothing : (w w' : World) → writes.WritesNothing w.table.list w'.table.list
 nothing w w' is = record { nodes = ap seen is.nodes; changes = is.changes }
 
 -- A position is sought from a bucket's dummy.
-pub seeks : (w w' : World) (place bucket : ℕ) (dummy : IsDummyAt (nodes_of w.table) place bucket) (sort : _) → nodes_of w'.table ≡ sought (nodes_of w.table) place sort → writes.IsUnlinking w.table.list w'.table.list
+pub sought_from : (w w' : World) (place bucket : ℕ) (dummy : IsDummyAt (nodes_of w.table) place bucket) (sort : _) → nodes_of w'.table ≡ sought (nodes_of w.table) place sort → writes.IsUnlinking w.table.list w'.table.list
     → SeeksFrom (state_of w) (state_of w') bucket sort
-seeks w w' place bucket dummy sort nodes changes =
+sought_from w w' place bucket dummy sort nodes changes =
     let is = seeks_from sort (nodes_of w.table) place dummy.node dummy.is in
     record {
       front = is.front;
@@ -114,13 +106,13 @@ pub seeks_key : (w w' : World) → NamesDummies w.table → (key : ℕ) → Seek
 seeks_key w w' home key near = record {
   bucket = ancestor_of near.nearest.steps (key % size_of w.table);
   nearest = nearest w.table (key % size_of w.table) near.start near.nearest;
-  seeks = seeks w w' near.start (ancestor_of near.nearest.steps (key % size_of w.table)) (home.stored (ancestor_of near.nearest.steps (key % size_of w.table)) near.start near.nearest.stored) (regular_at key) near.nodes near.changes;
+  seeks = sought_from w w' near.start (ancestor_of near.nearest.steps (key % size_of w.table)) (home.stored (ancestor_of near.nearest.steps (key % size_of w.table)) near.start near.nearest.stored) (regular_at key) near.nodes near.changes;
 }
 
 -- The effect of an operation, and of taking a change back.
 put_changes : (w w' : World) (key value : ℕ) (spare : Option SpareAt) (before : Option ℕ) → writes.PutWrites w.table.list w'.table.list key value spare before → Changes (state_of w) (state_of w') key before (Some value)
 put_changes w w' key value None before is = absurd is
-put_changes w w' key value (Some spare) None is = links w w' (writes.node_for key value spare) refl is
+put_changes w w' key value (Some spare) None is = linked_node w w' (writes.node_for key value spare) refl is
 put_changes w w' key value (Some spare) (Some was) is = written w w' key value is
 
 put_if_changes : (w w' : World) (key value : ℕ) (spare : Option SpareAt) (before : Option ℕ) (made : Bool) → writes.PutIfWrites w.table.list w'.table.list key value spare before made → PutsIf (state_of w) (state_of w') key value before made
@@ -148,7 +140,7 @@ restored w w' key before (Some was) due is = written w w' key before is
 taken_back : (w w' : World) (job : MapJob) → IsDue (now w.history) job → writes.JobWrites w.table.list w'.table.list job → Changes (state_of w) (state_of w') (key_of_job job) (get (now w.history) (key_of_job job)) (value_before job)
 taken_back w w' (Unput key) due is = unput w w' key (get (now w.history) key) due is
 taken_back w w' (Restore key was) due is = restored w w' key was (get (now w.history) key) due is
-taken_back w w' (Relink key was spare) due is = subst (λ (o : Option ℕ). Changes (state_of w) (state_of w') key o (Some was)) (sym due) (links w w' (writes.node_for key was spare) refl is)
+taken_back w w' (Relink key was spare) due is = subst (λ (o : Option ℕ). Changes (state_of w) (state_of w') key o (Some was)) (sym due) (linked_node w w' (writes.node_for key was spare) refl is)
 
 module _ (w : World) (tells : Tells w) (c : ℕ) (x : Session) (at : slice_get w.sessions c ≡ Some x) where
   here : seat_in w.history c ≡ x.seat.seat
@@ -160,12 +152,9 @@ module _ (w : World) (tells : Tells w) (c : ℕ) (x : Session) (at : slice_get w
   newest_first : (level : ℕ) (key : ℕ) → key_of_newest (newest_above x.log level) ≡ Some key → newest_key (changes_of x.log.jobs) ≡ key
   newest_first level key is = elim (cases_Bool (nat_lt (kept_at x.log.kept level) (length x.log.jobs))) [
     | inl more ↦
-        let above : kept_at x.log.kept level < length x.log.jobs = ltb-true (kept_at x.log.kept level) (length x.log.jobs) more in
-        let last = last_job x.log.jobs (omega arith) in
-        let newest : newest_above x.log level ≡ Some last.job = ap (λ (b : Bool). cond b (slice_get x.log.jobs (length x.log.jobs - 1)) None) more ∙ at_last x.log.jobs last.front last.job last.is in
-        let both : Some (key_of_job last.job) ≡ Some key = sym (ap key_of_newest newest) ∙ is in
-        ap newest_key (changes_last x.log.jobs last.front last.job last.is) ∙ cc (both)
-    | inr none ↦ absurd (let both : None ≡ Some key = sym (ap key_of_newest (ap (λ (b : Bool). cond b (slice_get x.log.jobs (length x.log.jobs - 1)) None) none)) ∙ is in cc (both))
+        let newest = newest_is x.log level more in
+        ap newest_key (changes_last x.log.jobs newest.0.front newest.0.job newest.0.is) ∙ cc (rw newest.1 at is)
+    | inr none ↦ absurd (cc (rw none at is))
   ]
 
   key_is : (q : Phase) (key : ℕ) → target_in q x.log ≡ Some key → key_in q (changes_of x.log.jobs) ≡ key
@@ -193,7 +182,7 @@ module _ (w : World) (tells : Tells w) (c : ℕ) (x : Session) (at : slice_get w
       (taken_back w w' is.job due.0 is.writes)
 
   module _ (w' : World) (y : Session) (locks' : List (Option ℕ)) where
-    asked : (op : Op) (stripe : ℕ) (answer : Answer) → IsAsked c stripe op x w.table w.locks answer y w'.table locks' → Lists (state_of w) (steps.Ask c op) answer (state_of w')
+    asked : (op : Op) (stripe : ℕ) (answer : Answer) → IsAsked c stripe op x w.table w.locks answer y w'.table locks' → Lists (state_of w) (Ask c op) answer (state_of w')
     asked op stripe answers.Asked is =
         record {
           nodes = rested w w' is.prepares.nodes;
@@ -206,26 +195,26 @@ module _ (w : World) (tells : Tells w) (c : ℕ) (x : Session) (at : slice_get w
     asked op stripe (answers.Refused refusal) is = record { nodes = same w w' is.2; stamp = ap last_of is.2 }
     asked op stripe _ is = absurd is
 
-    not_stale : (op : Op) → (refusals.StaleWord ≡ refusals.NoMemory) ⊎ IsRefused w.table op refusals.StaleWord → ⊥
+    not_stale : (op : Op) → (StaleWord ≡ NoMemory) ⊎ IsRefused w.table op StaleWord → ⊥
     not_stale op (inl is) = cc (is)
     not_stale op (inr is) = is
 
     -- A stale right has used up a stamp if the operation takes a node; a word uses none.
-    asked_with : (op : Op) (stripe : ℕ) (own : Answer) → IsAsked c stripe op x w.table w.locks own y w'.table locks' → ListsAsk Right (state_of w) (steps.Ask c op) (unless_busy own) (state_of w')
+    asked_with : (op : Op) (stripe : ℕ) (own : Answer) → IsAsked c stripe op x w.table w.locks own y w'.table locks' → ListsAsk Right (state_of w) (Ask c op) (unless_busy own) (state_of w')
     asked_with op stripe answers.Asked is = let lists = asked op stripe answers.Asked is in record { nodes = lists.nodes; stamp = lists.stamp }
     asked_with op stripe (answers.Busy holder) is = let lists = asked op stripe (answers.Busy holder) is in record { nodes = lists.nodes; stamp = lists.stamp }
-    asked_with op stripe (answers.Refused refusals.StaleWord) is = absurd (not_stale op is.0)
+    asked_with op stripe (answers.Refused StaleWord) is = absurd (not_stale op is.0)
     asked_with op stripe (answers.Refused _) is = record { nodes = same w w' is.2; stamp = ap last_of is.2 }
     asked_with op stripe _ is = absurd is
 
-    asked_by : (claim : Claim) (op : Op) (stripe : ℕ) (answer : Answer) → AsksBy claim c stripe op x w.table w.locks answer y w'.table locks' → ListsBy claim (state_of w) (steps.Ask c op) answer (state_of w')
+    asked_by : (claim : Claim) (op : Op) (stripe : ℕ) (answer : Answer) → AsksBy claim c stripe op x w.table w.locks answer y w'.table locks' → ListsBy claim (state_of w) (Ask c op) answer (state_of w')
     asked_by Lock op stripe answer is = asked op stripe answer is
-    asked_by Right op stripe answer is = subst (λ a. ListsAsk Right (state_of w) (steps.Ask c op) a (state_of w')) (sym is.1) (asked_with op stripe is.0 is.2)
+    asked_by Right op stripe answer is = subst (λ a. ListsAsk Right (state_of w) (Ask c op) a (state_of w')) (sym is.1) (asked_with op stripe is.0 is.2)
     asked_by claim op stripe answer is =
-        subst (λ a. ListsAsk claim (state_of w) (steps.Ask c op) a (state_of w')) (sym is.0)
+        subst (λ a. ListsAsk claim (state_of w) (Ask c op) a (state_of w')) (sym is.0)
         (record { nodes = same w w' is.2; stamp = ap last_of is.2 })
 
-    acted : (answer : Answer) → ActsIn c x w.table w.locks answer y w'.table locks' → Lists (state_of w) (steps.Act c) answer (state_of w')
+    acted : (answer : Answer) → ActsIn c x w.table w.locks answer y w'.table locks' → Lists (state_of w) (Act c) answer (state_of w')
     acted answers.Again is = record { nodes = same w w' is.1.table; stamp = ap last_of is.1.table }
     acted (answers.Done reply) is = record { nodes = done w' reply y is.0; stamp = is.0.does.last }
     acted answers.Undone is = record { nodes = undone w' y is.1; stamp = is.1.back.last }
@@ -238,23 +227,23 @@ module _ (w : World) (tells : Tells w) (x : Session) (w' : World) (y : Session) 
   locked : NamesDummies w.table → (stripes : ℕ) (step : Step) → slice_get w.sessions (caller_in (owner_of step)) ≡ Some x
       → (answer : Answer) → Does Lock stripes w.counts step x w.table w.locks answer y w'.table locks'
       → Lists (state_of w) step answer (state_of w')
-  locked home stripes (steps.Begin c) at (answers.Began n) is = record { nodes = same w w' is.2; stamp = ap last_of is.2 }
-  locked home stripes (steps.Ask c op) at answer is = asked w tells c x at w' y locks' op (stripe_of stripes (key_of op)) answer is
-  locked home stripes (steps.Seek c) at answers.Placed is =
+  locked home stripes (Begin c) at (answers.Began n) is = record { nodes = same w w' is.2; stamp = ap last_of is.2 }
+  locked home stripes (Ask c op) at answer is = asked w tells c x at w' y locks' op (stripe_of stripes (key_of op)) answer is
+  locked home stripes (Seek c) at answers.Placed is =
       record { nodes = sought_key w tells c x at w' y home is.0; stamp = is.0.places.keeps.last }
-  locked home stripes (steps.Act c) at answer is = acted w tells c x at w' y locks' answer is
-  locked home stripes (steps.Save c) at answer is = record { nodes = same w w' is.1; stamp = ap last_of is.1 }
-  locked home stripes (steps.Back c n) at answers.Leaving is = record { nodes = same w w' is.1; stamp = ap last_of is.1 }
-  locked home stripes (steps.Commit c) at (answers.Committed p) is =
+  locked home stripes (Act c) at answer is = acted w tells c x at w' y locks' answer is
+  locked home stripes (Save c) at answer is = record { nodes = same w w' is.1; stamp = ap last_of is.1 }
+  locked home stripes (Back c n) at answers.Leaving is = record { nodes = same w w' is.1; stamp = ap last_of is.1 }
+  locked home stripes (Commit c) at (answers.Committed p) is =
       record { nodes = rested w w' is.1.rests.nodes; stamp = is.1.rests.last }
-  locked home stripes (steps.Abort c) at answers.Leaving is = record { nodes = rested w w' is.0.rests.nodes; stamp = is.0.rests.last }
+  locked home stripes (Abort c) at answers.Leaving is = record { nodes = rested w w' is.0.rests.nodes; stamp = is.0.rests.last }
   locked home stripes _ at _ is = absurd is
 
   claimed : NamesDummies w.table → (claim : Claim) (stripes : ℕ) (step : Step) → slice_get w.sessions (caller_in (owner_of step)) ≡ Some x
       → IsClaim claim (state_of w) step → (answer : Answer) → Does claim stripes w.counts step x w.table w.locks answer y w'.table locks'
       → ListsBy claim (state_of w) step answer (state_of w')
   claimed home Lock stripes step at claims answer is = locked home stripes step at answer is
-  claimed home claim stripes (steps.Ask c op) at claims answer is =
+  claimed home claim stripes (Ask c op) at claims answer is =
       asked_by w tells c x at w' y locks' claim op (stripe_of stripes (key_of op)) answer is
   claimed home _ stripes _ at claims answer is = absurd claims
 
@@ -266,16 +255,16 @@ module _ (w : World) (tells : Tells w) (x : Session) (w' : World) (y : Session) 
 
 -- The effect on the list of a refusal by a test: none.
 touched : (old new : State) (step : Step) (refusal : Refusal) → Keeps old new → Touches old step (answers.Refused refusal) new
-touched old new (steps.Seek c) refusal keeps = keeps
+touched old new (Seek c) refusal keeps = keeps
 touched old new _ refusal keeps = keeps
 
 stamp_stays : (stamp : ℕ) (step : Step) (refusal : Refusal) → stamp_after stamp step (answers.Refused refusal) ≡ stamp
-stamp_stays stamp (steps.Ask c op) refusal = refl
+stamp_stays stamp (Ask c op) refusal = refl
 stamp_stays stamp _ refusal = refl
 
 right_stays : (stamp : ℕ) (step : Step) (refusal : Refusal) → is_stale_word refusal ≡ false → stamp_by Right stamp step (answers.Refused refusal) ≡ stamp
-right_stays stamp (steps.Ask c op) refusals.StaleWord early = absurd (false≢true (sym early))
-right_stays stamp (steps.Ask c op) _ early = refl
+right_stays stamp (Ask c op) StaleWord early = absurd (false≢true (sym early))
+right_stays stamp (Ask c op) _ early = refl
 right_stays stamp _ refusal early = refl
 
 pub refused_lists : (claim : Claim) (old new : State) (step : Step) (refusal : Refusal) → (claim ≡ Lock) ⊎ (is_stale_word refusal ≡ false) → Keeps old new → new.stamp ≡ old.stamp → ListsBy claim old step (answers.Refused refusal) new
@@ -287,3 +276,49 @@ refused_lists claim old new step refusal (inr early) keeps same = by claim
     by Lock = record { nodes = touched old new step refusal keeps; stamp = same ∙ sym (stamp_stays old.stamp step refusal) }
     by Right = record { nodes = touched old new step refusal keeps; stamp = same ∙ sym (right_stays old.stamp step refusal early) }
     by _ = record { nodes = touched old new step refusal keeps; stamp = same }
+
+module _ (w w' : World) (home : NamesDummies w.table) where
+  swept : (answer : Answer) (is : Sweeping w.table w'.table answer) (outcome : SweepOutcome) → is.outcome ≡ outcome → Lists (state_of w) steps.Sweep (said.swept outcome) (state_of w')
+  swept answer is outcomes.Swept says =
+      let sweeps : Sweeps w.table w'.table outcomes.Swept = subst (Sweeps w.table w'.table) says is.sweeps in
+      let one = swept_nodes (nodes_of w.table) (λ clean. let e : outcomes.Swept ≡ outcomes.Clean = sym says ∙ is.clean.1 clean in cc (e)) in
+      record {
+        nodes = record { front = one.front; at = one.at; back = one.back; old_is = one.old_is; new_is = ap seen sweeps.0.nodes ∙ one.new_is; first = one.first; changes = sweeps.0.changes };
+        stamp = is.keeps.last;
+      }
+  swept answer is outcomes.Clean says =
+      let sweeps : Sweeps w.table w'.table outcomes.Clean = subst (Sweeps w.table w'.table) says is.sweeps in
+      record { nodes = (clean_seen (nodes_of w.table) (is.clean.0 says), kept w w' sweeps.0); stamp = is.keeps.last }
+
+  sought_bucket : (h b : ℕ) (outcome : Result InitSeek Refusal) → SeekChanges w.table w'.table h b outcome
+      → Lists (state_of w) (steps.InitSeek h b) (said.sought outcome) (state_of w')
+  sought_bucket h b (Ok seeks.Ready) changes = record { nodes = kept w w' changes.1; stamp = ap (λ l. l.last) changes.1 }
+  sought_bucket h b (Ok seeks.Placed) changes = record {
+    nodes = sought_from w w' changes.from (parent_of b) (home.stored (parent_of b) changes.from changes.parent)
+        (dummy_at b) changes.nodes changes.changes;
+    stamp = changes.rest.last;
+  }
+  sought_bucket h b (Err refusal) changes = record { nodes = kept w w' (ap (λ t. t.list) changes); stamp = ap last_of changes }
+
+  linked_dummy : (h : ℕ) (outcome : Result InitLink Refusal) → LinkChanges w.table w'.table h outcome
+      → Lists (state_of w) (steps.InitLink h) (said.linked outcome) (state_of w')
+  linked_dummy h (Ok links.Linked) changes =
+      let bucket : bucket_at (help_in (helps_of w.table) h) ≡ changes.bucket =
+      ap (λ (o : Option Help). bucket_at (unwrap_or o Nothing)) (help_is w.table h (Seeking changes.bucket changes.cursor) changes.had) in
+      record {
+        nodes = subst (λ n. Links (state_of w) (state_of w') (dummy_at n)) (sym bucket)
+            (linked_node w w' (dummy_node changes.place changes.bucket _) refl (links_node _ _ _ _ _ changes.links));
+        stamp = changes.links.last;
+      }
+  linked_dummy h (Ok links.Again) changes = record { nodes = kept w w' changes.1; stamp = ap (λ l. l.last) changes.1 }
+  linked_dummy h (Ok links.Present) changes = record { nodes = kept w w' changes.1; stamp = ap (λ l. l.last) changes.1 }
+  linked_dummy h (Err refusal) changes = record { nodes = kept w w' (ap (λ t. t.list) changes); stamp = ap last_of changes }
+
+  -- The effect of each step on the list.
+  pub serves : (step : Step) (answer : Answer) → Serves step w.table answer w'.table → Lists (state_of w) step answer (state_of w')
+  serves steps.Sweep answer is = rw is.answer_is (swept answer is is.outcome refl)
+  serves (steps.InitSeek h b) answer is = rw is.answer_is (sought_bucket h b is.outcome is.changes)
+  serves (steps.InitLink h) answer is = rw is.answer_is (linked_dummy h is.outcome is.changes)
+  serves (steps.InitStore h) answer is = record { nodes = kept w w' is.list; stamp = ap (λ l. l.last) is.list }
+  serves (steps.Double seen) answer is = record { nodes = kept w w' is.list; stamp = ap (λ l. l.last) is.list }
+  serves _ answer is = absurd is

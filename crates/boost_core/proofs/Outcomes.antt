@@ -1,26 +1,14 @@
 -- The outcome of a step of a caller: the invariants of the core after it, and the move.
-use Rattle.std.proofs.Common.{◌≡◌, ◌⊎◌, inl, inr, ℕ, ◌+◌, ◌-◌, ◌<◌, ◌≤◌, ◌^◌, Bool, true, false, cond, refl, List, [], ◌∷◌, ◌++◌, length, Option, Some, None, sym, ap, subst, ◌∙◌, arith, map, slice_get, slice_set, sum_by, option_to_list, append-nil}
-use Rattle.boost_core.proofs.Vocabulary.{option_map, AllByRecursion, false≢true, slice_get_within, Entry, Step, Answer, Phase, Closed, caller_of, Seat, RoomySeat, row, own, Op, Put, Refusal, IsLevelIn, seat_leveled, TableAt, cursor_changes, table_changes, last_of}
+use Rattle.std.proofs.Common.{◌≡◌, ◌⊎◌, inl, inr, ℕ, ◌+◌, ◌-◌, ◌<◌, ◌≤◌, ◌^◌, Bool, true, false, cond, refl, List, [], ◌∷◌, ◌++◌, length, Option, Some, None, sym, ap, subst, ◌∙◌, arith, map, slice_get, slice_set, sum_by, option_to_list, append-nil, option_map}
+use Rattle.boost_core.proofs.Vocabulary.{AllByRecursion, false≢true, slice_get_within, Entry, Step, Answer, Phase, Closed, caller_of, Seat, RoomySeat, row, own, Op, Put, Refusal, IsLevelIn, seat_leveled, TableAt, cursor_changes, table_changes, last_of, entries_of, NoMemory, StampsUsedUp, StaleWord, refusal_of, tests_of, owner_of, first_of, owed_in, reserved, Counts, Session, counts_after, placed_then, keeps_list, Move, IsAllowed, State, Claim, Lock, Right, Held, Goes, IsClaim, may_come, reserved_by, Side, owed_of, World, Tells, IsFresh, state_of, session_changes}
+use Rattle.txn_trace.proofs.Room.{reserved_for, reserved_enough, owed_by-row}
+use Rattle.boost_core.specs.Answers.{after}
+use Rattle.boost_core.specs.Adding.{Enters, CanAdd}
+use Rattle.boost_core.proofs.Named.{grown_small}
+use Rattle.boost_core.proofs.Moves.{Runs, lacks, refused, state_is, changes_set, move_is, with_nodes}
+use Rattle.boost_core.proofs.Grow.{Grows, Stays, world_after, seated_as, row_there, grown, stayed, sum_changed, one_of_sum}
 use Rattle.txn_words.specs.declared.step.Step.TheVariants as steps
 use Rattle.txn_words.specs.declared.answer.Answer.TheVariants as answers
-use Rattle.txn_words.specs.Entries.{entries_of}
-use Rattle.txn_words.specs.declared.refusal.Refusal.TheVariants.{NoMemory, StampsUsedUp, StaleWord}
-use Rattle.boost_core.specs.Refusals.{refusal_of, tests_of, owner_of, first_of}
-use Rattle.txn_words.specs.Owed.{owed_in, owed_by, reserved}
-use Rattle.txn_trace.proofs.Room.{reserved_for, reserved_enough, owed_by-row}
-use Rattle.boost_core.specs.declared.counts.Counts.{Counts}
-use Rattle.boost_core.specs.declared.session.Session.{Session}
-use Rattle.boost_core.specs.Counts.{counts_after}
-use Rattle.boost_core.specs.Placed.{placed_then}
-use Rattle.boost_core.specs.Answers.{keeps_list, after}
-use Rattle.boost_core.specs.Machine.{Move, IsAllowed, State}
-use Rattle.boost_core.specs.Words.{Claim, Lock, Right, Held, Goes, IsClaim, may_come, reserved_by}
-use Rattle.boost_core.specs.Adding.{Enters, CanAdd}
-use Rattle.boost_core.specs.Sessions.{Side, owed_of}
-use Rattle.boost_core.specs.Core.{World, Tells, IsFresh, state_of, nodes_at, gap_by, helper_gaps_of, session_changes}
-use Rattle.boost_core.proofs.Named.{grown_small}
-use Rattle.boost_core.proofs.Moves.{Runs, lacks, refused, state_is, changes_set}
-use Rattle.boost_core.proofs.Grow.{Grows, Stays, world_after, seated_as, row_there, grown, stayed, sum_changed, one_of_sum}
 
 -- One more entry, or none.
 abbrev pub Comes : World → ℕ → Session → Session → TableAt → List (Option ℕ) → Counts → List Entry → Type 0
@@ -37,18 +25,6 @@ pub record CalledBy (claim : Claim) (w : World) (c : ℕ) (x : Session) (step : 
 -- A step that claims no word.
 abbrev pub Called : World → ℕ → Session → Step → Answer → Session → TableAt → List (Option ℕ) → Type 0
 Called w c x step answer y t' locks' = CalledBy Lock w c x step answer y t' locks'
-
--- A move, from the answer, the state after it, and the changes to the table.
-pub move_is : (w w' : World) (step : Step) (answer : Answer) → IsAllowed (state_of w) step answer → state_of w' ≡ record (after (state_of w) step answer (table_changes w'.table) (last_of w'.table)) { nodes = nodes_at w'.table; gaps = map (gap_by w'.table) w'.sessions; helper_gaps = helper_gaps_of w'.table } → Runs w.table w'.table
-    → (keeps_list answer ≡ true → table_changes w'.table ≡ table_changes w.table) → Move (state_of w) step answer (state_of w')
-move_is w w' step answer allowed is runs kept = record {
-  allowed = allowed;
-  state = is;
-  changes = runs.rises;
-  list_kept = kept;
-  stamp = runs.last;
-  one_stamp = runs.one_last;
-}
 
 -- The outcome of a step that adds an entry and places no cursor.
 pub entered : (w : World) (c : ℕ) (x y : Session) (t' : TableAt) (locks' : List (Option ℕ)) (step : Step) (answer : Answer) (e : Entry)
@@ -70,9 +46,7 @@ entered w c x y t' locks' step answer e cursors one unplaced after_is dropped al
       (state_is w (w.history ++ entries_of step answer) (w.history ++ entries_of step answer) (counts_after w.counts answer) t' cursors
       (slice_set w.sessions c (seated_as y seat')) locks' (placed_then w.placed step answer) runs refl
       (changes_set w.sessions c (seated_as y seat') None (ap (λ (s : Side). option_map cursor_changes s.cursor) grows.becomes) ∙ dropped)
-      ∙ ap (λ (s : State). record s
-      { nodes = nodes_at t'; gaps = map (gap_by t') (slice_set w.sessions c (seated_as y seat')); helper_gaps = helper_gaps_of t' })
-      (sym after_is))
+      ∙ ap (with_nodes t' (slice_set w.sessions c (seated_as y seat'))) (sym after_is))
       runs kept;
   fresh = λ seat'. subst (IsFresh t' (slice_set w.sessions c (seated_as y seat'))) (sym unplaced) tt;
 }
@@ -96,12 +70,8 @@ abbrev pub is_stale_word : Refusal → Bool
 is_stale_word StaleWord = true
 is_stale_word _ = false
 
-early_fresh : (refusal : Refusal) → is_late refusal ≡ false → is_stale_word refusal ≡ false
-early_fresh StaleWord early = absurd (false≢true (sym early))
-early_fresh _ early = refl
-
 next_early : (b : Bool) (first refusal : Refusal) (rest : Option Refusal) → is_late first ≡ false → (rest ≡ Some refusal → is_late refusal ≡ false) → cond b (Some first) rest ≡ Some refusal → is_late refusal ≡ false
-next_early true first refusal rest early later is = let same : first ≡ refusal = cc (is) in ap is_late (sym same) ∙ early
+next_early true first refusal rest early later is = let same : first ≡ refusal = cc is in rw same at early
 next_early false first refusal rest early later is = later is
 
 first_early : (tests : List (Bool × Refusal)) → AllByRecursion (λ (test : Bool × Refusal). is_late test.1 ≡ false) tests → (refusal : Refusal) → first_of tests ≡ Some refusal → is_late refusal ≡ false
@@ -142,20 +112,17 @@ early_or_lock _ state (steps.Ask c op) refusal claims is = inr (ask_early state 
 early_or_lock _ state _ refusal claims is = absurd claims
 
 pub fresh_or_lock : (claim : Claim) (state : State) (step : Step) (refusal : Refusal) → IsClaim claim state step → refusal_of state step ≡ Some refusal → (claim ≡ Lock) ⊎ (is_stale_word refusal ≡ false)
-fresh_or_lock claim state step refusal claims is = elim (early_or_lock claim state step refusal claims is) [
-  | inl lock ↦ inl lock
-  | inr early ↦ inr (early_fresh refusal early)
-]
+fresh_or_lock claim state step refusal claims is = elim (early_or_lock claim state step refusal claims is) [ inl lock ↦ inl lock | inr early ↦ inr (fresh refusal early) ]
+  where
+    fresh : (refusal : Refusal) → is_late refusal ≡ false → is_stale_word refusal ≡ false
+    fresh StaleWord early = absurd (false≢true (sym early))
+    fresh _ early = refl
 
 pub goes_refused : (claim : Claim) (state : State) (step : Step) (refusal : Refusal) → IsClaim claim state step → refusal_of state step ≡ Some refusal → Goes claim state step (answers.Refused refusal) state
 goes_refused claim state step refusal claims is = elim (early_or_lock claim state step refusal claims is) [
-  | inl lock ↦ subst (λ k. Goes k state step (answers.Refused refusal) state) (sym lock) (refused state step refusal is)
+  | inl lock ↦ rw lock (refused state step refusal is)
   | inr early ↦ goes_early claim state step refusal early (refused state step refusal is)
 ]
-
--- A statement about the table and the locks holds if both are unchanged.
-pub same_world : (P : TableAt → List (Option ℕ) → Type 0) (t t' : TableAt) (locks locks' : List (Option ℕ)) → t' ≡ t → locks' ≡ locks → P t locks → P t' locks'
-same_world P t t' locks locks' table same p = subst (λ u. P u locks') (sym table) (subst (λ l. P t l) (sym same) p)
 
 -- A step reserves at most three entries.
 pub reserved_few : (step : Step) → reserved step ≤ 3
@@ -206,41 +173,44 @@ standing_owed : (q : Phase) (standing : ℕ) (kept : List ℕ) → IsLevelIn q s
 standing_owed Closed standing kept is = let none : standing ≡ 0 = is.0 in omega arith
 standing_owed _ standing kept is = omega arith
 
-small_standing : (a b owed n : ℕ) → a ≡ b → b ≤ owed → owed < n → a < n
-small_standing a b owed n same most small = omega arith
-
 module _ (w : World) (tells : Tells w) (c : ℕ) (x y : Session) (at : slice_get w.sessions c ≡ Some x) (step : Step) (answer : Answer) (t' : TableAt) (locks' : List (Option ℕ)) {claim : Claim} (called : CalledBy claim w c x step answer y t' locks') where
+  stays : option_to_list None ≡ entries_of step answer → Stays w c x y t' locks' (counts_after w.counts answer)
+  stays is = subst (Comes w c x y t' locks' (counts_after w.counts answer)) (sym is) called.comes
+
+  grows : (e : Entry) → option_to_list (Some e) ≡ entries_of step answer → Grows w c x y t' locks' (counts_after w.counts answer) e
+  grows e is = subst (Comes w c x y t' locks' (counts_after w.counts answer)) (sym is) called.comes
+
+  -- The added entry has a row in the caller's seat, and the claim reserves enough for it.
+  row_is : (e : Entry) (is : option_to_list (Some e) ≡ entries_of step answer) → row x.seat.seat x.seat.seat.phase e ≡ Some (grows e is).seat
+  row_is e is = row_there w tells c x y at t' locks' (counts_after w.counts answer) e (grows e is)
+
+  few : (e : Entry) → option_to_list (Some e) ≡ entries_of step answer → reserved_for e ≤ reserved_by claim step
+  few e is = (subst (AreWithin (reserved_by claim step)) (sym is) (goes_within claim _ _ step answer (called.move y.seat))).0
+
   same_seat : (o : Option Entry) → option_to_list o ≡ entries_of step answer → y.seat.seat ≡ x.seat.seat
-  same_seat None is = let comes : Stays w c x y t' locks' (counts_after w.counts answer) = subst (Comes w c x y t' locks' (counts_after w.counts answer)) (sym is) called.comes in ap (λ (s : Side). s.seat) comes.becomes
-  same_seat (Some e) is = let comes : Grows w c x y t' locks' (counts_after w.counts answer) e = subst (Comes w c x y t' locks' (counts_after w.counts answer)) (sym is) called.comes in ap (λ (s : Side). s.seat) comes.becomes
+  same_seat None is = ap (λ (s : Side). s.seat) (stays is).becomes
+  same_seat (Some e) is = ap (λ (s : Side). s.seat) (grows e is).becomes
+
+  same_owed : (o : Option Entry) → option_to_list o ≡ entries_of step answer → owed_in y.seat.seat.standing y.seat.seat.phase ≡ owed_of x
+  same_owed o is = ap (λ (s : Seat). owed_in s.standing s.phase) (same_seat o is)
 
   -- The entry is of one of the callers.
   pub called_caller : (o : Option Entry) → option_to_list o ≡ entries_of step answer → (e : Entry) → o ≡ Some e → caller_of e < w.limits.callers
-  called_caller o is e some =
-      let comes : Grows w c x y t' locks' (counts_after w.counts answer) e = subst (Comes w c x y t' locks' (counts_after w.counts answer)) (sym is ∙ ap option_to_list some) called.comes in
-      let mine = comes.mine in
-      let count = tells.count in
-      let below = slice_get_within w.sessions c x at in
-      omega arith
+  called_caller o is e some = omega (arith, (grows e (rw some at is)).mine, tells.count, slice_get_within w.sessions c x at)
 
   -- The entry that the step adds may be added.
   pub can_add : (o : Option Entry) → option_to_list o ≡ entries_of step answer → (len cap owed : ℕ) → owed ≡ sum_by owed_of w.sessions → len + (owed + reserved_by claim step) ≤ cap → cap < 2 ^ 63 → w.limits.callers ≤ 64 → CanAdd y.seat len cap owed o
-  can_add None is len cap owed owes room small few_callers =
-      let most : owed_of x ≤ sum_by owed_of w.sessions = one_of_sum owed_of w.sessions c x at in
-      let same : owed_in y.seat.seat.standing y.seat.seat.phase ≡ owed_of x = ap (λ (s : Seat). owed_in s.standing s.phase) (same_seat None is) in
-      omega arith
+  can_add None is len cap owed owes room small few_callers = omega (arith, one_of_sum owed_of w.sessions c x at, same_owed None is)
   can_add (Some e) is len cap owed owes room small few_callers =
-      let comes : Grows w c x y t' locks' (counts_after w.counts answer) e = subst (Comes w c x y t' locks' (counts_after w.counts answer)) (sym is) called.comes in
-      let goes : row x.seat.seat x.seat.seat.phase e ≡ Some comes.seat = row_there w tells c x y at t' locks' (counts_after w.counts answer) e comes in
-      let most : owed_of x ≤ sum_by owed_of w.sessions = one_of_sum owed_of w.sessions c x at in
-      let same : owed_in y.seat.seat.standing y.seat.seat.phase ≡ owed_of x = ap (λ (s : Seat). owed_in s.standing s.phase) (same_seat (Some e) is) in
-      let takes : owed_by (Some comes.seat) + 1 ≤ owed_by (Some x.seat.seat) + reserved_for e = owed_by-row x.seat.seat comes.seat e goes in
-      let few : reserved_for e ≤ reserved_by claim step =
-      (subst (AreWithin (reserved_by claim step)) (sym is) (goes_within claim _ _ step answer (called.move y.seat))).0 in
+      let comes = grows e is in
+      let most = one_of_sum owed_of w.sessions c x at in
+      let same = same_owed (Some e) is in
+      let takes = owed_by-row x.seat.seat comes.seat e (row_is e is) in
+      let enough = few e is in
       record {
         next = comes.seat;
-        row_is = ap (λ (s : Seat). row s s.phase e) (same_seat (Some e) is) ∙ goes;
-        standing = small_standing y.seat.seat.standing x.seat.seat.standing (owed_of x) (2 ^ 63) (ap (λ (s : Seat). s.standing) (same_seat (Some e) is)) (standing_owed x.seat.seat.phase x.seat.seat.standing x.seat.seat.kept (seat_leveled (own c w.history) x.seat.seat (tells.seated c x at).seat).within) (omega arith);
+        row_is = ap (λ (s : Seat). row s s.phase e) (same_seat (Some e) is) ∙ row_is e is;
+        standing = omega (arith, ap (λ (s : Seat). s.standing) (same_seat (Some e) is), standing_owed x.seat.seat.phase x.seat.seat.standing x.seat.seat.kept (seat_leveled (own c w.history) x.seat.seat (tells.seated c x at).seat).within);
         saved = comes.saved;
         small = grown_small w.words w.limits.stripes w.limits.callers w.history e tells.callers comes.next.legal (called_caller (Some e) is e refl) few_callers;
         room = omega arith;
@@ -253,43 +223,26 @@ module _ (w : World) (tells : Tells w) (c : ℕ) (x y : Session) (at : slice_get
   pub called_tells : (seat' : RoomySeat) (o : Option Entry) → option_to_list o ≡ entries_of step answer → Enters y.seat (option_to_list o) seat' → (h' : List Entry) → h' ≡ w.history ++ option_to_list o
       → Tells (world_after w c (seated_as y seat') h' (counts_after w.counts answer) t' locks' (placed_then w.placed step answer))
   called_tells seat' None is entered h' pushed =
-      let comes : Stays w c x y t' locks' (counts_after w.counts answer) = subst (Comes w c x y t' locks' (counts_after w.counts answer)) (sym is) called.comes in
-      subst (λ g. Tells (world_after w c (seated_as y seat') g (counts_after w.counts answer) t' locks' (placed_then w.placed step answer))) (sym (pushed ∙ append-nil w.history))
-      (subst (λ (s : RoomySeat). Tells (world_after w c (seated_as y s) w.history (counts_after w.counts answer) t' locks' (placed_then w.placed step answer))) (sym entered)
-      (stayed w tells c x y at t' locks' (counts_after w.counts answer) comes (placed_then w.placed step answer) (called.fresh y.seat)))
+      rw (pushed, append-nil w.history, entered) (stayed w tells c x y at t' locks' (counts_after w.counts answer) (stays is) (placed_then w.placed step answer) (called.fresh y.seat))
   called_tells seat' (Some e) is entered h' pushed =
-      let comes : Grows w c x y t' locks' (counts_after w.counts answer) e = subst (Comes w c x y t' locks' (counts_after w.counts answer)) (sym is) called.comes in
-      let goes : row x.seat.seat x.seat.seat.phase e ≡ Some comes.seat = row_there w tells c x y at t' locks' (counts_after w.counts answer) e comes in
-      let both : Some seat'.seat ≡ Some comes.seat = sym entered ∙ ap (λ (s : Seat). row s s.phase e) (same_seat (Some e) is) ∙ goes in
-      let same : seat'.seat ≡ comes.seat = cc (both) in
-      subst (λ g. Tells (world_after w c (seated_as y seat') g (counts_after w.counts answer) t' locks' (placed_then w.placed step answer))) (sym pushed)
-      (grown w tells c x y at t' locks' (counts_after w.counts answer) e comes seat' same (placed_then w.placed step answer) (called.fresh seat'))
+      let both : Some seat'.seat ≡ Some (grows e is).seat = sym entered ∙ ap (λ (s : Seat). row s s.phase e) (same_seat (Some e) is) ∙ row_is e is in
+      rw pushed (grown w tells c x y at t' locks' (counts_after w.counts answer) e (grows e is) seat' (cc both) (placed_then w.placed step answer) (called.fresh seat'))
 
   -- The entries that all callers owe after the step, and the room for them.
   pub called_owes : (seat' : RoomySeat) (o : Option Entry) → option_to_list o ≡ entries_of step answer → (owed owed' : ℕ) → owed ≡ sum_by owed_of w.sessions
       → owed' ≡ owed - owed_in y.seat.seat.standing y.seat.seat.phase + owed_in seat'.seat.standing seat'.seat.phase → owed' ≡ sum_by owed_of (slice_set w.sessions c (seated_as y seat'))
   called_owes seat' o is owed owed' owes after =
-      let sums : sum_by owed_of (slice_set w.sessions c (seated_as y seat')) + owed_of x ≡ sum_by owed_of w.sessions + owed_of (seated_as y seat') = sum_changed owed_of w.sessions c x (seated_as y seat') at in
-      let most : owed_of x ≤ sum_by owed_of w.sessions = one_of_sum owed_of w.sessions c x at in
-      let same : owed_in y.seat.seat.standing y.seat.seat.phase ≡ owed_of x = ap (λ (s : Seat). owed_in s.standing s.phase) (same_seat o is) in
-      omega arith
+      omega (arith, owes, after, sum_changed owed_of w.sessions c x (seated_as y seat') at, one_of_sum owed_of w.sessions c x at, same_owed o is)
 
   pub called_room : (seat' : RoomySeat) (o : Option Entry) → option_to_list o ≡ entries_of step answer → Enters y.seat (option_to_list o) seat' → (len cap : ℕ) → len + (sum_by owed_of w.sessions + reserved_by claim step) ≤ cap
       → len + length (option_to_list o) + sum_by owed_of (slice_set w.sessions c (seated_as y seat')) ≤ cap
   called_room seat' None is entered len cap room =
-      let sums : sum_by owed_of (slice_set w.sessions c (seated_as y seat')) + owed_of x ≡ sum_by owed_of w.sessions + owed_of (seated_as y seat') = sum_changed owed_of w.sessions c x (seated_as y seat') at in
-      let same : owed_of (seated_as y seat') ≡ owed_of x = ap (λ (s : RoomySeat). owed_in s.seat.standing s.seat.phase) entered ∙ ap (λ (s : Seat). owed_in s.standing s.phase) (same_seat None is) in
-      omega arith
+      let same : owed_of (seated_as y seat') ≡ owed_of x = ap (λ (s : RoomySeat). owed_in s.seat.standing s.seat.phase) entered ∙ same_owed None is in
+      omega (arith, room, same, sum_changed owed_of w.sessions c x (seated_as y seat') at)
   called_room seat' (Some e) is entered len cap room =
-      let sums : sum_by owed_of (slice_set w.sessions c (seated_as y seat')) + owed_of x ≡ sum_by owed_of w.sessions + owed_of (seated_as y seat') = sum_changed owed_of w.sessions c x (seated_as y seat') at in
-      let takes : owed_by (Some seat'.seat) + 1 ≤ owed_by (Some y.seat.seat) + reserved_for e = owed_by-row y.seat.seat seat'.seat e entered in
-      let same : owed_in y.seat.seat.standing y.seat.seat.phase ≡ owed_of x = ap (λ (s : Seat). owed_in s.standing s.phase) (same_seat (Some e) is) in
-      let few : reserved_for e ≤ reserved_by claim step =
-      (subst (AreWithin (reserved_by claim step)) (sym is) (goes_within claim _ _ step answer (called.move y.seat))).0 in
-      omega arith
+      omega (arith, room, sum_changed owed_of w.sessions c x (seated_as y seat') at, owed_by-row y.seat.seat seat'.seat e entered, same_owed (Some e) is, few e is)
 
   -- The move.
   pub called_move : (seat' : RoomySeat) (o : Option Entry) → option_to_list o ≡ entries_of step answer → (h' : List Entry) → h' ≡ w.history ++ option_to_list o
       → Goes claim (state_of w) step answer (state_of (world_after w c (seated_as y seat') h' (counts_after w.counts answer) t' locks' (placed_then w.placed step answer)))
-  called_move seat' o is h' pushed =
-      subst (λ g. Goes claim (state_of w) step answer (state_of (world_after w c (seated_as y seat') g (counts_after w.counts answer) t' locks' (placed_then w.placed step answer)))) (sym (pushed ∙ ap (λ es. w.history ++ es) is)) (called.move seat')
+  called_move seat' o is h' pushed = rw (pushed, is) (called.move seat')

@@ -1,26 +1,17 @@
 -- The steps that begin, divide and end transactions.
-use Rattle.std.proofs.Common.{◌≡◌, ℕ, ◌+◌, ◌≤◌, true, false, cond, List, [], ◌∷◌, ◌++◌, length, take, Option, Some, None, refl, sym, ap, subst, ◌∙◌, add-one, arith, slice_get, slice_set, slice_index, map, nat_eq, nat_lt, not, eq-eqb}
-use Rattle.std.proofs.lemmas.Bool.{leb-false, ltb-false}
-use Rattle.boost_core.proofs.Vocabulary.{option_eq, false≢true, and_from, serial, now, holder_of, log_of, Phase, Closed, Opened, Waiting, LeavingTo, LeavingToEnd, Seat, closed_seat, Next, kept_at, PendingAt, TableAt, map_of}
+use Rattle.std.proofs.Common.{◌≡◌, ℕ, ◌+◌, ◌≤◌, true, false, cond, List, [], ◌∷◌, ◌++◌, length, take, Option, Some, None, refl, sym, ap, ◌∙◌, add-one, arith, slice_get, slice_set, slice_index, map, nat_eq, nat_lt, not, eq-eqb, leb-false, ltb-false}
+use Rattle.boost_core.proofs.Vocabulary.{option_eq, false≢true, and_from, serial, now, holder_of, log_of, Phase, Closed, Opened, Waiting, LeavingTo, LeavingToEnd, Seat, closed_seat, Next, kept_at, TableAt, map_of, Releases, Session, seat_in, holder_by, refusal_of, is_closed, is_waiting, is_leaving, has_job, is_back_at, is_at_end, World, Tells, state_of, session_changes, side_of, changes_of, StaysIn, SavesIn, ReturnsIn, EndsIn, SettlesIn, WithdrawsIn}
+use Rattle.txn_trace.proofs.Settled.{settled}
+use Rattle.boost_core.proofs.Numbers.{no_more}
+use Rattle.boost_core.proofs.Moves.{runs_same, rests_runs, none_dropped}
+use Rattle.boost_core.proofs.Outcomes.{Called, entered}
+use Rattle.boost_core.proofs.Spares.{no_jobs}
+use Rattle.boost_core.proofs.Refused.{seat_here, seat_free, begin_closed, three_tests, back_open, commit_open, abort_runs}
+use Rattle.boost_core.proofs.Quiet.{idle_cursor, nothing_waits, quiet, level_in, released_holders, no_newest}
 use Rattle.txn_words.specs.declared.entry.Entry.TheVariants as entry
 use Rattle.txn_words.specs.declared.step.Step.TheVariants as steps
 use Rattle.txn_words.specs.declared.answer.Answer.TheVariants as answers
 use Rattle.txn_trace.proofs.Entries as laws
-use Rattle.txn_trace.proofs.Settled.{settled}
-use Rattle.key_locks.specs.Locks.{Releases}
-use Rattle.boost_core.specs.declared.session.Session.{Session}
-use Rattle.boost_core.specs.State.{seat_in, holder_by}
-use Rattle.boost_core.specs.Refusals.{refusal_of, is_closed, is_waiting, is_leaving, has_job}
-use Rattle.boost_core.specs.Answers.{is_back_at, is_at_end}
-use Rattle.boost_core.specs.Spares.{times_of, times_in, times_out, IsCovered}
-use Rattle.boost_core.specs.Core.{World, Tells, state_of, session_changes}
-use Rattle.boost_core.proofs.Numbers.{no_more}
-use Rattle.boost_core.proofs.Moves.{runs_same, rests_runs, none_dropped}
-use Rattle.boost_core.proofs.Outcomes.{Called, entered}
-use Rattle.boost_core.specs.Sessions.{side_of, spare_if, times_kept, changes_of, StaysIn, SavesIn, ReturnsIn, EndsIn, SettlesIn, WithdrawsIn}
-use Rattle.boost_core.proofs.Settling.{no_jobs}
-use Rattle.boost_core.proofs.Refused.{seat_here, seat_free, begin_closed, three_tests, back_open, commit_open, abort_runs}
-use Rattle.boost_core.proofs.Quiet.{idle_cursor, nothing_waits, quiet, level_in, released_holders, no_newest}
 
 module _ (w : World) (tells : Tells w) (c : ℕ) (x : Session) (at : slice_get w.sessions c ≡ Some x) where
   -- Begin.
@@ -99,11 +90,7 @@ module _ (w : World) (tells : Tells w) (c : ℕ) (x : Session) (at : slice_get w
         apart = λ d other k held. refl;
         placed = settles.rests.placed;
         spares = λ others covered place stamp.
-            let before : IsCovered (λ p s. others p s + times_in x.log.jobs p s) w.table = λ p s.
-            let same : times_of (spare_if x.pending) p s ≡ 0 = ap (λ (o : Option PendingAt). times_of (spare_if o) p s) nothing in
-            let exact : others p s + times_kept (side_of x) p s ≡ times_out w.table p s = covered p s in
-            drop_zero (others p s) (times_of (spare_if x.pending) p s) (times_in x.log.jobs p s) (times_out w.table p s) same exact in
-            sym (no_more (others place stamp)) ∙ settles.spares others before place stamp;
+            sym (no_more (others place stamp)) ∙ settles.spares others (λ p s. omega (arith, rw nothing at (covered p s))) place stamp;
         largest = settles.rests.nodes.buckets.largest;
         helpers = ap length settles.rests.nodes.buckets.helps;
         begins = no_more w.counts.began;
@@ -111,9 +98,6 @@ module _ (w : World) (tells : Tells w) (c : ℕ) (x : Session) (at : slice_get w
         long = releases.as_many;
         holders = released_holders w tells c x at locks' releases;
       })
-    where
-      drop_zero : (a z b n : ℕ) → z ≡ 0 → a + (z + b) ≡ n → a + b ≡ n
-      drop_zero a z b n is exact = omega arith
 
   -- Abort.
   pub withdrawn : refusal_of (state_of w) (steps.Abort c) ≡ None → (y : Session) (t' : TableAt) → WithdrawsIn x w.table y t' → Called w c x (steps.Abort c) answers.Leaving y t' w.locks
@@ -129,8 +113,7 @@ module _ (w : World) (tells : Tells w) (c : ℕ) (x : Session) (at : slice_get w
         holder = λ s. holder_of w.limits.stripes s w.history;
         side = record (side_of x) { pending = None };
         becomes = ap side_of leaves.becomes;
-        next = subst (λ l. Next (holder_by w.words) w.limits.stripes w.history (entry.Leave c None) (record { phase = LeavingToEnd; standing = x.seat.seat.standing; kept = x.seat.seat.kept }) l (serial w.history) (now w.history) (λ s. holder_of w.limits.stripes s w.history))
-            (tells.seated c x at).log (law x.seat.seat.phase refl parts.0 parts.1);
+        next = rw (tells.seated c x at).log at (law x.seat.seat.phase refl parts.0 parts.1);
         mine = refl;
         saved = λ is. absurd (false≢true is);
         kept = (tells.seated c x at).agrees.kept;
@@ -139,7 +122,7 @@ module _ (w : World) (tells : Tells w) (c : ℕ) (x : Session) (at : slice_get w
         content = ap map_of leaves.rests.nodes.regular ∙ tells.content;
         apart = λ d other k held. refl;
         placed = leaves.rests.placed;
-        spares = λ others covered. subst (λ (s : Session). IsCovered (λ place stamp. others place stamp + times_kept (side_of s) place stamp) t') leaves.becomes (leaves.spares others covered);
+        spares = λ others covered. rw leaves.becomes at (leaves.spares others covered);
         largest = leaves.rests.nodes.buckets.largest;
         helpers = ap length leaves.rests.nodes.buckets.helps;
         begins = no_more w.counts.began;
@@ -152,8 +135,7 @@ module _ (w : World) (tells : Tells w) (c : ℕ) (x : Session) (at : slice_get w
       law Closed is closed leaving = absurd (false≢true (sym closed))
       law Opened is closed leaving = laws.left_to_end w.limits.stripes w.history tells.legal c x.seat.seat (tells.seated c x at).seat is
       law (Waiting op) is closed leaving = laws.withdrawn w.limits.stripes w.history tells.legal c op x.seat.seat (tells.seated c x at).seat is
-      law (LeavingTo n) is closed leaving = absurd (false≢true (sym leaving))
-      law LeavingToEnd is closed leaving = absurd (false≢true (sym leaving))
+      law _ is closed leaving = absurd (false≢true (sym leaving))
 
   -- The end of the undoing: no change above the level is left.
   module _ (none : refusal_of (state_of w) (steps.Act c) ≡ None) (no_job : has_job x.seat.seat ≡ false) where
@@ -173,7 +155,7 @@ module _ (w : World) (tells : Tells w) (c : ℕ) (x : Session) (at : slice_get w
         let more : nat_lt (kept_at x.log.kept n) (length x.log.jobs) ≡ false = none_above (LeavingTo n) returns.phase in
         let agrees = (tells.seated c x at).agrees in
         let reached : slice_index x.seat.seat.kept n ≡ x.seat.seat.standing =
-        ap (λ ks. slice_index ks n) agrees.kept ∙ reach (kept_at x.log.kept n) (length x.log.jobs) (subst (λ ks. slice_index ks n ≤ length x.log.jobs) agrees.kept (subst (λ k. slice_index x.seat.seat.kept n ≤ k) agrees.standing level.1)) (ltb-false (kept_at x.log.kept n) (length x.log.jobs) more) ∙ sym agrees.standing in
+        ap (λ ks. slice_index ks n) agrees.kept ∙ omega (arith, rw (agrees.kept, agrees.standing) at level.1, ltb-false (kept_at x.log.kept n) (length x.log.jobs) more) ∙ sym agrees.standing in
         entered w c x y w.table w.locks (steps.Act c) (answers.Returned n) (entry.Returned c n)
         (map session_changes w.sessions) refl refl refl
         (none_dropped w.sessions c x at (idle_cursor w tells c x at (LeavingTo n) returns.phase (no_newest x.log n more)))
@@ -185,9 +167,6 @@ module _ (w : World) (tells : Tells w) (c : ℕ) (x : Session) (at : slice_get w
         (laws.returned w.limits.stripes w.history tells.legal c n x.seat.seat (tells.seated c x at).seat returns.phase reached) (tells.seated c x at).log
         refl (λ is. absurd (false≢true is)) (ap (λ ks. take (n + 1) ks) agrees.kept ∙ ap (λ k. take k (0 ∷ x.log.kept)) (add-one n)) refl (nothing_waits w tells c x at (LeavingTo n) returns.phase refl)
         (idle_cursor w tells c x at (LeavingTo n) returns.phase (no_newest x.log n more)) returns.becomes (no_more w.counts.began) (no_more w.counts.committed) refl tells.holders)
-      where
-        reach : (a b : ℕ) → a ≤ b → b ≤ a → a ≡ b
-        reach a b least most = omega arith
 
     -- At the end.
     pub ended : (y : Session) (locks' : List (Option ℕ)) → EndsIn c x w.locks y locks' → Called w c x (steps.Act c) answers.Aborted y w.table locks'

@@ -1,15 +1,7 @@
 -- Steps that leave the table unchanged.
 use Rattle.std.proofs.Common.{◌≡◌, ℕ, ◌+◌, ◌-◌, ◌<◌, Bool, true, false, cond, List, ◌∷◌, length, Option, Some, None, refl, sym, ap, subst, ◌∙◌, slice_get, nat_eq, nat_lt}
-use Rattle.boost_core.proofs.Vocabulary.{option_eq, false≢true, Entry, Map, caller_of, is_began, is_commit, now, holder_of, Phase, Closed, Opened, Waiting, LeavingTo, LeavingToEnd, Seat, own, IsLevelIn, seat_leveled, Next, MapJob, PendingAt}
-use Rattle.boost_core.specs.State.{holder_by}
-use Rattle.txn_words.specs.Seats.{is_waiting, is_saved}
-use Rattle.undo_log.specs.UndoLog.{Log, kept_at, newest_above}
-use Rattle.key_locks.specs.Locks.{Releases, without_caller, holder_of as held_by}
-use Rattle.boost_core.specs.declared.counts.Counts.{Counts}
-use Rattle.boost_core.specs.declared.session.Session.{Session}
-use Rattle.boost_core.specs.Core.{World, Tells}
+use Rattle.boost_core.proofs.Vocabulary.{option_eq, false≢true, Entry, Map, caller_of, is_began, is_commit, now, holder_of, Phase, Waiting, Seat, own, IsLevelIn, seat_leveled, Next, MapJob, PendingAt, holder_by, is_waiting, is_saved, Log, kept_at, newest_above, Releases, without_caller, held_by, Counts, Session, World, Tells, side_of, target_in, key_of_newest, IsSoughtAt, Waits, changes_of}
 use Rattle.boost_core.proofs.Grow.{Grows}
-use Rattle.boost_core.specs.Sessions.{side_of, target_in, key_of_newest, IsSoughtAt, Waits, changes_of}
 use Rattle.boost_core.proofs.Refused.{no_cursor}
 
 -- The stripes of a caller are free, as the history says after the transaction's end.
@@ -32,11 +24,8 @@ module _ (w : World) (tells : Tells w) (c : ℕ) (x : Session) (at : slice_get w
     where
       none_then : (q : Phase) → is_waiting q ≡ false → (o : Option PendingAt) → Waits q o x.log.room → o ≡ None
       none_then q rests None waits = refl
-      none_then Closed rests (Some pending) waits = absurd waits
-      none_then Opened rests (Some pending) waits = absurd waits
       none_then (Waiting op) rests (Some pending) waits = absurd (false≢true (sym rests))
-      none_then (LeavingTo n) rests (Some pending) waits = absurd waits
-      none_then LeavingToEnd rests (Some pending) waits = absurd waits
+      none_then _ rests (Some pending) waits = absurd waits
 
   rest_waits : (q : Phase) → is_waiting q ≡ false → (room : ℕ) → Waits q None room
   rest_waits (Waiting op) rests room = absurd (false≢true (sym rests))
@@ -58,11 +47,11 @@ module _ (w : World) (tells : Tells w) (c : ℕ) (x : Session) (at : slice_get w
     holder = holder;
     side = record (side_of x) { kept = kept };
     becomes = becomes ∙ (λ i. record (side_of x) { cursor = idle i; kept = kept });
-    next = subst (λ l. Next (holder_by w.words) w.limits.stripes w.history e seat l committed (now w.history) holder) log_is next;
+    next = rw log_is at next;
     mine = mine;
     saved = saved;
     kept = kept_is;
-    waits = subst (λ (o : Option PendingAt). Waits seat.phase o y.log.room) (sym nothing) (rest_waits seat.phase rests y.log.room);
+    waits = rw nothing (rest_waits seat.phase rests y.log.room);
     due = (tells.seated c x at).due;
     content = tells.content;
     apart = λ d other k held. refl;

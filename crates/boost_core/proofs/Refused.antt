@@ -1,14 +1,6 @@
 -- The refusals of a caller's step, from its side and from the machine's state.
-use Rattle.std.proofs.Common.{◌≡◌, ℕ, ◌<◌, Bool, true, false, cond, List, [], ◌∷◌, ◌++◌, length, get_or, Option, Some, None, is_some, refl, sym, ap, ◌∙◌, arith, nat_le, not, map, slice_get, unwrap_or}
-use Rattle.std.proofs.lemmas.Bool.{leb-false, lt-leb, not-false}
-use Rattle.boost_core.proofs.Vocabulary.{option_map, false≢true, slice_get-map, slice_get-get_or, Refusal, Step, Phase, Closed, Opened, Waiting, Seat, closed_seat, TableAt, Cursor, cursor_changes}
-use Rattle.txn_words.specs.declared.refusal.Refusal.TheVariants.{NoSuchCaller, Unplaced}
-use Rattle.txn_words.specs.declared.step.Step.TheVariants.{Begin, Act, Back, Commit, Abort}
-use Rattle.boost_core.specs.declared.session.Session.{Session}
-use Rattle.boost_core.specs.State.{State, Owner, Caller, seat_in, caller_changes}
-use Rattle.boost_core.specs.Refusals.{owner_of, is_closed, is_waiting, is_leaving, tests_in, tests_of, first_of, refusal_in, refusal_of, lacks_in, lacks_cursor}
-use Rattle.boost_core.specs.Sessions.{IsSoughtAt}
-use Rattle.boost_core.specs.Core.{World, Tells, state_of, session_changes}
+use Rattle.std.proofs.Common.{◌≡◌, ℕ, ◌<◌, Bool, true, false, cond, List, [], ◌∷◌, ◌++◌, length, get_or, Option, Some, None, is_some, refl, sym, ap, ◌∙◌, arith, nat_le, not, map, slice_get, unwrap_or, leb-false, option_map, length-set, slice_set, get_or-set_same}
+use Rattle.boost_core.proofs.Vocabulary.{lt-leb, not-false, false≢true, slice_get-map, slice_get-get_or, Refusal, Step, Phase, Closed, Opened, Waiting, Seat, closed_seat, TableAt, Cursor, cursor_changes, NoSuchCaller, Unplaced, Begin, Act, Back, Commit, Abort, Session, State, Owner, Caller, seat_in, caller_changes, owner_of, is_closed, is_waiting, is_leaving, tests_in, tests_of, first_of, refusal_in, refusal_of, lacks_in, lacks_cursor, IsSoughtAt, World, Tells, state_of, session_changes}
 
 -- The first option, or the second if there is none.
 abbrev pub or_else : Option Refusal → Option Refusal → Option Refusal
@@ -99,6 +91,11 @@ pub no_cursor : (t : TableAt) (cursor : Option Cursor) → IsSoughtAt t cursor N
 no_cursor t None sought = refl
 no_cursor t (Some cursor) sought = absurd sought
 
+-- A cursor has a change number.
+pub noted_some : (o : Option Cursor) → is_some (option_map cursor_changes o) ≡ is_some o
+noted_some None = refl
+noted_some (Some cursor) = refl
+
 module _ (w : World) (tells : Tells w) (c : ℕ) (x : Session) (at : slice_get w.sessions c ≡ Some x) where
   -- A caller's seat and its cursor's change number are the machine's.
   pub seat_here : seat_in w.history c ≡ x.seat.seat
@@ -108,11 +105,7 @@ module _ (w : World) (tells : Tells w) (c : ℕ) (x : Session) (at : slice_get w
   changes_here = ap (λ o. unwrap_or o None) (slice_get-map session_changes w.sessions c ∙ ap (option_map session_changes) at)
 
   pub changes_is_some : is_some (caller_changes (map session_changes w.sessions) c) ≡ is_some x.cursor
-  changes_is_some = ap is_some changes_here ∙ both x.cursor
-    where
-      both : (o : Option Cursor) → is_some (option_map cursor_changes o) ≡ is_some o
-      both None = refl
-      both (Some cursor) = refl
+  changes_is_some = ap is_some changes_here ∙ noted_some x.cursor
 
   -- The refusal of a step, from the caller's side.
   pub refusal_here : (step : Step) → owner_of step ≡ Some (Caller c) → nat_le w.limits.callers c ≡ false
@@ -134,26 +127,36 @@ pub or_else_some : (one other : Option Refusal) → is_some one ≡ true → or_
 or_else_some None other some = absurd (false≢true some)
 or_else_some (Some refusal) other some = refl
 
-pub not_some : (one : Option Refusal) → is_some one ≡ false → one ≡ None
+pub not_some : {A : Type 0} (one : Option A) → is_some one ≡ false → one ≡ None
 not_some None none = refl
-not_some (Some refusal) none = absurd (false≢true (sym none))
+not_some (Some x) none = absurd (false≢true (sym none))
 
 -- An element at its position.
 pub index_at : {A : Type 0} (xs : List A) (i : ℕ) (x : A) → i < length xs → x ≡ get_or xs i x → slice_get xs i ≡ Some x
 index_at xs i x within is = slice_get-get_or xs i x within ∙ ap Some (sym is)
 
+pub set_here : {A : Type 0} (xs : List A) (i : ℕ) (x : A) → i < length xs → slice_get (slice_set xs i x) i ≡ Some x
+set_here xs i x within = index_at (slice_set xs i x) i x (omega (arith, length-set xs i x, within)) (sym (get_or-set_same xs i x x within))
+
 pub le_false : (a b : ℕ) → b < a → nat_le a b ≡ false
 le_false a b less = lt-leb a b less
 
 pub lacking : (one : Option Refusal) (b value : Bool) → one ≡ None → b ≡ value → or_else one (cond b (Some Unplaced) None) ≡ cond value (Some Unplaced) None
-lacking one b value none is = ap (λ o. or_else o (cond b (Some Unplaced) None)) none ∙ ap (λ v. cond v (Some Unplaced) None) is
+lacking one b value none is = rw (none, is) refl
 
--- The caller of a step that nothing refuses has a side.
-pub at_free : (w : World) → Tells w → (c : ℕ) (step : Step) → owner_of step ≡ Some (Caller c) → refusal_of (state_of w) step ≡ None → (x : Session) → x ≡ get_or w.sessions c x → slice_get w.sessions c ≡ Some x
-at_free w tells c step owner none x is =
-    let below : c < w.limits.callers = leb-false w.limits.callers c (free (state_of w) c step owner none).within in
-    let count : length w.sessions ≡ w.limits.callers = tells.count in
-    index_at w.sessions c x (omega arith) is
+-- A step that nothing refuses in an equal state: nothing refuses it here, and its caller has a side.
+pub free_at : (w : World) (old : State) → Tells w → state_of w ≡ old → (c : ℕ) (step : Step) → owner_of step ≡ Some (Caller c) → (r : Option Refusal) → r ≡ refusal_of old step → r ≡ None → (x : Session) → x ≡ get_or w.sessions c x
+    → (refusal_of (state_of w) step ≡ None) × (slice_get w.sessions c ≡ Some x)
+free_at w old tells view c step owner r says none x is =
+    let nothing = ap (λ (s : State). refusal_of s step) view ∙ sym says ∙ none in
+    (nothing, index_at w.sessions c x (omega (arith, tells.count, leb-false w.limits.callers c (free (state_of w) c step owner nothing).within)) is)
+
+-- The refusal of a step in an equal state, from its caller's side.
+pub refusal_at : (w : World) (old : State) → Tells w → state_of w ≡ old → (c : ℕ) (x : Session) → x ≡ get_or w.sessions c x → (step : Step) → owner_of step ≡ Some (Caller c) → c < w.limits.callers
+    → refusal_of old step ≡ or_else (refusal_in w.limits.half x.seat.seat step) (cond (lacks_in x.seat.seat (is_some x.cursor) step) (Some Unplaced) None)
+refusal_at w old tells view c x is step owner within =
+    ap (λ (s : State). refusal_of s step) (sym view)
+    ∙ refusal_here w tells c x (index_at w.sessions c x (omega (arith, tells.count, within)) is) step owner (le_false w.limits.callers c within)
 
 pub abort_runs : (half : Bool) (s : Seat) (c : ℕ) → refusal_in half s (Abort c) ≡ None → (is_closed s.phase ≡ false) × (is_leaving s.phase ≡ false)
 abort_runs half s c none =

@@ -1,14 +1,9 @@
 -- The steps that a caller may take if its side fits the table.
-use Rattle.std.proofs.Common.{◌≡◌, ℕ, ◌+◌, ◌-◌, ◌<◌, ◌&&◌, ◌||◌, Bool, true, false, cond, List, [], ◌∷◌, ◌++◌, length, Option, Some, None, is_some, refl, sym, ap, subst, ◌∙◌, arith, slice_get, map, reverse, nat_lt, not, ltb-true}
-use Rattle.std.proofs.lemmas.Bool.{not-false, ltb-false, or_right}
-use Rattle.boost_core.proofs.Vocabulary.{false≢true, slice_get-get_or, Phase, Waiting, LeavingTo, LeavingToEnd, MapJob, PendingAt, TableAt, Cursor, content, OwnsIf}
-use Rattle.std.proofs.lemmas.List.{reverse-append, length_push, get_or_push}
-use Rattle.txn_words.specs.Seats.{is_waiting, is_leaving, has_job, has_target}
+use Rattle.std.proofs.Common.{◌≡◌, ℕ, ◌+◌, ◌-◌, ◌<◌, ◌&&◌, ◌||◌, Bool, true, false, List, [], ◌∷◌, ◌++◌, length, Option, Some, None, is_some, refl, sym, ap, subst, ◌∙◌, arith, slice_get, map, reverse, nat_lt, not, ltb-true, ltb-false}
+use Rattle.boost_core.proofs.Vocabulary.{not-false, or_right, false≢true, slice_get-get_or, Phase, Waiting, LeavingTo, LeavingToEnd, MapJob, PendingAt, TableAt, Cursor, content, reverse-append, length_push, get_or_push, is_waiting, is_leaving, has_job, has_target, Log, kept_at, newest_above, Session, level_of, Waits, key_of_newest, target_in, target_of, change_of, changes_of, AreDue, IsPlacedFor, IsSoughtAt, GoesWith, CanAct, CanUndo, CanArrive}
 use Rattle.txn_trace.proofs.Seated.{the_some}
-use Rattle.undo_log.specs.UndoLog.{Log, kept_at, newest_above}
-use Rattle.boost_core.specs.declared.session.Session.{Session}
-use Rattle.boost_core.specs.Sessions.{level_of, Waits, key_of_newest, target_in, target_of, spare_if, change_of, changes_of, AreDue, IsPlacedFor, IsSoughtAt, GoesWith, CanAct, CanUndo, CanArrive}
-use Rattle.boost_core.proofs.Settling.{newest_owned}
+use Rattle.boost_core.proofs.Spares.{newest_owned}
+use Rattle.boost_core.proofs.Refused.{not_some}
 
 pub record Last (jobs : List MapJob) : Type 0 where
   pub front : List MapJob
@@ -28,6 +23,12 @@ at_last jobs front job is =
     ap (λ (js : List MapJob). slice_get js (length js - 1)) is
     ∙ slice_get-get_or (front ++ job ∷ []) (length (front ++ job ∷ []) - 1) job (omega arith)
     ∙ ap Some (get_or_push front job job (length (front ++ job ∷ []) - 1) (omega arith))
+
+-- If a change is above a level, the newest one is the last.
+pub newest_is : (log : Log MapJob) (n : ℕ) → nat_lt (kept_at log.kept n) (length log.jobs) ≡ true → (last : Last log.jobs) × (newest_above log n ≡ Some last.job)
+newest_is log n more =
+    let last = last_job log.jobs (omega (arith, ltb-true (kept_at log.kept n) (length log.jobs) more)) in
+    (last, rw more (at_last log.jobs last.front last.job last.is))
 
 pub changes_last : (jobs front : List MapJob) (job : MapJob) → jobs ≡ front ++ job ∷ [] → changes_of jobs ≡ change_of job ∷ changes_of front
 changes_last jobs front job is = ap changes_of is ∙ ap (map change_of) (reverse-append front (job ∷ []))
@@ -86,7 +87,7 @@ module _ (x : Session) (t : TableAt) (goes : GoesWith x t) where
     pub can_act : is_some x.pending ≡ true → CanAct x t
     can_act some =
         let pending = the_some x.pending some in
-        let waits : Waits x.seat.seat.phase (Some pending.0) x.log.room = subst (λ (o : Option PendingAt). Waits x.seat.seat.phase o x.log.room) pending.1 goes.agrees.waits in
+        let waits : Waits x.seat.seat.phase (Some pending.0) x.log.room = rw pending.1 at goes.agrees.waits in
         let phase = waiting_op x.seat.seat.phase pending.0 x.log.room waits in
         let cursor = cursor_there (ap (λ q. is_waiting q || has_job (record { phase = q; standing = x.seat.seat.standing; kept = x.seat.seat.kept })) phase) in
         record {
@@ -95,7 +96,7 @@ module _ (x : Session) (t : TableAt) (goes : GoesWith x t) where
           waits = pending.1;
           had = cursor.1;
           placed = subst (IsPlacedFor t cursor.0) (ap (λ q. target_in q x.log) phase) (subst (λ (o : Option Cursor). IsSoughtAt t o (target_of x)) cursor.1 goes.sought);
-          owned = subst (λ (o : Option PendingAt). OwnsIf t (spare_if o)) pending.1 goes.withdraws;
+          owned = rw pending.1 at goes.withdraws;
           room = waiting_room x.seat.seat.phase pending.0 x.log.room waits;
         }
 
@@ -103,17 +104,16 @@ module _ (x : Session) (t : TableAt) (goes : GoesWith x t) where
     pub can_undo : has_job x.seat.seat ≡ true → CanUndo x t
     can_undo has =
         let gone = going x.seat.seat.phase (length x.log.jobs) x.log.kept (ap has_job (sym seat_is) ∙ has) in
-        let more = ltb-true (kept_at x.log.kept (level_of x.seat.seat.phase)) (length x.log.jobs) gone.1 in
-        let last = last_job x.log.jobs (omega arith) in
-        let newest : newest_above x.log (level_of x.seat.seat.phase) ≡ Some last.job = ap (λ (b : Bool). cond b (slice_get x.log.jobs (length x.log.jobs - 1)) None) gone.1 ∙ at_last x.log.jobs last.front last.job last.is in
+        let newest = newest_is x.log (level_of x.seat.seat.phase) gone.1 in
+        let last = newest.0 in
         let cursor = cursor_there (or_right (is_waiting x.seat.seat.phase) (has_job x.seat.seat) has) in
         record {
           level = goes.agrees.level;
           job = last.job;
           cursor = cursor.0;
-          newest = newest;
+          newest = newest.1;
           had = cursor.1;
-          placed = subst (IsPlacedFor t cursor.0) (going_target x.seat.seat.phase x.log gone.0 ∙ ap key_of_newest newest) (subst (λ (o : Option Cursor). IsSoughtAt t o (target_of x)) cursor.1 goes.sought);
+          placed = subst (IsPlacedFor t cursor.0) (going_target x.seat.seat.phase x.log gone.0 ∙ ap key_of_newest newest.1) (subst (λ (o : Option Cursor). IsSoughtAt t o (target_of x)) cursor.1 goes.sought);
           due = (subst (λ (js : List MapJob). AreDue (content t) js) (ap reverse last.is ∙ reverse-append last.front (last.job ∷ [])) goes.due).0;
           owned = newest_owned t x.log.jobs last.front last.job last.is goes.settles.0 goes.settles.1;
         }
@@ -121,17 +121,13 @@ module _ (x : Session) (t : TableAt) (goes : GoesWith x t) where
   -- A caller that takes changes back and has none left may end the undoing.
   pub can_arrive : (is_leaving x.seat.seat.phase || is_waiting x.seat.seat.phase) ≡ true → is_some x.pending ≡ false → has_job x.seat.seat ≡ false → CanArrive x
   can_arrive free none no_job =
-      let rests = none_waits x.seat.seat.phase x.log.room (subst (λ (o : Option PendingAt). Waits x.seat.seat.phase o x.log.room) (no_pending x.pending none) goes.agrees.waits) in
+      let rests = none_waits x.seat.seat.phase x.log.room (subst (λ (o : Option PendingAt). Waits x.seat.seat.phase o x.log.room) (not_some x.pending none) goes.agrees.waits) in
       let leaves = or_left (is_leaving x.seat.seat.phase) (is_waiting x.seat.seat.phase) free rests in
       record {
         leaves = leaves;
         level = goes.agrees.level;
         none_above = ltb-false (kept_at x.log.kept (level_of x.seat.seat.phase)) (length x.log.jobs) (none_above_if x.seat.seat.phase (length x.log.jobs) x.log.kept leaves (ap has_job (sym seat_is) ∙ no_job));
       }
-    where
-      no_pending : (o : Option PendingAt) → is_some o ≡ false → o ≡ None
-      no_pending None is = refl
-      no_pending (Some pending) is = absurd (false≢true (sym is))
 
   -- The key of a seek: that of the waiting operation, or else of the newest change above the level.
   pub waiting_target : (pending : PendingAt) → x.pending ≡ Some pending → target_of x ≡ target_in (Waiting pending.op) x.log

@@ -1,26 +1,33 @@
 -- A core whose history is empty.
-use Rattle.std.proofs.Common.{◌≡◌, ℕ, ◌+◌, ◌<◌, ◌≤◌, ◌==◌, ◌∷◌, Bool, true, List, [], length, map, replicate, Option, Some, None, zero, suc, refl, sym, ap, subst, ◌∙◌, arith, slice_get, sum_by, eq-eqb, eqb-true, inl, inr}
-use Rattle.boost_core.proofs.Vocabulary.{All, option_map, and_parts, cases_Bool, cases_lt, slice_get_within, get_or_from_slice_get, caller_of}
-use Rattle.std.specs.Int.{is_power_of_two}
-use Rattle.std.proofs.lemmas.List.{length-replicate, get_or-replicate, get_or_past}
-use Rattle.std.proofs.lemmas.List.Elements.{All-nil}
-use Rattle.std.proofs.lemmas.List.Sums.{sum_by-cons}
-use Rattle.key_locks.specs.Locks.{holder_of as held_by}
-use Rattle.txn_words.specs.Sizes.{Sizes, are_limits}
-use Rattle.txn_words.specs.Owed.{owed_in}
+use Rattle.std.proofs.Common.{◌≡◌, ℕ, ◌+◌, ◌<◌, ◌≤◌, ◌==◌, ◌∷◌, Bool, true, List, [], length, map, replicate, Option, Some, None, zero, suc, refl, sym, ap, subst, ◌∙◌, arith, slice_get, sum_by, eq-eqb, eqb-true, inl, inr, All, option_map, ◌*◌, ◌/◌, ◌%◌, ◌^◌, pow-suc, count_ones}
+use Rattle.boost_core.proofs.Vocabulary.{and_parts, cases_Bool, cases_lt, slice_get_within, get_or_from_slice_get, caller_of, is_power_of_two, length-replicate, get_or-replicate, get_or_past, All-nil, sum_by-cons, held_by, Sizes, are_limits, owed_in, NodeAt, first, first_dummy, node_of, IsRising, IsSpread, IsSound, TableAt, IsNew, Nothing, cursor_changes, nodes_of, Session, start, Side, side_of, IsIdle, owed_of, times_kept, World, Tells, IsSeated, state_of, session_changes, node_at, gap_if, gap_by, all_times, cases_eq, zero_from_ones, ones_le_self}
 use Rattle.txn_trace.proofs.Judging.{legal_none}
-use Rattle.node_list.specs.Nodes.{NodeAt, first, first_dummy, node_of}
-use Rattle.node_list.specs.Order.{IsRising, IsSpread}
-use Rattle.node_list.specs.Sound.{IsSound, AllPlain}
-use Rattle.map_ops.specs.TableAt.{TableAt, Cursor, IsNew, Nothing, cursor_changes, nodes_of}
-use Rattle.boost_core.specs.declared.session.Session.{Session}
-use Rattle.boost_core.specs.State.{start}
-use Rattle.boost_core.specs.Sessions.{Side, side_of, IsIdle, IsSoughtAt, owed_of, target_of, times_kept}
-use Rattle.boost_core.specs.Core.{World, Tells, IsSeated, state_of, session_changes, node_at, gap_if, gap_by, all_times}
-use Rattle.boost_core.proofs.HelperGaps.{idle_cursors}
+use Rattle.boost_core.proofs.Gaps.{idle_cursors}
 use Rattle.boost_core.proofs.NodeLists.{node_here, node_later, none_of_none}
 use Rattle.boost_core.proofs.Spares.{none_covered}
-use Rattle.boost_core.proofs.Powers.{IsPower, power_from_test}
+use Rattle.std.specs.Int.Count.{ones_step}
+
+-- 2 to some number.
+abbrev pub IsPower : ℕ → Type 0
+IsPower n = (exponent : ℕ) × (n ≡ 2 ^ exponent)
+
+doubled : (n half exponent : ℕ) → n ≡ half * 2 → half ≡ 2 ^ exponent → IsPower n
+doubled n half exponent twice is = (suc exponent, twice ∙ ap (λ (k : ℕ). k * 2) is ∙ sym (pow-suc 2 exponent))
+
+-- A number with exactly one digit set is a power of two.
+power_below : (d n : ℕ) → n ≤ d → count_ones n ≡ 1 → IsPower n
+power_below zero n most one = absurd (omega (arith, ones_le_self n))
+power_below (suc d) n most one =
+    let step = ones_step n in
+    elim (cases_eq (n % 2) 1) [
+      | inl odd ↦ (0, omega (arith, zero_from_ones (n / 2) (omega arith)))
+      | inr other ↦
+          let half = power_below d (n / 2) (omega arith) (omega arith) in
+          doubled n (n / 2) half.0 (omega arith) half.1
+    ]
+
+pub power_from_test : (n : ℕ) → is_power_of_two n ≡ true → IsPower n
+power_from_test n is = power_below n n (omega arith) (eqb-true (count_ones n) 1 is)
 
 -- The number of buckets within the limits.
 pub buckets_power : (callers stripes buckets : ℕ) → are_limits callers stripes buckets ≡ true → IsPower buckets
@@ -49,7 +56,7 @@ none_fit t (suc n) = ap (λ rest. None ∷ rest) (none_fit t n)
 none_held : (stripes s : ℕ) → held_by (replicate stripes None) s ≡ None
 none_held stripes s = elim (cases_lt s stripes) [
   | inl within ↦ get_or-replicate stripes s None None within
-  | inr past ↦ get_or_past (replicate stripes None) s None (let long = length-replicate {A = Option ℕ} stripes None in omega arith)
+  | inr past ↦ get_or_past (replicate stripes None) s None (omega (arith, length-replicate {A = Option ℕ} stripes None))
 ]
 
 -- A list of one node.
@@ -59,24 +66,9 @@ only_node m place n is = elim (cases_Bool (m.place == place)) [
   | inr apart ↦ absurd (none_of_none place n (node_later m [] place (Some n) is apart))
 ]
 
-found_only : (m : NodeAt) → node_of (m ∷ []) m.place ≡ Some m
-unfolding node_of
-found_only m = rw (eq-eqb m.place m.place refl) refl
-
-rising_one : (m : NodeAt) → IsRising (m ∷ [])
-unfolding IsRising
-rising_one m = (tt, tt)
-
-spread_one : (m : NodeAt) → IsSpread (m ∷ [])
-unfolding IsSpread
-spread_one m = (tt, tt)
-
 module _ (limits : Sizes) (t : TableAt) (new : IsNew t limits.buckets limits.callers) (sessions : List Session) (count : length sessions ≡ limits.callers) (idle : All IsIdle sessions) (words : Bool) where
   is_idle : (s : Session) (c : ℕ) → slice_get sessions c ≡ Some s → IsIdle s
-  is_idle s c at = subst IsIdle (get_or_from_slice_get sessions c s s at) (idle c s (slice_get_within sessions c s at))
-
-  no_times : (s : Session) → IsIdle s → (place stamp : ℕ) → times_kept (side_of s) place stamp ≡ 0
-  no_times s is place stamp = ap (λ (side : Side). times_kept side place stamp) is
+  is_idle s c at = rw (get_or_from_slice_get sessions c s s at) at (idle c s (slice_get_within sessions c s at))
 
   abbrev pub first_world : List (Option ℕ) → World
   first_world locks = record { limits = limits; history = []; counts = record { began = 0; committed = 0 }; table = t; sessions = sessions; locks = locks; placed = None; words = words }
@@ -94,23 +86,24 @@ module _ (limits : Sizes) (t : TableAt) (new : IsNew t limits.buckets limits.cal
   one_node place n is = only_node (first_dummy t.list.head 0) place n (ap (λ ns. node_of ns place) (sym new.nodes_are) ∙ is)
 
   first_sound : IsSound t.list
+  unfolding node_of IsRising IsSpread
   first_sound = record {
     first = record {
       node = first_dummy t.list.head 0;
       first = ap first new.nodes_are;
-      is = ap (λ ns. node_of ns t.list.head) new.nodes_are ∙ found_only (first_dummy t.list.head 0);
+      is = rw (new.nodes_are, eq-eqb t.list.head t.list.head refl) refl;
       at = refl;
       kind = refl;
     };
-    rising = subst IsRising (sym new.nodes_are) (rising_one (first_dummy t.list.head 0));
-    spread = subst IsSpread (sym new.nodes_are) (spread_one (first_dummy t.list.head 0));
-    plain = subst AllPlain (sym new.nodes_are) (λ kind. refl, tt);
+    rising = rw new.nodes_are (tt, tt);
+    spread = rw new.nodes_are (tt, tt);
+    plain = rw new.nodes_are (λ kind. refl, tt);
     stamped = record {
       bound = λ place n is. let none : n.stamp ≡ 0 = ap (λ m. m.stamp) (one_node place n is).1 in omega arith;
       alone = λ p q n m at_p at_q same. sym (one_node p n at_p).0 ∙ (one_node q m at_q).0;
-      apart = λ place other n is out. absurd (let both : None ≡ Some n.stamp = sym (new.none_out other) ∙ out in cc (both));
-      out_bound = λ place stamp is. absurd (let both : None ≡ Some stamp = sym (new.none_out place) ∙ is in cc (both));
-      out_alone = λ p q stamp at_p at_q. absurd (let both : None ≡ Some stamp = sym (new.none_out p) ∙ at_p in cc (both));
+      apart = λ place other n is out. absurd (cc (new.none_out other, out));
+      out_bound = λ place stamp is. absurd (cc (new.none_out place, is));
+      out_alone = λ p q stamp at_p at_q. absurd (cc (new.none_out p, at_p));
     };
     last = let none = new.last_is in omega arith;
   }
@@ -124,8 +117,8 @@ module _ (limits : Sizes) (t : TableAt) (new : IsNew t limits.buckets limits.cal
     content = new.content_is;
     count = count;
     seated = λ c s at. idle_seated s c (is_idle s c at);
-    sought = λ c s at. subst (λ (cursor : Option Cursor). IsSoughtAt t cursor (target_of s)) (sym (ap (λ (side : Side). side.cursor) (is_idle s c at))) tt;
-    spares = none_covered t (all_times sessions) new.none_out (λ place stamp. sum_none (λ s. times_kept (side_of s) place stamp) sessions (λ s c at. no_times s (is_idle s c at) place stamp));
+    sought = λ c s at. rw (ap (λ (side : Side). side.cursor) (is_idle s c at)) tt;
+    spares = none_covered t (all_times sessions) new.none_out (λ place stamp. sum_none (λ s. times_kept (side_of s) place stamp) sessions (λ s c at. ap (λ (side : Side). times_kept side place stamp) (is_idle s c at)));
     fresh = tt;
     stripes = ap length none ∙ length-replicate limits.stripes None;
     holders = λ s below. ap (λ ls. held_by ls s) none ∙ none_held limits.stripes s;

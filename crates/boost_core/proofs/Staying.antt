@@ -1,17 +1,8 @@
 -- No step of a caller unlinks an unmarked node, nor touches the buckets and the helpers.
 use Rattle.std.proofs.Common.{◌≡◌, ℕ, Bool, true, false, List, Option, Some, None, refl, sym, ap, subst, ◌∙◌, nat_eq}
-use Rattle.boost_core.proofs.Vocabulary.{option_eq, regular_at, IsSpread, Op, Put, Take, Get, PutIf, Step, Answer, MapJob, Unput, Restore, Relink}
-use Rattle.node_list.specs.Nodes.{NodeAt, Listing}
-use Rattle.txn_words.specs.declared.step.Step.TheVariants as steps
-use Rattle.txn_words.specs.declared.answer.Answer.TheVariants as answers
-use Rattle.map_ops.specs.TableAt.{TableAt, SpareAt, KeepsNodes, nodes_of}
-use Rattle.map_ops.specs.Nodes.{LinksNode, MarksNode, WritesNode, WritesNothing, OpWrites, PutWrites, PutIfWrites, TakeWrites, JobWrites, node_for}
-use Rattle.boost_core.specs.declared.claim.Claim.{Claim}
-use Rattle.boost_core.specs.declared.claim.Claim.TheVariants.{Lock, Right}
-use Rattle.boost_core.specs.declared.session.Session.{Session}
-use Rattle.boost_core.specs.declared.counts.Counts.{Counts}
-use Rattle.boost_core.specs.Sessions.{Does, ActsIn, IsAsked, AsksBy}
+use Rattle.boost_core.proofs.Vocabulary.{option_eq, regular_at, IsSpread, Op, Put, Take, Get, PutIf, Step, Answer, MapJob, Unput, Restore, Relink, NodeAt, Listing, TableAt, SpareAt, KeepsNodes, nodes_of, LinksNode, MarksNode, WritesNode, WritesNothing, OpWrites, PutWrites, PutIfWrites, TakeWrites, JobWrites, node_for, Claim, Lock, Right, Session, Counts, Does, ActsIn, IsAsked, AsksBy, Abort, Act, Ask, Back, Begin, Commit, Save, Seek}
 use Rattle.boost_core.proofs.GapLists.{Stay, stay_same, stay_changed, stay_linked, stay_sought}
+use Rattle.txn_words.specs.declared.answer.Answer.TheVariants as answers
 
 pub linked : (l l' : Listing) (n : NodeAt) → IsSpread l'.nodes → LinksNode l l' n → Stay l.nodes l'.nodes
 linked l l' n spread is = subst (Stay l.nodes) (sym is.writes.nodes) (stay_linked l.nodes is.before n (subst IsSpread is.writes.nodes spread))
@@ -91,15 +82,15 @@ module _ (t t' : TableAt) (spread : IsSpread (nodes_of t')) where
     -- The parts that each step of a caller leaves unchanged.
     pub does_stay : (claim : Claim) (stripes : ℕ) (counts : Counts) (step : Step) (answer : Answer)
         → Does claim stripes counts step x t locks answer y t' locks' → Leaves t t'
-    does_stay claim stripes counts (steps.Begin d) (answers.Began n) is = same is.2
-    does_stay claim stripes counts (steps.Ask d op) answer is = asked_by claim d _ op answer is
-    does_stay claim stripes counts (steps.Seek d) answers.Placed is = record {
+    does_stay claim stripes counts (Begin d) (answers.Began n) is = same is.2
+    does_stay claim stripes counts (Ask d op) answer is = asked_by claim d _ op answer is
+    does_stay claim stripes counts (Seek d) answers.Placed is = record {
       nodes = subst (Stay (nodes_of t)) (sym is.0.near.nodes) (stay_sought (regular_at is.0.key) (nodes_of t) is.0.near.start);
       buckets = is.0.places.keeps.buckets.all;
     }
-    does_stay claim stripes counts (steps.Act d) answer is = acted d answer is
-    does_stay claim stripes counts (steps.Save d) answer is = same is.1
-    does_stay claim stripes counts (steps.Back d n) answers.Leaving is = same is.1
-    does_stay claim stripes counts (steps.Commit d) (answers.Committed p) is = rested is.1.rests.nodes
-    does_stay claim stripes counts (steps.Abort d) answers.Leaving is = rested is.0.rests.nodes
+    does_stay claim stripes counts (Act d) answer is = acted d answer is
+    does_stay claim stripes counts (Save d) answer is = same is.1
+    does_stay claim stripes counts (Back d n) answers.Leaving is = same is.1
+    does_stay claim stripes counts (Commit d) (answers.Committed p) is = rested is.1.rests.nodes
+    does_stay claim stripes counts (Abort d) answers.Leaving is = rested is.0.rests.nodes
     does_stay claim stripes counts _ _ is = absurd is

@@ -1,27 +1,13 @@
 -- The table after a call on its buckets, in the words of the state.
-use Rattle.std.proofs.Common.{◌≡◌, ◌≢◌, ℕ, ◌+◌, ◌<◌, Bool, true, List, Option, Some, None, Ok, is_some, refl, sym, ap, ◌∙◌, arith, map, length, length-set, slice_get, slice_set, slice_index_or}
-use Rattle.boost_core.proofs.Vocabulary.{option_map, slice_get-map, slice_get_within, slice_get-get_or}
-use Rattle.std.specs.List.{range_with_len}
-use Rattle.std.proofs.lemmas.List.{map-set, get_or-set_same, get_or-set_other}
-use Rattle.node_list.specs.Nodes.{Listing, out_at}
+use Rattle.std.proofs.Common.{◌≡◌, ◌≢◌, ℕ, ◌+◌, ◌<◌, Bool, true, List, Option, Some, None, Ok, is_some, refl, ap, ◌∙◌, map, length, length-set, slice_get, slice_set, slice_index_or, option_map, get_or-set_other}
+use Rattle.boost_core.proofs.Vocabulary.{slice_get-map, slice_get_within, range_with_len, map-set, Listing, out_at, found_fits, TableHelper, Idle, Seeking, Holding, Directory, limit_of, helper_of, with_helper, dummy_node, cursor_fits, Seeks, Holds, LinksDummy, Stores, Double, LinksNode, TableAt, Help, Nothing, Sought, Dummy, HasParents, KeepsList, KeepsSpares, cursor_in, helper_cursor, help_of, regular, size_of, largest_of, stored_of, linked_of, helps_of, table_changes, Doubles, helper_fits, seek_answer, size_after, doubled}
 use Rattle.list_steps.specs.Content.{pairs}
-use Rattle.list_steps.proofs.CursorLemmas.{found_fits}
-use Rattle.bucket_table.specs.declared.helper.Helper.{Helper as TableHelper}
-use Rattle.bucket_table.specs.declared.helper.Helper.TheVariants.{Idle, Seeking, Holding}
-use Rattle.bucket_table.specs.Directory.{Directory, limit_of, helper_of, with_helper}
-use Rattle.bucket_table.specs.Dummies.{dummy_node, has_dummy}
+use Rattle.bucket_table.specs.Dummies.{has_dummy}
 use Rattle.bucket_table.specs.Links.{LinksAt}
-use Rattle.bucket_table.specs.Helpers.{cursor_fits}
-use Rattle.bucket_table.specs.Changes.{Seeks, Holds, LinksDummy, Stores}
-use Rattle.map_ops.specs.Double.{Double}
+use Rattle.map_ops.proofs.BucketLemmas.{linked_with}
+use Rattle.boost_core.proofs.Refused.{set_here}
 use Rattle.map_ops.specs.Double.TheVariants as doubles
 use Rattle.map_ops.specs.InitSeek.TheVariants as seeks
-use Rattle.map_ops.specs.Nodes.{LinksNode}
-use Rattle.map_ops.specs.TableAt.{TableAt, Help, Nothing, Sought, Dummy, HasParents, KeepsList, KeepsSpares, cursor_in, helper_cursor, help_of, regular, size_of, largest_of, stored_of, linked_of, helps_of, table_changes}
-use Rattle.map_ops.specs.Buckets.{Doubles, helper_fits, seek_answer}
-use Rattle.map_ops.proofs.BucketLemmas.{linked_with}
-use Rattle.boost_core.specs.Answers.{size_after}
-use Rattle.boost_core.specs.Serves.{doubled}
 
 -- The buckets are as these arguments say, and the pairs and the spares are unchanged.
 pub record Becomes (old new : TableAt) (size : ℕ) (stored linked : List Bool) (helps : List Help) : Type 0 where
@@ -43,11 +29,7 @@ pub seeker_there : (t : TableAt) (h b : ℕ) → seek_answer (size_of t) (stored
 seeker_there t h b placed = at (helper_of t.buckets h) refl
   where
     at : (o : Option TableHelper) → helper_of t.buckets h ≡ o → h < length t.buckets.helpers
-    at None is =
-        let gone : slice_get (helps_of t) h ≡ None = slice_get-map help_of t.buckets.helpers h ∙ ap (option_map help_of) is in
-        let none : seek_answer (size_of t) (stored_of t) None b ≡ Ok seeks.Placed =
-        sym (ap (λ (o : Option Help). seek_answer (size_of t) (stored_of t) o b) gone) ∙ placed in
-        absurd (cc (none))
+    at None is = absurd (cc (rw (slice_get-map help_of t.buckets.helpers h, is) at placed))
     at (Some had) is = slice_get_within t.buckets.helpers h had is
 
 -- The node of a dummy that is linked.
@@ -58,11 +40,6 @@ links_node l l' pred bucket place is = record {
   linked = is.linked;
   writes = record { nodes = is.nodes; changes = is.changes };
 }
-
-set_at : (helpers : List TableHelper) (h : ℕ) (now : TableHelper) → h < length helpers → slice_get (slice_set helpers h now) h ≡ Some now
-set_at helpers h now within =
-    let longer : h < length (slice_set helpers h now) = omega (arith, length-set helpers h now, within) in
-    slice_get-get_or (slice_set helpers h now) h Idle longer ∙ ap Some (get_or-set_same helpers h now Idle within)
 
 module _ (t t' : TableAt) where
   -- The other helpers keep their cursors.
@@ -76,7 +53,7 @@ module _ (t t' : TableAt) where
   -- The helper has the cursor that a seek placed, which fits.
   pub seeker_is : (h b : ℕ) (is : Seeks t.buckets t'.buckets t.list t'.list h b) → h < length t.buckets.helpers
       → helper_of t'.buckets h ≡ Some (Seeking b is.cursor)
-  seeker_is h b is within = ap (λ d. helper_of d h) is.now ∙ set_at t.buckets.helpers h (Seeking b is.cursor) within
+  seeker_is h b is within = ap (λ d. helper_of d h) is.now ∙ set_here t.buckets.helpers h (Seeking b is.cursor) within
 
   pub seeker_fits : (h b : ℕ) → Seeks t.buckets t'.buckets t.list t'.list h b → h < length t.buckets.helpers → helper_fits t' h ≡ true
   seeker_fits h b is within = ap (cursor_fits t'.list) (seeker_is h b is within) ∙ found_fits t'.list is.cursor is.found

@@ -1,33 +1,17 @@
 -- The steps by which callers work on the map.
-use Rattle.std.proofs.Common.{◌≡◌, ℕ, ◌+◌, ◌-◌, ◌<◌, ◌≤◌, true, cond, List, [], ◌∷◌, ◌++◌, length, Option, Some, None, is_some, refl, sym, ap, subst, ◌∙◌, arith, slice_get, slice_set, map, reverse, slice_index, nat_lt, option_to_list, ne_eqb, ltb-true}
-use Rattle.boost_core.proofs.Vocabulary.{AllByRecursion, false≢true, reverse-append, stripe_of, holder_of, TableAt, content, table_changes, serial, now, log_of, Phase, Opened, Waiting, LeavingTo, LeavingToEnd, Next, kept_at, MapJob}
-use Rattle.txn_words.specs.Map.{get, key_of, reply_of, after, set_at, Map}
-use Rattle.txn_trace.specs.Legal.{runs, is_running}
-use Rattle.txn_words.specs.Shape.{changes, Seat}
-use Rattle.txn_words.proofs.Effects.{get-after_other}
-use Rattle.txn_words.proofs.Maps.{get-set_at}
-use Rattle.txn_trace.proofs.Held.{waiting_held, log_held, held_apart}
-use Rattle.map_ops.specs.Jobs.{takes_node, key_of_job, value_before, spare_of_job, job_of, PendingAt}
-use Rattle.txn_words.specs.declared.entry.Entry.TheVariants as entry
-use Rattle.txn_words.specs.declared.step.Step.TheVariants as steps
-use Rattle.txn_words.specs.declared.answer.Answer.TheVariants as answers
-use Rattle.txn_trace.proofs.Entries as laws
-use Rattle.boost_core.specs.declared.session.Session.{Session}
-use Rattle.boost_core.specs.State.{seat_in, holder_by}
-use Rattle.boost_core.specs.Refusals.{refusal_of, has_job}
-use Rattle.boost_core.specs.Spares.{times_of, times_in, times_out, IsCovered}
-use Rattle.boost_core.specs.Core.{World, Tells, state_of, session_changes}
+use Rattle.std.proofs.Common.{◌≡◌, ℕ, ◌+◌, ◌-◌, ◌<◌, ◌≤◌, true, cond, List, [], ◌∷◌, ◌++◌, length, Option, Some, None, is_some, refl, sym, ap, subst, ◌∙◌, arith, slice_get, slice_set, map, reverse, slice_index, nat_lt, option_to_list, ne_eqb, ltb-true, ◌^◌, false, inl, inr, option_map}
+use Rattle.boost_core.proofs.Vocabulary.{false≢true, reverse-append, stripe_of, holder_of, TableAt, content, table_changes, serial, now, log_of, Phase, Opened, Waiting, LeavingTo, LeavingToEnd, Next, kept_at, MapJob, key_of, reply_of, after, set_at, Map, runs, is_running, changes, Seat, get-after_other, get-set_at, waiting_held, log_held, held_apart, takes_node, key_of_job, value_before, spare_of_job, PendingAt, Session, seat_in, holder_by, refusal_of, has_job, times_of, times_in, IsCovered, World, Tells, state_of, session_changes, IsReply, side_of, level_of, KeepsPlaced, Waits, spare_if, times_kept, change_of, changes_of, AreDue, DoesIn, TakesBackIn, Act, cases_eq, and_from, slice_get_within, fits, Cursor, cursor_changes, map_of, IsPlaced, Owner, Caller, Helper, has_target, IsFresh, is_just_placed, may_be_stale, target_in, target_of, IsPlacedFor, IsSoughtAt, SeeksIn, Drops, Seek}
 use Rattle.boost_core.proofs.Numbers.{no_more}
-use Rattle.boost_core.proofs.Moves.{Runs, runs_of}
+use Rattle.boost_core.proofs.Moves.{runs_of, keeps_runs, runs_same, state_is, changes_set, stale_since, move_is}
 use Rattle.boost_core.proofs.Outcomes.{Called, entered}
-use Rattle.boost_core.specs.Answers.{IsReply}
-use Rattle.boost_core.specs.Sessions.{side_of, level_of, KeepsPlaced, Waits, spare_if, times_kept, change_of, changes_of, AreDue, DoesIn, TakesBackIn}
-use Rattle.boost_core.proofs.Settling.{times_pushed}
-use Rattle.boost_core.proofs.Spares.{spent}
+use Rattle.boost_core.proofs.Spares.{times_pushed, spent, done_covered, still_covered}
 use Rattle.boost_core.proofs.Due.{NotedIf, noted, changes_noted, due_noted}
 use Rattle.boost_core.proofs.Sides.{IsGoing, going, waiting_op, changes_last}
-use Rattle.boost_core.proofs.Refused.{seat_here}
-use Rattle.boost_core.proofs.SparesKept.{done_covered}
+use Rattle.boost_core.proofs.Refused.{seat_here, changes_here}
+use Rattle.boost_core.proofs.Grow.{world_after, seated_as, set_cases}
+use Rattle.txn_words.specs.declared.entry.Entry.TheVariants as entry
+use Rattle.txn_words.specs.declared.answer.Answer.TheVariants as answers
+use Rattle.txn_trace.proofs.Entries as laws
 
 going_waits : (q : Phase) (o : Option PendingAt) (room room' : ℕ) → IsGoing q → Waits q o room → Waits q o room'
 going_waits (LeavingTo n) None room room' goes waits = tt
@@ -50,19 +34,18 @@ module _ (w : World) (tells : Tells w) (c : ℕ) (x : Session) (at : slice_get w
   here = seat_here w tells c x at
 
   -- The operation that waits is done.
-  module _ (none : refusal_of (state_of w) (steps.Act c) ≡ None) (reply : Option ℕ) (y : Session) (t' : TableAt) (does : DoesIn x w.table reply y t') (keeps : KeepsPlaced w.table t') where
+  module _ (none : refusal_of (state_of w) (Act c) ≡ None) (reply : Option ℕ) (y : Session) (t' : TableAt) (does : DoesIn x w.table reply y t') (keeps : KeepsPlaced w.table t') where
     waits_was : Waits x.seat.seat.phase (Some does.pending) x.log.room
-    waits_was = subst (λ (o : Option PendingAt). Waits x.seat.seat.phase o x.log.room) does.had (tells.seated c x at).agrees.waits
+    waits_was = rw does.had at (tells.seated c x at).agrees.waits
 
     phase_was : x.seat.seat.phase ≡ Waiting does.pending.op
     phase_was = waiting_op x.seat.seat.phase does.pending x.log.room waits_was
 
     reply_is : reply ≡ reply_of (now w.history) does.pending.op
-    reply_is = does.does.reply_is ∙ ap (λ n. reply_of n does.pending.op) tells.content
+    reply_is = rw tells.content at does.does.reply_is
 
     noted_here : NotedIf (now w.history) does.pending.op does.pending.spare does.job
-    noted_here = subst (NotedIf (now w.history) does.pending.op does.pending.spare) (sym (does.does.job_is ∙ ap (λ n. job_of n does.pending.op does.pending.spare) tells.content))
-        (noted (now w.history) does.pending.op does.pending.spare (waiting_spare x.seat.seat.phase does.pending x.log.room waits_was))
+    noted_here = rw (does.does.job_is, tells.content) (noted (now w.history) does.pending.op does.pending.spare (waiting_spare x.seat.seat.phase does.pending x.log.room waits_was))
 
     abbrev did_seat : Seat
     did_seat = record { phase = Opened; standing = cond (changes does.pending.op reply) (x.seat.seat.standing + 1) x.seat.seat.standing; kept = x.seat.seat.kept }
@@ -72,19 +55,14 @@ module _ (w : World) (tells : Tells w) (c : ℕ) (x : Session) (at : slice_get w
 
     did_log : cond (changes does.pending.op reply) ((key_of does.pending.op, reply) ∷ log_of c w.history) (log_of c w.history) ≡ changes_of (x.log.jobs ++ option_to_list does.job)
     did_log =
-        ap (λ l. cond (changes does.pending.op reply) ((key_of does.pending.op, reply) ∷ l) l) (tells.seated c x at).log
-        ∙ ap (λ r. cond (changes does.pending.op r) ((key_of does.pending.op, r) ∷ changes_of x.log.jobs) (changes_of x.log.jobs)) reply_is
-        ∙ changes_noted (now w.history) does.pending.op does.pending.spare x.log.jobs does.job noted_here
+        rw ((tells.seated c x at).log, reply_is) (changes_noted (now w.history) does.pending.op does.pending.spare x.log.jobs does.job noted_here)
 
-    did_runs : table_changes w.table ≤ table_changes t' → Runs w.table t'
-    did_runs rises = runs_of w.table t' does.does.buckets does.does.linked rises does.does.last
-
-    pub did_called : table_changes w.table ≤ table_changes t' → Called w c x (steps.Act c) (answers.Done reply) y t' w.locks
+    pub did_called : table_changes w.table ≤ table_changes t' → Called w c x (Act c) (answers.Done reply) y t' w.locks
     did_called rises =
-        entered w c x y t' w.locks (steps.Act c) (answers.Done reply) (entry.Did c reply)
+        entered w c x y t' w.locks (Act c) (answers.Done reply) (entry.Did c reply)
         (slice_set (map session_changes w.sessions) c None) refl refl refl refl
         (none, subst (λ (q : Phase). IsReply q (now w.history) reply) (sym (ap (λ (s : Seat). s.phase) here ∙ phase_was)) reply_is)
-        (did_runs rises) (λ kept. absurd (false≢true kept))
+        (runs_of w.table t' does.does.buckets does.does.linked rises does.does.last) (λ kept. absurd (false≢true kept))
         (record {
           seat = did_seat;
           committed = serial w.history;
@@ -92,18 +70,18 @@ module _ (w : World) (tells : Tells w) (c : ℕ) (x : Session) (at : slice_get w
           holder = λ s. holder_of w.limits.stripes s w.history;
           side = record (side_of x) { pending = None; jobs = x.log.jobs ++ option_to_list does.job };
           becomes = does.becomes;
-          next = subst (λ l. Next (holder_by w.words) w.limits.stripes w.history (entry.Did c reply) did_seat l (serial w.history) (after (now w.history) does.pending.op) (λ s. holder_of w.limits.stripes s w.history)) did_log did_law;
+          next = rw did_log at did_law;
           mine = refl;
           saved = λ is. absurd (false≢true is);
           kept = (tells.seated c x at).agrees.kept;
           waits = tt;
           due = due_noted (now w.history) does.pending.op does.pending.spare x.log.jobs does.job noted_here (tells.seated c x at).due;
-          content = does.does.content_is ∙ ap (λ n. after n does.pending.op) tells.content;
+          content = rw tells.content at does.does.content_is;
           apart = λ d other k held. get-after_other (now w.history) does.pending.op k
               (held_apart w.limits.stripes w.history d c k (key_of does.pending.op) held (waiting_held w.limits.stripes w.history tells.legal c does.pending.op x.seat.seat (tells.seated c x at).seat phase_was) other);
           placed = keeps;
           spares = λ others covered. done_covered w.table t' does.pending.spare does.job x.log.jobs (content w.table) does.pending.op does.does.job_is does.does.spares others
-              (subst (λ (o : Option PendingAt). IsCovered (λ p s. others p s + (times_of (spare_if o) p s + times_in x.log.jobs p s)) w.table) does.had covered);
+              (rw does.had at covered);
           largest = does.does.buckets.largest;
           helpers = ap length does.does.buckets.helps;
           begins = no_more w.counts.began;
@@ -113,7 +91,7 @@ module _ (w : World) (tells : Tells w) (c : ℕ) (x : Session) (at : slice_get w
         })
 
   -- The newest change is taken back.
-  module _ (none : refusal_of (state_of w) (steps.Act c) ≡ None) (has : has_job x.seat.seat ≡ true) (y : Session) (t' : TableAt) (back : TakesBackIn x w.table y t') (keeps : KeepsPlaced w.table t') where
+  module _ (none : refusal_of (state_of w) (Act c) ≡ None) (has : has_job x.seat.seat ≡ true) (y : Session) (t' : TableAt) (back : TakesBackIn x w.table y t') (keeps : KeepsPlaced w.table t') where
     goes : IsGoing x.seat.seat.phase × (nat_lt (kept_at x.log.kept (level_of x.seat.seat.phase)) (length x.log.jobs) ≡ true)
     goes = going x.seat.seat.phase (length x.log.jobs) x.log.kept (ap has_job (λ i. record { phase = x.seat.seat.phase; standing = sym (tells.seated c x at).agrees.standing i; kept = sym (tells.seated c x at).agrees.kept i }) ∙ has)
 
@@ -127,10 +105,7 @@ module _ (w : World) (tells : Tells w) (c : ℕ) (x : Session) (at : slice_get w
     undone_seat = record { phase = x.seat.seat.phase; standing = x.seat.seat.standing - 1; kept = x.seat.seat.kept }
 
     some_standing : 0 < x.seat.seat.standing
-    some_standing =
-        let same = (tells.seated c x at).agrees.standing in
-        let more = ltb-true (kept_at x.log.kept (level_of x.seat.seat.phase)) (length x.log.jobs) goes.1 in
-        omega arith
+    some_standing = omega (arith, (tells.seated c x at).agrees.standing, ltb-true (kept_at x.log.kept (level_of x.seat.seat.phase)) (length x.log.jobs) goes.1)
 
     undone_law : (q : Phase) → x.seat.seat.phase ≡ q → IsGoing q × (nat_lt (kept_at x.log.kept (level_of q)) (length x.log.jobs) ≡ true)
         → Next (holder_by w.words) w.limits.stripes w.history (entry.Undone c) undone_seat (changes_of y.log.jobs) (serial w.history) undone_map (λ s. holder_of w.limits.stripes s w.history)
@@ -142,31 +117,21 @@ module _ (w : World) (tells : Tells w) (c : ℕ) (x : Session) (at : slice_get w
     undone_law _ is so = absurd so.0
 
     key_held : holder_of w.limits.stripes (stripe_of w.limits.stripes (key_of_job back.job)) w.history ≡ Some c
-    key_held = (subst (λ (log : List (ℕ × Option ℕ)). AllByRecursion (λ (change : ℕ × Option ℕ). holder_of w.limits.stripes (stripe_of w.limits.stripes change.0) w.history ≡ Some c) log) log_is
+    key_held = (rw log_is at
         (log_held w.limits.stripes w.history tells.legal c (ap is_running (tells.seated c x at).seat ∙ going_runs x.seat.seat.phase goes.0))).0
-
-    undone_runs : table_changes w.table ≤ table_changes t' → Runs w.table t'
-    undone_runs rises = runs_of w.table t' back.back.buckets back.back.linked rises back.back.last
 
     undone_covered : (others : ℕ → ℕ → ℕ) → IsCovered (λ place stamp. others place stamp + times_kept (side_of x) place stamp) w.table → IsCovered (λ place stamp. others place stamp + times_kept (record (side_of x) { jobs = y.log.jobs }) place stamp) t'
     undone_covered others covered place stamp =
-        let after : others place stamp + times_of (spare_if x.pending) place stamp + times_in y.log.jobs place stamp ≡ times_out t' place stamp =
-        spent w.table t' (spare_of_job back.job) (λ p s. others p s + times_of (spare_if x.pending) p s + times_in y.log.jobs p s) back.back.spares (λ p s.
-        let times : times_in x.log.jobs p s ≡ times_in y.log.jobs p s + times_of (spare_of_job back.job) p s = times_pushed x.log.jobs y.log.jobs back.job p s back.jobs in
-        let exact : others p s + (times_of (spare_if x.pending) p s + times_in x.log.jobs p s) ≡ times_out w.table p s = covered p s in
-        regroup (others p s) (times_of (spare_if x.pending) p s) (times_in x.log.jobs p s) (times_in y.log.jobs p s) (times_of (spare_of_job back.job) p s) (times_out w.table p s) times exact) place stamp in
-        regroup' (others place stamp) (times_of (spare_if x.pending) place stamp) (times_in y.log.jobs place stamp) (times_out t' place stamp) after
-      where
-        regroup : (a b j k s n : ℕ) → j ≡ k + s → a + (b + j) ≡ n → a + b + k + s ≡ n
-        regroup a b j k s n times exact = omega arith
+        omega (
+          arith,
+          spent w.table t' (spare_of_job back.job) (λ p s. others p s + times_of (spare_if x.pending) p s + times_in y.log.jobs p s) back.back.spares
+              (λ p s. omega (arith, times_pushed x.log.jobs y.log.jobs back.job p s back.jobs, covered p s)) place stamp,
+        )
 
-        regroup' : (a b k n : ℕ) → a + b + k ≡ n → a + (b + k) ≡ n
-        regroup' a b k n exact = omega arith
-
-    pub undone_called : table_changes w.table ≤ table_changes t' → Called w c x (steps.Act c) answers.Undone y t' w.locks
+    pub undone_called : table_changes w.table ≤ table_changes t' → Called w c x (Act c) answers.Undone y t' w.locks
     undone_called rises =
-        entered w c x y t' w.locks (steps.Act c) answers.Undone (entry.Undone c)
-        (slice_set (map session_changes w.sessions) c None) refl refl refl refl (none, ap has_job here ∙ has) (undone_runs rises)
+        entered w c x y t' w.locks (Act c) answers.Undone (entry.Undone c)
+        (slice_set (map session_changes w.sessions) c None) refl refl refl refl (none, ap has_job here ∙ has) (runs_of w.table t' back.back.buckets back.back.linked rises back.back.last)
         (λ kept. absurd (false≢true kept))
         (record {
           seat = undone_seat;
@@ -181,10 +146,9 @@ module _ (w : World) (tells : Tells w) (c : ℕ) (x : Session) (at : slice_get w
           kept = (tells.seated c x at).agrees.kept;
           waits = going_waits x.seat.seat.phase x.pending x.log.room y.log.room goes.0 (tells.seated c x at).agrees.waits;
           due = (subst (λ (js : List MapJob). AreDue (now w.history) js) (ap reverse back.jobs ∙ reverse-append y.log.jobs (back.job ∷ [])) (tells.seated c x at).due).1;
-          content = back.back.content_is ∙ ap (λ n. set_at n (key_of_job back.job) (value_before back.job)) tells.content;
+          content = rw tells.content at back.back.content_is;
           apart = λ d other k held.
-              let away = held_apart w.limits.stripes w.history d c k (key_of_job back.job) held key_held other in
-              get-set_at (now w.history) (key_of_job back.job) (value_before back.job) k ∙ ap (λ b. cond b (value_before back.job) (get (now w.history) k)) (ne_eqb k (key_of_job back.job) away);
+              rw (get-set_at (now w.history) (key_of_job back.job) (value_before back.job) k, ne_eqb k (key_of_job back.job) (held_apart w.limits.stripes w.history d c k (key_of_job back.job) held key_held other)) refl;
           placed = keeps;
           spares = undone_covered;
           largest = back.back.buckets.largest;
@@ -194,3 +158,83 @@ module _ (w : World) (tells : Tells w) (c : ℕ) (x : Session) (at : slice_get w
           long = refl;
           holders = tells.holders;
         })
+
+  -- The caller's seek of the key that it acts on next.
+  pub sought_called : refusal_of (state_of w) (Seek c) ≡ None → (y : Session) (t' : TableAt) → SeeksIn x w.table y t' → KeepsPlaced w.table t' → table_changes w.table ≤ table_changes t' → Called w c x (Seek c) answers.Placed y t' w.locks
+  sought_called none y t' seeks keeps rises =
+      let runs = keeps_runs w.table t' seeks.places.keeps rises in
+      record {
+        comes = record {
+          cursor = Some seeks.cursor;
+          becomes = ap side_of seeks.becomes;
+          waits = subst (λ (s : Session). Waits x.seat.seat.phase x.pending s.log.room) (sym seeks.becomes) (tells.seated c x at).agrees.waits;
+          content = ap map_of seeks.places.keeps.regular;
+          placed = keeps;
+          sought = subst (λ (s : Session). IsPlacedFor t' seeks.cursor (target_in x.seat.seat.phase s.log)) (sym seeks.becomes) (subst (IsPlacedFor t' seeks.cursor) (sym seeks.target) seeks.places.placed);
+          spares = λ others covered. still_covered w.table t' (λ p q. others p q + times_kept (side_of x) p q) seeks.places.spares covered;
+          largest = seeks.places.keeps.buckets.largest;
+          helpers = ap length seeks.places.keeps.buckets.helps;
+          same_locks = refl;
+          same_counts = refl;
+        };
+        move = λ seat'. move_is w (world_after w c (seated_as y seat') (w.history ++ []) w.counts t' w.locks (Some (Caller c))) (Seek c) answers.Placed (none, tt)
+            (state_is w (w.history ++ []) (w.history ++ []) w.counts t' (slice_set (map session_changes w.sessions) c (Some (table_changes t'))) (slice_set w.sessions c (seated_as y seat')) w.locks (Some (Caller c)) runs refl
+            (changes_set w.sessions c (seated_as y seat') (Some (table_changes t')) (ap session_changes seeks.becomes ∙ ap Some seeks.places.changes)))
+            runs (λ kept. absurd (false≢true kept));
+        fresh = λ seat' s cursor at_c had. elim (set_cases w.sessions c c (seated_as y seat') s (slice_get_within w.sessions c x at) at_c) [
+          | inl mine ↦
+              let both : Some seeks.cursor ≡ Some cursor = sym (ap (λ (q : Session). q.cursor) mine.1 ∙ ap (λ (q : Session). q.cursor) seeks.becomes) ∙ had in
+              let same : seeks.cursor ≡ cursor = cc both in rw same at seeks.places.fits
+          | inr other ↦ absurd (other.0 refl)
+        ];
+      }
+
+  -- The cursor did not fit, and is dropped.
+  module _ (none : refusal_of (state_of w) (Act c) ≡ None) (target : has_target x.seat.seat ≡ true) (y : Session) (drops : Drops x w.table y w.table) where
+    not_fresh : is_just_placed (Caller c) w.placed ≡ false
+    not_fresh = at_placed w.placed tells.fresh
+      where
+        at_placed : (o : Option Owner) → IsFresh w.table w.sessions o → is_just_placed (Caller c) o ≡ false
+        at_placed None fresh = refl
+        at_placed (Some (Helper d)) fresh = refl
+        at_placed (Some (Caller d)) fresh = elim (cases_eq c d) [
+          | inl same ↦ absurd (false≢true (sym drops.stale ∙ fresh x drops.cursor (ap (slice_get w.sessions) (sym same) ∙ at) drops.had))
+          | inr other ↦ ne_eqb c d other
+        ]
+
+    has_key : (target : Option ℕ) → IsPlacedFor w.table drops.cursor target → (key : ℕ) × IsPlaced w.table drops.cursor key
+    has_key None is = absurd is
+    has_key (Some key) is = (key, is)
+
+    stale : may_be_stale (state_of w) (Caller c) ≡ true
+    stale =
+        let placed_for = has_key (target_of x) (subst (λ (o : Option Cursor). IsSoughtAt w.table o (target_of x)) drops.had (tells.sought c x at)) in
+        stale_since (state_of w) (Caller c) (cursor_changes drops.cursor)
+        (changes_here w tells c x at ∙ ap (option_map cursor_changes) drops.had) not_fresh
+        (λ same below. false≢true (sym drops.stale ∙ placed_for.1.held (sym same) (subst (λ n. n < 2 ^ 64 - 1) same below)))
+
+    again : Called w c x (Act c) answers.Again y w.table w.locks
+    again = record {
+      comes = record {
+        cursor = None;
+        becomes = ap side_of drops.becomes;
+        waits = subst (λ (s : Session). Waits x.seat.seat.phase x.pending s.log.room) (sym drops.becomes) (tells.seated c x at).agrees.waits;
+        content = refl;
+        placed = record { placed = λ cursor key is. is; sound = λ sound. sound };
+        sought = tt;
+        spares = λ others covered. covered;
+        largest = refl;
+        helpers = refl;
+        same_locks = refl;
+        same_counts = refl;
+      };
+      move = λ seat'. move_is w (world_after w c (seated_as y seat') (w.history ++ []) w.counts w.table w.locks None) (Act c) answers.Again
+          (none, and_from (has_target (seat_in w.history c)) (may_be_stale (state_of w) (Caller c)) (ap has_target here ∙ target) stale)
+          (state_is w (w.history ++ []) (w.history ++ []) w.counts w.table (slice_set (map session_changes w.sessions) c None) (slice_set w.sessions c (seated_as y seat')) w.locks None (runs_same w.table) refl
+          (changes_set w.sessions c (seated_as y seat') None (ap session_changes drops.becomes)))
+          (runs_same w.table) (λ kept. refl);
+      fresh = λ seat'. tt;
+    }
+
+  pub again_called : refusal_of (state_of w) (Act c) ≡ None → has_target x.seat.seat ≡ true → (y : Session) (t' : TableAt) → Drops x w.table y t' → Called w c x (Act c) answers.Again y t' w.locks
+  again_called none target y t' drops = subst (λ u. Called w c x (Act c) answers.Again y u w.locks) (sym drops.table) (again none target y (subst (Drops x w.table y) drops.table drops))

@@ -1,6 +1,5 @@
-use Rattle.std.proofs.Common.{◌≡◌, ◌≤◌, vec_len, vec_capacity}
-use Rattle.std.specs.List.{All}
-use Rattle.boost_core.specs.Sessions.{IsIdle}
+use Rattle.std.proofs.Common.{◌≡◌, ◌≤◌, vec_len, vec_capacity, All}
+use Rattle.boost_core.proofs.Vocabulary.{IsIdle}
 use Rattle.boost_core.proofs.sessions.idle_sessions.Given as goal
 
 abbrev pub invariant-loop-caller : goal.invariant-loop-caller

@@ -1,7 +1,5 @@
 use Rattle.std.proofs.Common.{◌≡◌, ◌≤◌, List, Some, sym, ap, subst, ◌∙◌, arith, slice_get}
-use Rattle.boost_core.specs.declared.session.Session.{Session}
-use Rattle.boost_core.specs.State.{State, seat_in}
-use Rattle.boost_core.specs.Refusals.{has_job}
+use Rattle.boost_core.proofs.Vocabulary.{Session, State, seat_in, has_job}
 use Rattle.boost_core.proofs.Calls.{seat_past}
 use Rattle.boost_core.proofs.Refused.{index_at, seat_here}
 use Rattle.boost_core.proofs.machine.Core.has_job.Goals as goal

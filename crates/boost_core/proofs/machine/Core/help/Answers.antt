@@ -1,10 +1,7 @@
 use Rattle.std.proofs.Common.{◌≡◌, ◌<◌, suc, Some, None, refl, sym, ap, subst, ◌∙◌}
-use Rattle.txn_drive.specs.declared.call.Call.TheVariants as calls
-use Rattle.txn_drive.specs.declared.drive.Drive.{Drive}
-use Rattle.txn_drive.specs.Drives.{new_drive, sized_of, step_of, told_of, end_of}
-use Rattle.boost_core.specs.State.{State}
-use Rattle.boost_core.specs.Plain.{Drives, Helps, outcome_of}
+use Rattle.boost_core.proofs.Vocabulary.{Drive, new_drive, sized_of, step_of, told_of, end_of, State, Drives, Helps, outcome_of}
 use Rattle.boost_core.proofs.Driving.{Fits, left, fits_first, round, help_asks_nothing, limits_stay, within_there, most_there, ended}
+use Rattle.txn_drive.specs.declared.call.Call.TheVariants as calls
 use Rattle.boost_core.proofs.machine.Core.help.Goals as goal
 
 pub loop-step-init : goal.loop-step-init

@@ -1,9 +1,7 @@
 use Rattle.std.proofs.Common.{◌≡◌, ℕ}
-use Rattle.txn_drive.specs.declared.call.Call.TheVariants as calls
-use Rattle.boost_core.proofs.Vocabulary.{Drive, new_drive}
-use Rattle.boost_core.specs.State.{State}
-use Rattle.boost_core.specs.Plain.{Drives}
+use Rattle.boost_core.proofs.Vocabulary.{Drive, new_drive, State, Drives}
 use Rattle.boost_core.proofs.Driving.{Fits, left}
+use Rattle.txn_drive.specs.declared.call.Call.TheVariants as calls
 use Rattle.boost_core.proofs.machine.Core.help.Given as goal
 
 -- Some moves of the drive have been made, and its later ones follow these.

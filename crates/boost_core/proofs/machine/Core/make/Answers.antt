@@ -1,8 +1,7 @@
 use Rattle.std.proofs.Common.{false, replicate, ap, sym, subst, ◌∙◌, arith}
-use Rattle.boost_core.proofs.Beginners.{noted_none}
-use Rattle.boost_core.proofs.Powers.{IsPower}
-use Rattle.map_ops.specs.TableAt.{IsNew}
-use Rattle.boost_core.proofs.Starting.{buckets_power, start_tells, none_owed, start_is}
+use Rattle.boost_core.proofs.Vocabulary.{IsNew}
+use Rattle.boost_core.proofs.Numbers.{noted_none}
+use Rattle.boost_core.proofs.Starting.{IsPower, buckets_power, start_tells, none_owed, start_is}
 use Rattle.boost_core.proofs.machine.Core.make.Goals as goal
 
 pub with_capacity-requires-clause-power : goal.with_capacity-requires-clause-power

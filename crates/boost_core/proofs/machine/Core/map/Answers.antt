@@ -1,9 +1,6 @@
-use Rattle.std.proofs.Common.{◌≡◌, ℕ, ap, subst, ◌∙◌}
-use Rattle.std.specs.Result.{IfOk}
-use Rattle.std.specs.Ordering.{nat_cmp}
+use Rattle.std.proofs.Common.{◌≡◌, ℕ, ap, subst, ◌∙◌, IfOk, nat_cmp}
+use Rattle.boost_core.proofs.Vocabulary.{Map, get, now, State}
 use Rattle.std.specs.BTreeMap.{get as value_at}
-use Rattle.boost_core.proofs.Vocabulary.{Map, get, now}
-use Rattle.boost_core.specs.State.{State}
 use Rattle.boost_core.proofs.machine.Core.map.Goals as goal
 
 pub returns : goal.returns

@@ -1,6 +1,5 @@
 use Rattle.std.proofs.Common.{ap, ◌∙◌}
-use Rattle.txn_drive.specs.Drives.{sized_of}
-use Rattle.boost_core.specs.State.{State}
+use Rattle.boost_core.proofs.Vocabulary.{sized_of, State}
 use Rattle.boost_core.proofs.machine.Core.next_step.Goals as goal
 
 pub returns-in-Ended-clause-drive : goal.returns-in-Ended-clause-drive

@@ -1,7 +1,6 @@
 use Rattle.std.proofs.Common.{sym, ap, ◌∙◌}
-use Rattle.txn_words.specs.Owed.{owed}
-use Rattle.boost_core.specs.State.{State}
-use Rattle.boost_core.proofs.Owing.{owed_is}
+use Rattle.boost_core.proofs.Vocabulary.{owed, State}
+use Rattle.boost_core.proofs.Numbers.{owed_is}
 use Rattle.boost_core.proofs.machine.Core.owed.Goals as goal
 
 pub returns : goal.returns

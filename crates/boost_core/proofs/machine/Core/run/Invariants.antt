@@ -1,5 +1,5 @@
 use Rattle.std.proofs.Common.{◌≡◌, ◌≤◌, length, take, vec_len, vec_capacity}
-use Rattle.boost_core.specs.Machine.{Moves}
+use Rattle.boost_core.proofs.Vocabulary.{Moves}
 use Rattle.boost_core.proofs.machine.Core.run.Given as goal
 
 abbrev pub invariant-loop-step : goal.invariant-loop-step

@@ -1,14 +1,10 @@
 use Rattle.std.proofs.Common.{Option, refl, sym, subst}
-use Rattle.boost_core.specs.State.{Owner}
-use Rattle.boost_core.specs.Machine.{Move}
-use Rattle.boost_core.specs.Core.{Tells, world_of, state_of}
+use Rattle.boost_core.proofs.Vocabulary.{Owner, Move, Tells, world_of, state_of}
 use Rattle.boost_core.proofs.Moves.{move_of}
 use Rattle.boost_core.proofs.Helping.{served}
 use Rattle.boost_core.proofs.Serving.{serves}
-use Rattle.boost_core.proofs.NodeSteps.{lists_of}
-use Rattle.boost_core.proofs.GapSteps.{cursors_of}
-use Rattle.boost_core.proofs.GapServes.{serves_cursors}
-use Rattle.boost_core.proofs.NodeServes.{serves as listed}
+use Rattle.boost_core.proofs.NodeSteps.{lists_of, serves as listed}
+use Rattle.boost_core.proofs.GapSteps.{cursors_of, serves_cursors}
 use Rattle.boost_core.proofs.machine.Core.serve.Goals as goal
 
 pub invariant_of-self : goal.invariant_of-self

@@ -1,10 +1,6 @@
 use Rattle.std.proofs.Common.{suc, [], ◌∷◌, refl, sym, ap, subst, ◌∙◌, nat_le}
-use Rattle.boost_core.proofs.Vocabulary.{Sizes, Answer}
-use Rattle.txn_words.specs.declared.answer.Answer.TheVariants.{Placed, Undone}
-use Rattle.txn_words.specs.declared.step.Step.TheVariants.{Seek, Act}
-use Rattle.boost_core.specs.Refusals.{is_leaving}
+use Rattle.boost_core.proofs.Vocabulary.{Sizes, Answer, Placed, Undone, Seek, Act, is_leaving, Event}
 use Rattle.boost_core.specs.Answers.{end_of}
-use Rattle.boost_core.specs.Machine.{Event}
 use Rattle.boost_core.proofs.Calls.{took_back, act_ends}
 use Rattle.boost_core.proofs.machine.Core.take_back.Goals as goal
 

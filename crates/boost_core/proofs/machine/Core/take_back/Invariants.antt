@@ -1,8 +1,5 @@
 use Rattle.std.proofs.Common.{◌≡◌, ℕ, List}
-use Rattle.boost_core.proofs.Vocabulary.{Step, Answer}
-use Rattle.boost_core.specs.State.{State, seat_in}
-use Rattle.boost_core.specs.Machine.{Moves}
-use Rattle.boost_core.specs.Plain.{undoing, undone}
+use Rattle.boost_core.proofs.Vocabulary.{Step, Answer, State, seat_in, Moves, undoing, undone}
 use Rattle.boost_core.proofs.machine.Core.take_back.Given as goal
 
 -- Some changes have been taken back, and the later steps follow these.

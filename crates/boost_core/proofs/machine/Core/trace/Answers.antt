@@ -1,7 +1,5 @@
-use Rattle.map_ops.specs.TableAt.{nodes_of}
 use Rattle.std.proofs.Common.{subst}
-use Rattle.boost_core.specs.State.{State}
-use Rattle.boost_core.specs.Nodes.{IsInOrder}
+use Rattle.boost_core.proofs.Vocabulary.{nodes_of, State, IsInOrder}
 use Rattle.boost_core.specs.Locks.{KeepsLocks}
 use Rattle.boost_core.proofs.NodeLists.{in_order}
 use Rattle.boost_core.proofs.machine.Core.trace.Goals as goal

@@ -1,8 +1,6 @@
-use Rattle.std.proofs.Common.{ap, List, [], ◌≡◌, ◌≤◌, ◌+◌, length, arith, ◌∙◌}
-use Rattle.map_ops.specs.declared.job.MapJob.{MapJob}
-use Rattle.boost_core.specs.Sessions.{Side, side_of}
-use Rattle.boost_core.specs.Spares.{times_in, times_out}
-use Rattle.boost_core.proofs.Settling.{rests_more, newest_owned, popped_covered, no_jobs, none_left, front_none}
+use Rattle.std.proofs.Common.{ap, [], arith, ◌≡◌, ◌≤◌, ◌+◌, length, ◌∙◌}
+use Rattle.boost_core.proofs.Vocabulary.{Side, side_of}
+use Rattle.boost_core.proofs.Spares.{rests_more, newest_owned, popped_covered, no_jobs, none_left, front_none}
 use Rattle.boost_core.proofs.session.Session.settle.Goals as goal
 
 pub discard-requires : goal.discard-requires
@@ -21,10 +19,7 @@ returns c =
     let none : length c.loop-job.self.log.jobs ≤ 0 = none_left c.pop_above.result (length c.loop-job.self.log.jobs) c.in_default.is c.pop_above.ensures.some.1 in
     record {
       rests = c.loop-job.invariant.rests;
-      spares = λ others covered place stamp.
-          let none_kept : times_in c.loop-job.self.log.jobs place stamp ≡ 0 = ap (λ (jobs : List MapJob). times_in jobs place stamp) (no_jobs c.loop-job.self.log.jobs none) in
-          let exact : others place stamp + times_in c.loop-job.self.log.jobs place stamp ≡ times_out c.loop-job.table place stamp = c.loop-job.invariant.spares others covered place stamp in
-          omega arith;
+      spares = λ others covered place stamp. omega (arith, rw (no_jobs c.loop-job.self.log.jobs none) at (c.loop-job.invariant.spares others covered place stamp));
       becomes =
           let jobs = c.cut.ensures.jobs ∙ front_none c.loop-job.self.log.jobs c.pop_above.new.self.jobs _ c.pop_above.ensures.jobs none in
           (λ i. record (side_of c.loop-job.self) { jobs = jobs i; kept = c.cut.ensures.kept i }) ∙ ap (λ (side : Side). record side { jobs = []; kept = [] }) c.loop-job.invariant.side;

@@ -1,6 +1,5 @@
 use Rattle.std.proofs.Common.{◌≡◌, ℕ, ◌+◌, length}
-use Rattle.boost_core.specs.Spares.{times_in, IsCovered}
-use Rattle.boost_core.specs.Sessions.{side_of, Rests, CanSettle}
+use Rattle.boost_core.proofs.Vocabulary.{times_in, IsCovered, side_of, Rests, CanSettle}
 use Rattle.boost_core.proofs.session.Session.settle.Given as goal
 
 abbrev pub invariant-loop-job : goal.invariant-loop-job
