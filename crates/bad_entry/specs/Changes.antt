@@ -43,7 +43,7 @@ decided_by above (entries.Aborted c) = Some Undone
 decided_by above (entries.Undone c) = if above == 0 then Some Undone else None
 decided_by above _ = None
 
--- The fate that an entry of any caller gives a change; one of another caller gives none.
+-- The fate that an entry gives a change of caller c, if it gives one. Only an entry of c does.
 abbrev pub decided : ℕ → ℕ → Entry → Option Fate
 decided c above e = if caller_of e == c then decided_by above e else None
 

@@ -65,8 +65,8 @@ still_due stripes h d s room current legal is same = at s.seat.phase refl
         closed_due current (reverse s.jobs) (length-reverse s.jobs ∙ sym is.agrees.standing ∙ none)
     at q is_q = keyed (rw (is.seat, is_q) refl)
 
--- A step that adds an entry: the history after it, the caller's side, which has no cursor, before
--- its seat enters the entry, and the proof that no other caller is disturbed.
+-- A step that adds an entry. `side` is the caller's side after the step, and `y` that side before
+-- its seat enters the entry; it has no cursor. No other caller is disturbed (`apart`).
 pub record Grows (w : World) (c : ℕ) (x y : Session) (t' : TableAt) (locks' : List (Option ℕ)) (counts' : Counts) (e : Entry) : Type 0 where
   pub seat : Seat
   pub committed : Map

@@ -132,7 +132,7 @@ help_suits_double m n c key a whole small move =
     (help_suits_towards n c 0 (key % n.size) rest_small (IsAncestor-root (key % n.size) rest_small) rest (ap (λ xs. is_set xs 0) stored ∙ whole.first))
     (λ none. absurd (false≢true (sym none ∙ (λ i. lt-ltb 0 n.size some i && lt-ltb n.size (2 ^ 32) small i)))))
 
--- A way is still one if the size and the stored buckets are unchanged.
+-- If the size and the stored buckets are unchanged, a helper is still on its way.
 way_stays : (m n : State) (way : Way) → n.size ≡ m.size → n.stored ≡ m.stored → IsOnWay m way → IsOnWay n way
 way_stays m n way size stored on = record {
   ancestor = on.ancestor;

@@ -10,8 +10,8 @@ use Rattle.bucket_table.specs.declared.answer.InitRefusal.TheVariants as inits
 use Rattle.txn_words.specs.declared.step.Step.TheVariants as steps
 use Rattle.txn_words.specs.declared.answer.Answer.TheVariants as answers
 
--- InitLink. The refusal that a test gives, from the table's answer: the lack of memory or of stamps
--- follows all tests.
+-- InitLink. The refusal by a test, given the table's answer. Memory and stamps are not tested: a
+-- refusal for the lack of them is none.
 abbrev pub refusal_by_test : Result InitLink Refusal → Option Refusal
 refusal_by_test (Err NoMemory) = None
 refusal_by_test (Err StampsUsedUp) = None

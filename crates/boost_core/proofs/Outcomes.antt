@@ -151,7 +151,7 @@ busy_within : (n : ℕ) (step : Step) (x : ℕ) → AreWithin n (entries_of step
 busy_within n (steps.Ask c op) x = (omega arith, tt)
 busy_within n _ x = tt
 
--- So at most what the claim reserves is reserved for the entry of a step.
+-- So the claim reserves enough for the entry of a step.
 may_within : (claim : Claim) (step : Step) (answer : Answer) → may_come claim answer ≡ true
     → AreWithin (reserved_by claim step) (entries_of step answer)
 may_within Lock step answer may = reserved_enough step answer

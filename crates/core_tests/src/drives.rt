@@ -32,8 +32,8 @@ enum Turns {
     One(Step, Answer),
     /// A turn of this step at a size of the table that is not 4.
     At(u32, Step, Answer),
-    /// This number of times two turns: a turn of the first step, a seek that is placed, and a turn
-    /// of the second step, whose position no longer fits.
+    /// Two turns, this number of times. The first is a turn of the first step, a seek, which is
+    /// placed. The second is a turn of the second step, whose position no longer fits.
     Again(u32, Step, Step),
     /// This number of times, at this size of the table, a turn of two steps: the answer to the
     /// first step is `placed`, and the second step has this answer.

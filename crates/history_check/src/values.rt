@@ -15,7 +15,7 @@ const MAPS: u64 = 1021;
 /// The values of the keys.
 #[derive(Drop)]
 pub(crate) struct Values {
-    /// Of each remainder, the values of its keys.
+    /// For each remainder of keys divided by 1021, the values of the keys that have it.
     pub(crate) maps: Vec<BTreeMap<u64, u64>>,
     ghost all: { vec_len maps ≡ 1021 },
 }

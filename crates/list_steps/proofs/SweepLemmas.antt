@@ -113,9 +113,9 @@ early_low bucket at before = elim (lower_from at (dummy_at bucket) before) [
   | inr both ↦ absurd (omega (arith, both.1))
 ]
 
--- A dummy that is not behind that of a bucket precedes all marked nodes, if the split key of the
--- bucket's dummy is not above the answer of `NodeList::marks_begin`. So a sweep may start at the
--- nearest stored dummy of the answer's bucket.
+-- Let the split key of a bucket's dummy be at most the answer of `NodeList::marks_begin`. Then each
+-- linked dummy up to this one precedes all marked nodes. So a sweep may start at the nearest stored
+-- dummy of the answer's bucket.
 pub before_marks : (l : Listing) (place bucket split : ℕ) (node : NodeAt) → IsSound l → node_of l.nodes place ≡ Some node → node.kind ≡ Dummy → IsNotBefore (dummy_at bucket) node.at → reversed bucket ≤ split → AreMarksFrom split l.nodes → IsBeforeMarks l.nodes place
 before_marks l place bucket split node sound is dummy not_behind order from =
     let at = found_at l.nodes place node is in

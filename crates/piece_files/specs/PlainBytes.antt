@@ -19,7 +19,8 @@ pub record Passed (bytes rest : List ℕ) : Type 0 where
   pub same : lex between bytes ≡ lex between rest
   pub ended : ends_word rest ≡ true → ends_word bytes ≡ true
 
--- The bytes may follow a value: they do not continue its word, and make no key of it.
+-- The bytes may follow a value: they do not continue its word, and no colon in front of them makes
+-- the value a key.
 pub record EndsValue (bytes : List ℕ) : Type 0 where
   pub ended : ends_word bytes ≡ true
   pub no_colon : begins_colon (lex between bytes) ≡ false

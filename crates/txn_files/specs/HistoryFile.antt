@@ -62,8 +62,8 @@ abbrev pub holder_in : ℕ → Holder
 holder_in version = if nat_le version 2 then Now else Begun
 
 -- The entry that is kept for an entry while a file is read. An entry that is small enough to be
--- packed is kept itself. Any other entry is out of range, and another entry is kept in its place:
--- this is out of range too, and version 1 has it exactly if version 1 has the entry that was read.
+-- packed is kept itself. Any other entry is out of range, and a substitute is kept in its place.
+-- The substitute is out of range too, and is allowed in version 1 exactly if the replaced entry is.
 abbrev pub kept : Entry → Entry
 kept e =
     if is_small e then e

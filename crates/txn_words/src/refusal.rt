@@ -53,8 +53,8 @@ pub enum Refusal {
     CallersMissing,
     /// 18: a worker could not be started.
     NoThread,
-    /// 19: by the core's record another caller holds the stripe whose right is shown, or the word
-    /// names the caller itself or one that has never begun a transaction.
+    /// 19: a right is shown, and by the core's record another caller holds its stripe; or a word is
+    /// shown, and it names the caller itself or a caller that has never begun a transaction.
     StaleWord,
     /// 20: a file is not JSON.
     NotJson,

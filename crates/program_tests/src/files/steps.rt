@@ -74,7 +74,8 @@ const VALUES: &[&str] = &[
 struct Read {
     frame: &'static str,
     pieces: &'static [&'static str],
-    /// The numbers of callers, of stripes and of buckets, and whether only half keys are taken.
+    /// The numbers of callers, of stripes and of buckets, and whether only half keys, those below
+    /// 2^63, are taken.
     sizes: (u32, u32, u32, bool),
     steps: &'static [Step],
 }

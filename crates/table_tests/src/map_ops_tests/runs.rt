@@ -422,8 +422,8 @@ const STEPS: [(Step, Answer); 118] = [
     (Step::Sweep, Answer::Swept(SweepOutcome::Clean)),
     (Step::Read, Answer::Figures(2, 0, 3)),
     (Step::Pair(0), Answer::End),
-    // The nodes are in the order 2, 1, 3. Those of keys 2 and 3 get marked, and no seek passes one
-    // of the two, since key 1 is between them.
+    // The nodes are in the order 2, 1, 3. Keys 3 and 2 are put and taken back, which marks their
+    // nodes. The seek for key 2 stops before the node of key 1, so the node of key 3 stays linked.
     (Step::Begin, Answer::Done),
     (Step::Do(Op::Put(1, 10)), Answer::Reply(None)),
     (Step::Return(Op::Put(3, 30)), Answer::Reply(None)),
