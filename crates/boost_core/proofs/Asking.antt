@@ -1,14 +1,13 @@
 -- An operation that is asked for.
 -- When stripes are words, a right may be stale, and a word may name a caller or none.
 use Rattle.std.proofs.Common.{◌≡◌, ℕ, ◌+◌, ◌-◌, ◌^◌, ◌<◌, ◌==◌, ◌||◌, true, false, cond, List, [], ◌++◌, length, Option, Some, None, refl, sym, ap, subst, ◌∙◌, arith, slice_get, slice_set, map, nat_eq, not, eq-eqb, ne_eqb, append-nil, inl, inr, ◌⊎◌, option_map, Bool}
-use Rattle.boost_core.proofs.Vocabulary.{option_eq, slice_get_within, Op, Refusal, key_of, takes_node, PendingAt, Step, serial, now, Opened, Waiting, LeavingToEnd, RoomySeat, TableAt, cursor_changes, map_of, nodes_of, false≢true, cases_eq, and_from, or_right, Now, stripe_of, is_locked, holder_of, same_is, is_locked-asked, is_locked-busy, Prepares, IsRefused, entries_of, held_by, Session, Owner, Caller, Helper, holder_by, refusal_of, has_stamp_for, MayLack, times_of, times_in, IsCovered, World, Tells, IsFresh, state_of, session_changes, gap_if, may_stand, Move, Claim, Lock, Goes, Side, side_of, KeepsPlaced, times_kept, StaysIn, AsksIn, MeetsIn, NoMemory, StampsUsedUp, Ask, Save, log_of, last_of, or_left, StaleWord, Right, Held, Stale, is_taken, nodes_at, gap_by, helper_gaps_of}
+use Rattle.boost_core.proofs.Vocabulary.{option_eq, slice_get_within, Op, Refusal, key_of, takes_node, PendingAt, Step, serial, now, Opened, Waiting, LeavingToEnd, RoomySeat, TableAt, cursor_changes, map_of, nodes_of, false≢true, cases_eq, and_from, or_right, Now, stripe_of, is_locked, holder_of, same_is, is_locked-asked, is_locked-busy, Prepares, IsRefused, entries_of, held_by, Session, Owner, Caller, Helper, holder_by, refusal_of, has_stamp_for, MayLack, times_of, times_in, IsCovered, World, Tells, IsFresh, state_of, session_changes, gap_if, may_stand, Move, Claim, Lock, Goes, Side, side_of, KeepsPlaced, times_kept, StaysIn, AsksIn, MeetsIn, NoMemory, StampsUsedUp, Ask, Save, log_of, last_of, or_left, StaleWord, Right, Held, Stale, is_taken, nodes_at, gap_by, helper_gaps_of, KeepsNodes}
 use Rattle.boost_core.proofs.Numbers.{no_more}
-use Rattle.boost_core.proofs.Moves.{Runs, changes_same, gaps_same, lacks, none_dropped, runs_same, state_is}
+use Rattle.boost_core.proofs.Moves.{Runs, changes_same, gaps_same, lacks, none_dropped, runs_same, state_is, nodes_runs}
 use Rattle.boost_core.proofs.Grow.{Stays, world_after, seated_as, set_cases}
-use Rattle.boost_core.proofs.Outcomes.{Comes, Called, CalledBy, entered}
-use Rattle.boost_core.proofs.Spares.{spent, given_for, open_to}
+use Rattle.boost_core.proofs.Outcomes.{Comes, Called, CalledBy, entered, idle_cursor, nothing_waits, quiet}
+use Rattle.boost_core.proofs.Spares.{spent, given_for, open_to, nodes_then, buckets_same}
 use Rattle.boost_core.proofs.Refused.{seat_free, three_tests}
-use Rattle.boost_core.proofs.Quiet.{idle_cursor, nothing_waits, quiet}
 use Rattle.boost_core.proofs.Gaps.{same_fits, same_helper}
 use Rattle.txn_words.specs.declared.entry.Entry.TheVariants as entry
 use Rattle.txn_words.specs.declared.answer.Answer.TheVariants as answers
@@ -39,8 +38,7 @@ module _ (w : World) (tells : Tells w) (c : ℕ) (x : Session) (at : slice_get w
       placed = record { placed = λ cursor key is. is; sound = λ sound. sound };
       sought = rw (idle_cursor w tells c x at Opened opened refl) tt;
       spares = λ others covered. covered;
-      largest = refl;
-      helpers = refl;
+      buckets = buckets_same w.table;
       same_locks = refl;
       same_counts = refl;
     }
@@ -99,15 +97,8 @@ module _ (w : World) (tells : Tells w) (c : ℕ) (x : Session) (at : slice_get w
         (λ p s. omega (arith, rw nothing at (covered p s)))
 
     prepared_runs : (t' : TableAt) (pending : PendingAt) → Prepares w.table t' op pending → Runs w.table t'
-    prepared_runs t' pending prepares = record {
-      size = prepares.nodes.buckets.size;
-      stored = prepares.nodes.buckets.stored;
-      linked = prepares.nodes.linked;
-      helps = prepares.nodes.buckets.helps;
-      rises = omega (arith, prepares.nodes.changes);
-      last = (given_for w.table t' (takes_node op) pending.spare prepares.given).rises;
-      one_last = (given_for w.table t' (takes_node op) pending.spare prepares.given).most;
-    }
+    prepared_runs t' pending prepares =
+        let gives = given_for w.table t' (takes_node op) pending.spare prepares.given in nodes_runs w.table t' prepares.nodes gives.rises gives.most
 
     -- The stripe is free or the caller's, and the operation waits.
     module _ (y : Session) (t' : TableAt) (locks' : List (Option ℕ)) (asks : AsksIn c stripe op x w.table w.locks y t' locks') (keeps : KeepsPlaced w.table t') (within : stripe < w.limits.stripes) where
@@ -156,8 +147,7 @@ module _ (w : World) (tells : Tells w) (c : ℕ) (x : Session) (at : slice_get w
             apart = λ d other k held. refl;
             placed = keeps;
             spares = asked_covered;
-            largest = asks.prepares.nodes.buckets.largest;
-            helpers = ap length asks.prepares.nodes.buckets.helps;
+            buckets = asks.prepares.nodes.buckets;
             begins = no_more w.counts.began;
             commits = no_more w.counts.committed;
             long = asks.grants.as_many;
@@ -177,18 +167,13 @@ module _ (w : World) (tells : Tells w) (c : ℕ) (x : Session) (at : slice_get w
       pub busy_stamped : has_stamp_for (state_of w) op ≡ true
       busy_stamped = (given_for w.table meets.between (takes_node op) meets.pending.spare meets.prepares.given).stamped
 
+      busy_kept : KeepsNodes w.table t'
+      busy_kept = nodes_then w.table meets.between t' meets.prepares.nodes meets.back.nodes
+
       pub busy_runs : Runs w.table t'
       busy_runs =
           let was = prepared_runs meets.between meets.pending meets.prepares in
-          record {
-            size = meets.back.nodes.buckets.size ∙ was.size;
-            stored = meets.back.nodes.buckets.stored ∙ was.stored;
-            linked = meets.back.nodes.linked ∙ was.linked;
-            helps = meets.back.nodes.buckets.helps ∙ was.helps;
-            rises = omega (arith, meets.back.nodes.changes, was.rises);
-            last = omega (arith, meets.back.last, was.last);
-            one_last = omega (arith, meets.back.last, was.one_last);
-          }
+          nodes_runs w.table t' busy_kept (omega (arith, meets.back.last, was.last)) (omega (arith, meets.back.last, was.one_last))
 
       pub busy_covered : (others : ℕ → ℕ → ℕ) → IsCovered (λ place stamp. others place stamp + times_kept (side_of x) place stamp) w.table → IsCovered (λ place stamp. others place stamp + times_kept (side_of x) place stamp) t'
       busy_covered others covered place stamp =
@@ -199,7 +184,7 @@ module _ (w : World) (tells : Tells w) (c : ℕ) (x : Session) (at : slice_get w
           entered w c x y t' locks' (Ask c op) (answers.Busy holder) (entry.Busy c op holder)
           (map session_changes w.sessions) refl refl refl (none_dropped w.sessions c x at no_cursor_there)
           (none, and_from (w.words || has_stamp_for (state_of w) op) (may_stand (state_of w) (entry.Busy c op holder)) (or_right w.words (has_stamp_for (state_of w) op) busy_stamped) (stands words))
-          busy_runs (λ kept. meets.back.nodes.changes ∙ meets.prepares.nodes.changes)
+          busy_runs (λ kept. busy_kept.changes)
           (record {
             seat = record { phase = LeavingToEnd; standing = x.seat.seat.standing; kept = x.seat.seat.kept };
             committed = serial w.history;
@@ -213,12 +198,11 @@ module _ (w : World) (tells : Tells w) (c : ℕ) (x : Session) (at : slice_get w
             kept = (tells.seated c x at).agrees.kept;
             waits = rw nothing tt;
             due = (tells.seated c x at).due;
-            content = ap map_of (meets.back.nodes.regular ∙ meets.prepares.nodes.regular) ∙ tells.content;
+            content = ap map_of busy_kept.regular ∙ tells.content;
             apart = λ d other k held. refl;
             placed = keeps;
             spares = busy_covered;
-            largest = meets.back.nodes.buckets.largest ∙ meets.prepares.nodes.buckets.largest;
-            helpers = ap length (meets.back.nodes.buckets.helps ∙ meets.prepares.nodes.buckets.helps);
+            buckets = busy_kept.buckets;
             begins = no_more w.counts.began;
             commits = no_more w.counts.committed;
             long = ap length meets.refuses.same;
@@ -226,12 +210,6 @@ module _ (w : World) (tells : Tells w) (c : ℕ) (x : Session) (at : slice_get w
           })
 
       -- A right to a stripe that another caller holds is stale.
-      same_nodes : nodes_of t' ≡ nodes_of w.table
-      same_nodes = meets.back.nodes.all ∙ meets.prepares.nodes.all
-
-      same_buckets : t'.buckets ≡ w.table.buckets
-      same_buckets = meets.back.nodes.buckets.all ∙ meets.prepares.nodes.buckets.all
-
       taken : is_taken (state_of w) c op ≡ true
       taken =
           let holds = rw (tells.holders stripe within) at meets.refuses.held in
@@ -243,12 +221,11 @@ module _ (w : World) (tells : Tells w) (c : ℕ) (x : Session) (at : slice_get w
         cursor = x.cursor;
         becomes = meets.becomes;
         waits = rw (opened, nothing) tt;
-        content = ap map_of (meets.back.nodes.regular ∙ meets.prepares.nodes.regular);
+        content = ap map_of busy_kept.regular;
         placed = keeps;
         sought = rw no_cursor_there tt;
         spares = busy_covered;
-        largest = meets.back.nodes.buckets.largest ∙ meets.prepares.nodes.buckets.largest;
-        helpers = ap length (meets.back.nodes.buckets.helps ∙ meets.prepares.nodes.buckets.helps);
+        buckets = busy_kept.buckets;
         same_locks = meets.refuses.same;
         same_counts = refl;
       }
@@ -259,7 +236,7 @@ module _ (w : World) (tells : Tells w) (c : ℕ) (x : Session) (at : slice_get w
       stale_state seat' =
           state_is w (w.history ++ []) w.history w.counts t' (map session_changes w.sessions) (slice_set w.sessions c (seated_as y seat')) locks' w.placed busy_runs (append-nil w.history)
           (changes_same w.sessions c x (seated_as y seat') at (ap (λ (s : Side). option_map cursor_changes s.cursor) meets.becomes))
-          ∙ ap (λ (noted : ℕ). record (state_of w) { changes = noted; stamp = last_of t'; nodes = nodes_at t'; gaps = map (gap_by t') (slice_set w.sessions c (seated_as y seat')); helper_gaps = helper_gaps_of t' }) (meets.back.nodes.changes ∙ meets.prepares.nodes.changes)
+          ∙ ap (λ (noted : ℕ). record (state_of w) { changes = noted; stamp = last_of t'; nodes = nodes_at t'; gaps = map (gap_by t') (slice_set w.sessions c (seated_as y seat')); helper_gaps = helper_gaps_of t' }) busy_kept.changes
 
       pub stale_called : CalledBy Right w c x (Ask c op) (answers.Refused StaleWord) y t' locks'
       stale_called = record {
@@ -273,7 +250,7 @@ module _ (w : World) (tells : Tells w) (c : ℕ) (x : Session) (at : slice_get w
           one_stamp = busy_runs.one_last;
         });
         fresh = λ seat'. fresh_kept y
-            (ap (λ (s : Side). s.cursor) meets.becomes) t' same_nodes same_buckets seat' w.placed tells.fresh;
+            (ap (λ (s : Side). s.cursor) meets.becomes) t' busy_kept.all busy_kept.buckets.all seat' w.placed tells.fresh;
       }
 
     -- A word that names a caller that may hold the stripe: the caller leaves to the end.

@@ -21,14 +21,6 @@ use Rattle.boost_core.specs.Serves as said
 pub cursors_of : (state old new : State) (step : Step) (answer : Answer) → state ≡ old → Cursors state step answer new → Cursors old step answer new
 cursors_of state old new step answer is cursors = subst (λ s. Cursors s step answer new) is cursors
 
--- A refusal leaves the cursors unchanged.
-refused_fits : (old new : State) (step : Step) (c : ℕ) (refusal : Refusal) → owner_of step ≡ Some (Caller c) → Fits old step (answers.Refused refusal) new
-refused_fits old new (steps.InitLink h) c refusal owner = absurd (cc (owner))
-refused_fits old new _ c refusal owner = tt
-
-pub refused : (old new : State) (step : Step) (c : ℕ) (refusal : Refusal) → owner_of step ≡ Some (Caller c) → new ≡ old → Cursors old step (answers.Refused refusal) new
-refused old new step c refusal owner same = record { fits = refused_fits old new step c refusal owner; keeps = subst (KeepsGaps old step (answers.Refused refusal)) (sym same) (λ owner gap other is near. is) }
-
 -- The sides of the callers other than the one that changes.
 set_other : (sessions : List Session) (c d : ℕ) (z : Session) → d ≢ c → slice_get (slice_set sessions c z) d ≡ slice_get sessions d
 set_other sessions c d z other = elim (cases_lt d (length sessions)) [

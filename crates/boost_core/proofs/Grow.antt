@@ -1,6 +1,6 @@
 -- The invariants of a core that hold when one caller's side changes.
 use Rattle.std.proofs.Common.{◌≡◌, ◌≢◌, ℕ, ◌+◌, ◌-◌, ◌<◌, ◌≤◌, true, cond, List, [], ◌∷◌, ◌++◌, length, get_or, set, Option, Some, None, refl, sym, ap, subst, ◌∙◌, arith, slice_get, slice_set, sum_by, reverse, length-set, get_or-set_same, get_or-set_other, ◌⊎◌, inl, inr, option_and_then}
-use Rattle.boost_core.proofs.Vocabulary.{cases_eq, slice_get_within, get_or_from_slice_get, slice_get-get_or, Entry, Map, get, caller_of, is_began, is_commit, now, Phase, Closed, LeavingTo, Seat, RoomySeat, row, seat_after, own, log_of, stripe_of, holder_of, IsLevelIn, seat_leveled, MapJob, TableAt, Cursor, content, IsPlaced, largest_of, helps_of, length-map, length-reverse, sum_by-set, get_or-le-sum_by, All-push, is_saved, IsLegal, is_running, how_many-push, Next, seat-own, log_held, held_by, Counts, Session, Owner, holder_by, IsCovered, Side, side_of, level_of, target_in, target_of, KeepsPlaced, IsSought, IsSoughtAt, Waits, Agrees, change_of, times_kept, changes_of, AreDue, World, Tells, IsSeated, IsFresh, all_times}
+use Rattle.boost_core.proofs.Vocabulary.{cases_eq, slice_get_within, get_or_from_slice_get, slice_get-get_or, Entry, Map, get, caller_of, is_began, is_commit, now, Phase, Closed, LeavingTo, Seat, RoomySeat, row, seat_after, own, log_of, stripe_of, holder_of, IsLevelIn, seat_leveled, MapJob, TableAt, Cursor, content, IsPlaced, largest_of, helps_of, length-map, length-reverse, sum_by-set, get_or-le-sum_by, All-push, is_saved, IsLegal, is_running, how_many-push, Next, seat-own, log_held, held_by, Counts, Session, Owner, holder_by, IsCovered, Side, side_of, level_of, target_in, target_of, KeepsPlaced, IsSought, IsSoughtAt, Waits, Agrees, change_of, times_kept, changes_of, AreDue, World, Tells, IsSeated, IsFresh, all_times, KeepsBuckets}
 use Rattle.txn_words.specs.declared.holder.Holder.{Holder}
 use Rattle.txn_trace.proofs.Entries.{length-log_of}
 use Rattle.boost_core.proofs.Due.{all_of_changes, due_same}
@@ -8,12 +8,10 @@ use Rattle.boost_core.proofs.Due.{all_of_changes, due_same}
 -- The session at another number is unchanged, and at this number it is the new one.
 pub set_cases : (sessions : List Session) (c d : ℕ) (y s : Session) → c < length sessions → slice_get (slice_set sessions c y) d ≡ Some s → ((d ≡ c) × (s ≡ y)) ⊎ ((d ≢ c) × (slice_get sessions d ≡ Some s))
 set_cases sessions c d y s within at =
-    let long : length (set sessions c y) ≡ length sessions = length-set sessions c y in
-    let below : d < length (set sessions c y) = slice_get_within (set sessions c y) d s at in
     let here : get_or (set sessions c y) d y ≡ s = get_or_from_slice_get (set sessions c y) d s y at in
     elim (cases_eq d c) [
       | inl same ↦ inl (same, sym here ∙ ap (λ k. get_or (set sessions c y) k y) same ∙ get_or-set_same sessions c y y within)
-      | inr other ↦ inr (other, slice_get-get_or sessions d y (omega arith) ∙ ap Some (sym (get_or-set_other sessions c d y y other) ∙ here))
+      | inr other ↦ inr (other, slice_get-get_or sessions d y (omega (arith, length-set sessions c y, slice_get_within (set sessions c y) d s at)) ∙ ap Some (sym (get_or-set_other sessions c d y y other) ∙ here))
     ]
 
 -- A sum over all sessions in which one changes.
@@ -84,8 +82,7 @@ pub record Grows (w : World) (c : ℕ) (x y : Session) (t' : TableAt) (locks' : 
   pub apart : (d : ℕ) → d ≢ c → (k : ℕ) → holder_of w.limits.stripes (stripe_of w.limits.stripes k) w.history ≡ Some d → get current k ≡ get (now w.history) k
   pub placed : KeepsPlaced w.table t'
   pub spares : (others : ℕ → ℕ → ℕ) → IsCovered (λ place stamp. others place stamp + times_kept (side_of x) place stamp) w.table → IsCovered (λ place stamp. others place stamp + times_kept side place stamp) t'
-  pub largest : largest_of t' ≡ largest_of w.table
-  pub helpers : length (helps_of t') ≡ length (helps_of w.table)
+  pub buckets : KeepsBuckets w.table t'
   pub begins : counts'.began ≡ w.counts.began + cond (is_began e) 1 0
   pub commits : counts'.committed ≡ w.counts.committed + cond (is_commit e) 1 0
   pub long : length locks' ≡ length w.locks
@@ -100,8 +97,7 @@ pub record Stays (w : World) (c : ℕ) (x y : Session) (t' : TableAt) (locks' : 
   pub placed : KeepsPlaced w.table t'
   pub sought : IsSoughtAt t' cursor (target_in x.seat.seat.phase y.log)
   pub spares : (others : ℕ → ℕ → ℕ) → IsCovered (λ place stamp. others place stamp + times_kept (side_of x) place stamp) w.table → IsCovered (λ place stamp. others place stamp + times_kept (side_of x) place stamp) t'
-  pub largest : largest_of t' ≡ largest_of w.table
-  pub helpers : length (helps_of t') ≡ length (helps_of w.table)
+  pub buckets : KeepsBuckets w.table t'
   pub same_locks : locks' ≡ w.locks
   pub same_counts : counts' ≡ w.counts
 
@@ -179,8 +175,8 @@ module _ (w : World) (tells : Tells w) (c : ℕ) (x y : Session) (at : slice_get
       fresh = fresh;
       stripes = is.long ∙ tells.stripes;
       holders = λ s below. is.holders s below ∙ sym (is.next.holder_is s);
-      largest = is.largest ∙ tells.largest;
-      helpers = is.helpers ∙ tells.helpers;
+      largest = is.buckets.largest ∙ tells.largest;
+      helpers = ap length is.buckets.helps ∙ tells.helpers;
       sound = is.placed.sound tells.sound;
     }
 
@@ -213,8 +209,8 @@ module _ (w : World) (tells : Tells w) (c : ℕ) (x y : Session) (at : slice_get
     fresh = fresh;
     stripes = ap length is.same_locks ∙ tells.stripes;
     holders = λ s below. ap (λ ls. held_by ls s) is.same_locks ∙ tells.holders s below;
-    largest = is.largest ∙ tells.largest;
-    helpers = is.helpers ∙ tells.helpers;
+    largest = is.buckets.largest ∙ tells.largest;
+    helpers = ap length is.buckets.helps ∙ tells.helpers;
     sound = is.placed.sound tells.sound;
   }
 

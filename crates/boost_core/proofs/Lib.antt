@@ -10,7 +10,6 @@ pub mod Runs
 pub mod Starting
 pub mod Named
 pub mod Outcomes
-pub mod Quiet
 pub mod Parting
 pub mod Working
 pub mod Asking

@@ -1,6 +1,6 @@
 -- Moves of the machine, from the changes of a step to the table and to one caller's side.
 use Rattle.std.proofs.Common.{◌≡◌, ℕ, ◌+◌, ◌≤◌, List, set, Option, Some, None, refl, sym, ap, subst, ◌∙◌, arith, ◌-◌, ◌^◌, ◌<◌, ◌==◌, ◌&&◌, Bool, true, false, map, nat_lt, not, slice_get, slice_set, eq-eqb, eqb-true, ltb-true, inl, inr, option_map}
-use Rattle.boost_core.proofs.Vocabulary.{and_parts, cases_Bool, get_or_from_slice_get, Entry, Refusal, Step, Answer, map-set, Refused, cursor_changes, TableAt, Keeps, KeepsBuckets, size_of, stored_of, linked_of, helps_of, table_changes, last_of, Rests, Counts, Session, State, Owner, Caller, Helper, owner_changes, is_just_placed, may_be_stale, refusal_of, MayLack, Move, World, state_of, session_changes, nodes_at, gap_by, helper_gaps_of, IsAllowed, keeps_list}
+use Rattle.boost_core.proofs.Vocabulary.{and_parts, cases_Bool, get_or_from_slice_get, Entry, Refusal, Step, Answer, map-set, Refused, cursor_changes, TableAt, Keeps, KeepsBuckets, size_of, stored_of, linked_of, helps_of, table_changes, last_of, Rests, Counts, Session, State, Owner, Caller, Helper, owner_changes, is_just_placed, may_be_stale, refusal_of, MayLack, Move, World, state_of, session_changes, nodes_at, gap_by, helper_gaps_of, IsAllowed, keeps_list, KeepsNodes}
 use Rattle.std.proofs.Math.Seq.{map-set_same}
 use Rattle.boost_core.specs.Answers.{after}
 
@@ -38,9 +38,21 @@ runs_of t t' buckets linked rises same = record {
   one_last = omega arith;
 }
 
+-- `Runs` holds if the nodes are unchanged, and at most one stamp was given out.
+pub nodes_runs : (t t' : TableAt) → KeepsNodes t t' → last_of t ≤ last_of t' → last_of t' ≤ last_of t + 1 → Runs t t'
+nodes_runs t t' keeps last one_last = record {
+  size = keeps.buckets.size;
+  stored = keeps.buckets.stored;
+  linked = keeps.linked;
+  helps = keeps.buckets.helps;
+  rises = omega (arith, keeps.changes);
+  last = last;
+  one_last = one_last;
+}
+
 -- `Runs` holds if only spares have changed.
 pub rests_runs : (t t' : TableAt) → Rests t t' → Runs t t'
-rests_runs t t' rests = runs_of t t' rests.nodes.buckets rests.nodes.linked (omega (arith, rests.nodes.changes)) rests.last
+rests_runs t t' rests = nodes_runs t t' rests.nodes (omega (arith, rests.last)) (omega (arith, rests.last))
 
 -- `Runs` holds if only the list has changed.
 pub keeps_runs : (t t' : TableAt) → Keeps t t' → table_changes t ≤ table_changes t' → Runs t t'

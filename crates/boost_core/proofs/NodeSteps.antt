@@ -3,7 +3,7 @@
 use Rattle.std.proofs.Common.{◌≡◌, ◌⊎◌, ℕ, ◌-◌, ◌%◌, ◌<◌, Bool, true, false, List, [], ◌∷◌, ◌++◌, length, Option, Some, None, is_some, inl, inr, refl, sym, ap, subst, ◌∙◌, reverse, slice_get, unwrap_or, nat_lt, nat_eq, IsSome, option_map, Result, Ok, Err}
 use Rattle.boost_core.proofs.Vocabulary.{option_eq, false≢true, cases_Bool, slice_get-map, unwrap_or-slice_get, regular_at, Op, Put, Take, Get, PutIf, Refusal, Step, Answer, Phase, Waiting, LeavingTo, LeavingToEnd, Map, get, key_of, now, log_of, stripe_of, Seat, kept_at, newest_above, MapJob, Unput, Restore, Relink, length-map, reverse-append, ancestor_of, NodeAt, changes_after, sought, IsDummyAt, PendingAt, key_of_job, value_before, takes_node, IsDue, TableAt, SpareAt, KeepsNodes, KeepsList, NamesDummies, content, nodes_of, size_of, stored_of, table_changes, last_of, SeeksNear, IsRefused, Session, State, Caller, is_set, seat_in, owner_of, Touches, stamp_after, Writes, Links, Marks, SeeksFrom, SeeksKey, IsNearest, Changes, PutsIf, OpDoes, OpDoesIn, BackDoes, Lists, key_in, next_key, newest_key, Does, ActsIn, DoesIn, TakesBackIn, SeeksIn, IsAsked, AsksBy, unless_busy, Waits, AreDue, key_of_newest, target_in, target_of, changes_of, Claim, Lock, Right, IsClaim, ListsAsk, ListsBy, stamp_by, World, Tells, state_of, node_at, NoMemory, StaleWord, Abort, Act, Ask, Back, Begin, Commit, Save, Seek, dummy_at, InitSeek, InitLink, SweepOutcome, dummy_node, Sweeps, Seeking, SeekChanges, LinkChanges, Help, Nothing, helps_of, help_in, bucket_at, Serves, Sweeping}
 use Rattle.boost_core.specs.Nodes.{Keeps}
-use Rattle.boost_core.proofs.Spares.{given_for}
+use Rattle.boost_core.proofs.Spares.{given_for, nodes_then}
 use Rattle.boost_core.proofs.NodeLists.{seen, inserted, replaced, written_seen, seeks_from, clean_seen, sweeps as swept_nodes}
 use Rattle.boost_core.proofs.Outcomes.{is_stale_word}
 use Rattle.boost_core.proofs.Refused.{caller_in, seat_here}
@@ -189,7 +189,7 @@ module _ (w : World) (tells : Tells w) (c : ℕ) (x : Session) (at : slice_get w
           stamp = (given_for w.table w'.table (takes_node op) is.pending.spare is.prepares.given).last;
         }
     asked op stripe (answers.Busy holder) is = record {
-      nodes = record { nodes = ap seen is.back.nodes.all ∙ ap seen is.prepares.nodes.all; changes = is.back.nodes.changes ∙ is.prepares.nodes.changes };
+      nodes = rested w w' (nodes_then w.table is.between w'.table is.prepares.nodes is.back.nodes);
       stamp = is.back.last ∙ (given_for w.table is.between (takes_node op) is.pending.spare is.prepares.given).last;
     }
     asked op stripe (answers.Refused refusal) is = record { nodes = same w w' is.2; stamp = ap last_of is.2 }

@@ -4,10 +4,9 @@ use Rattle.boost_core.proofs.Vocabulary.{option_eq, false≢true, and_from, seri
 use Rattle.txn_trace.proofs.Settled.{settled}
 use Rattle.boost_core.proofs.Numbers.{no_more}
 use Rattle.boost_core.proofs.Moves.{runs_same, rests_runs, none_dropped}
-use Rattle.boost_core.proofs.Outcomes.{Called, entered}
+use Rattle.boost_core.proofs.Outcomes.{Called, entered, idle_cursor, nothing_waits, quiet, level_in, released_holders, no_newest}
 use Rattle.boost_core.proofs.Spares.{no_jobs}
 use Rattle.boost_core.proofs.Refused.{seat_here, seat_free, begin_closed, three_tests, back_open, commit_open, abort_runs}
-use Rattle.boost_core.proofs.Quiet.{idle_cursor, nothing_waits, quiet, level_in, released_holders, no_newest}
 use Rattle.txn_words.specs.declared.entry.Entry.TheVariants as entry
 use Rattle.txn_words.specs.declared.step.Step.TheVariants as steps
 use Rattle.txn_words.specs.declared.answer.Answer.TheVariants as answers
@@ -91,8 +90,7 @@ module _ (w : World) (tells : Tells w) (c : ℕ) (x : Session) (at : slice_get w
         placed = settles.rests.placed;
         spares = λ others covered place stamp.
             sym (no_more (others place stamp)) ∙ settles.spares others (λ p s. omega (arith, rw nothing at (covered p s))) place stamp;
-        largest = settles.rests.nodes.buckets.largest;
-        helpers = ap length settles.rests.nodes.buckets.helps;
+        buckets = settles.rests.nodes.buckets;
         begins = no_more w.counts.began;
         commits = number;
         long = releases.as_many;
@@ -123,8 +121,7 @@ module _ (w : World) (tells : Tells w) (c : ℕ) (x : Session) (at : slice_get w
         apart = λ d other k held. refl;
         placed = leaves.rests.placed;
         spares = λ others covered. rw leaves.becomes at (leaves.spares others covered);
-        largest = leaves.rests.nodes.buckets.largest;
-        helpers = ap length leaves.rests.nodes.buckets.helps;
+        buckets = leaves.rests.nodes.buckets;
         begins = no_more w.counts.began;
         commits = no_more w.counts.committed;
         long = refl;

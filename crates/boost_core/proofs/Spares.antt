@@ -1,6 +1,6 @@
 -- Spares that are given out, kept by callers, and given up.
 use Rattle.std.proofs.Common.{◌≡◌, ◌≢◌, ℕ, ◌+◌, ◌≤◌, ◌==◌, ◌&&◌, Bool, true, false, cond, Option, Some, None, refl, sym, ap, ◌∙◌, arith, nat_eq, eq-eqb, ne_eqb, inl, inr, ◌-◌, ◌^◌, ◌||◌, is_some, not, ◌⊎◌, ◌<◌, List, [], ◌∷◌, ◌++◌, length, length-append, option_to_list, append-nil}
-use Rattle.boost_core.proofs.Vocabulary.{and_right, option_eq, cases_eq, and_from, same_option, same_is, TableAt, SpareAt, KeepsSpares, spare_out, Spends, GivesSpare, OwnsIf, times_of, times_out, IsCovered, last_of, GivesFor, sum_by_push, cases_lt, false≢true, MapJob, Follows, spare_of_job, GivesBack, times_in, Rests, cases_Bool, Op, Put, Take, Get, PutIf, get, Map, Unput, Restore, Relink, unput, relink, job_of, SpendsFor}
+use Rattle.boost_core.proofs.Vocabulary.{and_right, option_eq, cases_eq, and_from, same_option, same_is, TableAt, SpareAt, KeepsSpares, spare_out, Spends, GivesSpare, OwnsIf, times_of, times_out, IsCovered, last_of, GivesFor, sum_by_push, cases_lt, false≢true, MapJob, Follows, spare_of_job, GivesBack, times_in, Rests, cases_Bool, Op, Put, Take, Get, PutIf, get, Map, Unput, Restore, Relink, unput, relink, job_of, SpendsFor, KeepsBuckets, KeepsNodes}
 use Rattle.boost_core.proofs.Numbers.{no_more}
 
 -- A table gives a spare out at most once.
@@ -109,21 +109,28 @@ pub open_to : (o : Option ℕ) (c : ℕ) → (o ≡ None) ⊎ (o ≡ Some c) →
 open_to o c (inl free) = rw free refl
 open_to o c (inr mine) = rw mine (eq-eqb c c refl)
 
+-- Nodes and buckets that are unchanged, and stay so.
+pub buckets_same : (t : TableAt) → KeepsBuckets t t
+buckets_same t = record { all = refl; size = refl; largest = refl; stored = refl; helps = refl }
+
+pub nodes_then : (t0 t t' : TableAt) → KeepsNodes t0 t → KeepsNodes t t' → KeepsNodes t0 t'
+nodes_then t0 t t' was is = record {
+  all = is.all ∙ was.all;
+  regular = is.regular ∙ was.regular;
+  buckets = record {
+    all = is.buckets.all ∙ was.buckets.all;
+    size = is.buckets.size ∙ was.buckets.size;
+    largest = is.buckets.largest ∙ was.buckets.largest;
+    stored = is.buckets.stored ∙ was.buckets.stored;
+    helps = is.buckets.helps ∙ was.buckets.helps;
+  };
+  linked = is.linked ∙ was.linked;
+  changes = is.changes ∙ was.changes;
+}
+
 pub rests_more : (t0 t t' : TableAt) (spare : Option SpareAt) → Rests t0 t → GivesBack t t' spare → Follows t t' → Rests t0 t'
 rests_more t0 t t' spare rests back follows = record {
-  nodes = record {
-    all = back.nodes.all ∙ rests.nodes.all;
-    regular = back.nodes.regular ∙ rests.nodes.regular;
-    buckets = record {
-      all = back.nodes.buckets.all ∙ rests.nodes.buckets.all;
-      size = back.nodes.buckets.size ∙ rests.nodes.buckets.size;
-      largest = back.nodes.buckets.largest ∙ rests.nodes.buckets.largest;
-      stored = back.nodes.buckets.stored ∙ rests.nodes.buckets.stored;
-      helps = back.nodes.buckets.helps ∙ rests.nodes.buckets.helps;
-    };
-    linked = back.nodes.linked ∙ rests.nodes.linked;
-    changes = back.nodes.changes ∙ rests.nodes.changes;
-  };
+  nodes = nodes_then t0 t t' rests.nodes back.nodes;
   last = back.last ∙ rests.last;
   placed = record { placed = λ cursor key is. follows.placed cursor key (rests.placed.placed cursor key is); sound = λ sound. follows.list.sound (rests.placed.sound sound) };
 }

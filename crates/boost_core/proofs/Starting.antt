@@ -1,5 +1,5 @@
 -- A core whose history is empty.
-use Rattle.std.proofs.Common.{◌≡◌, ℕ, ◌+◌, ◌<◌, ◌≤◌, ◌==◌, ◌∷◌, Bool, true, List, [], length, map, replicate, Option, Some, None, zero, suc, refl, sym, ap, subst, ◌∙◌, arith, slice_get, sum_by, eq-eqb, eqb-true, inl, inr, All, option_map, ◌*◌, ◌/◌, ◌%◌, ◌^◌, pow-suc, count_ones}
+use Rattle.std.proofs.Common.{◌≡◌, ℕ, ◌+◌, ◌<◌, ◌≤◌, ◌==◌, ◌∷◌, Bool, true, List, [], length, map, replicate, Option, Some, None, zero, suc, refl, sym, ap, ◌∙◌, arith, slice_get, sum_by, eq-eqb, eqb-true, inl, inr, All, option_map, ◌*◌, ◌/◌, ◌%◌, ◌^◌, pow-suc, count_ones}
 use Rattle.boost_core.proofs.Vocabulary.{and_parts, cases_Bool, cases_lt, slice_get_within, get_or_from_slice_get, caller_of, is_power_of_two, length-replicate, get_or-replicate, get_or_past, All-nil, sum_by-cons, held_by, Sizes, are_limits, owed_in, NodeAt, first, first_dummy, node_of, IsRising, IsSpread, IsSound, TableAt, IsNew, Nothing, cursor_changes, nodes_of, Session, start, Side, side_of, IsIdle, owed_of, times_kept, World, Tells, IsSeated, state_of, session_changes, node_at, gap_if, gap_by, all_times, cases_eq, zero_from_ones, ones_le_self}
 use Rattle.txn_trace.proofs.Judging.{legal_none}
 use Rattle.boost_core.proofs.Gaps.{idle_cursors}
@@ -59,13 +59,6 @@ none_held stripes s = elim (cases_lt s stripes) [
   | inr past ↦ get_or_past (replicate stripes None) s None (omega (arith, length-replicate {A = Option ℕ} stripes None))
 ]
 
--- A list of one node.
-only_node : (m : NodeAt) (place : ℕ) (n : NodeAt) → node_of (m ∷ []) place ≡ Some n → (m.place ≡ place) × (n ≡ m)
-only_node m place n is = elim (cases_Bool (m.place == place)) [
-  | inl here ↦ (eqb-true m.place place here, sym (node_here m [] place n is here))
-  | inr apart ↦ absurd (none_of_none place n (node_later m [] place (Some n) is apart))
-]
-
 module _ (limits : Sizes) (t : TableAt) (new : IsNew t limits.buckets limits.callers) (sessions : List Session) (count : length sessions ≡ limits.callers) (idle : All IsIdle sessions) (words : Bool) where
   is_idle : (s : Session) (c : ℕ) → slice_get sessions c ≡ Some s → IsIdle s
   is_idle s c at = rw (get_or_from_slice_get sessions c s s at) at (idle c s (slice_get_within sessions c s at))
@@ -74,7 +67,7 @@ module _ (limits : Sizes) (t : TableAt) (new : IsNew t limits.buckets limits.cal
   first_world locks = record { limits = limits; history = []; counts = record { began = 0; committed = 0 }; table = t; sessions = sessions; locks = locks; placed = None; words = words }
 
   idle_seated : (s : Session) (c : ℕ) → IsIdle s → IsSeated [] c (side_of s) s.log.room
-  idle_seated s c is = subst (λ (side : Side). IsSeated [] c side s.log.room) (sym is) (record {
+  idle_seated s c is = rw is (record {
     seat = refl;
     log = refl;
     due = tt;
@@ -83,7 +76,11 @@ module _ (limits : Sizes) (t : TableAt) (new : IsNew t limits.buckets limits.cal
 
   -- The list of one dummy is sound.
   one_node : (place : ℕ) (n : NodeAt) → node_of (nodes_of t) place ≡ Some n → (t.list.head ≡ place) × (n ≡ first_dummy t.list.head 0)
-  one_node place n is = only_node (first_dummy t.list.head 0) place n (ap (λ ns. node_of ns place) (sym new.nodes_are) ∙ is)
+  one_node place n is =
+      let only = rw new.nodes_are at is in elim (cases_Bool (t.list.head == place)) [
+        | inl here ↦ (eqb-true t.list.head place here, sym (node_here (first_dummy t.list.head 0) [] place n only here))
+        | inr apart ↦ absurd (none_of_none place n (node_later (first_dummy t.list.head 0) [] place (Some n) only apart))
+      ]
 
   first_sound : IsSound t.list
   unfolding node_of IsRising IsSpread

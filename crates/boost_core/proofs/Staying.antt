@@ -2,6 +2,7 @@
 use Rattle.std.proofs.Common.{◌≡◌, ℕ, Bool, true, false, List, Option, Some, None, refl, sym, ap, subst, ◌∙◌, nat_eq}
 use Rattle.boost_core.proofs.Vocabulary.{option_eq, regular_at, IsSpread, Op, Put, Take, Get, PutIf, Step, Answer, MapJob, Unput, Restore, Relink, NodeAt, Listing, TableAt, SpareAt, KeepsNodes, nodes_of, LinksNode, MarksNode, WritesNode, WritesNothing, OpWrites, PutWrites, PutIfWrites, TakeWrites, JobWrites, node_for, Claim, Lock, Right, Session, Counts, Does, ActsIn, IsAsked, AsksBy, Abort, Act, Ask, Back, Begin, Commit, Save, Seek}
 use Rattle.boost_core.proofs.GapLists.{Stay, stay_same, stay_changed, stay_linked, stay_sought}
+use Rattle.boost_core.proofs.Spares.{nodes_then}
 use Rattle.txn_words.specs.declared.answer.Answer.TheVariants as answers
 
 pub linked : (l l' : Listing) (n : NodeAt) → IsSpread l'.nodes → LinksNode l l' n → Stay l.nodes l'.nodes
@@ -56,11 +57,7 @@ module _ (t t' : TableAt) (spread : IsSpread (nodes_of t')) where
   module _ (x y : Session) (locks locks' : List (Option ℕ)) where
     asked : (c stripe : ℕ) (op : Op) (answer : Answer) → IsAsked c stripe op x t locks answer y t' locks' → Leaves t t'
     asked c stripe op answers.Asked is = rested is.prepares.nodes
-    asked c stripe op (answers.Busy holder) is =
-        record {
-          nodes = stay_same (nodes_of t) (nodes_of t') (is.back.nodes.all ∙ is.prepares.nodes.all);
-          buckets = is.back.nodes.buckets.all ∙ is.prepares.nodes.buckets.all;
-        }
+    asked c stripe op (answers.Busy holder) is = rested (nodes_then t is.between t' is.prepares.nodes is.back.nodes)
     asked c stripe op (answers.Refused refusal) is = same is.2
     asked c stripe op _ is = absurd is
 

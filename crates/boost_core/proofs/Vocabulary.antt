@@ -32,7 +32,7 @@ unfoldable pub use Rattle.list_steps.specs.Found.{fits as list_fits}
 unfoldable pub use Rattle.list_steps.specs.Seek.{cleaned, sought}
 unfoldable pub use Rattle.list_steps.specs.Steps.{without_first_marked}
 pub use Rattle.list_steps.specs.declared.cursor.Noted.{Noted}
-pub use Rattle.map_ops.specs.Buckets.{Doubles, LacksSegment, LinkChanges, SeekChanges, StoreChanges, answer_for, double_answer, helper_fits, is_stored, link_answer, link_answer_of, seek_answer, store_answer}
+pub use Rattle.map_ops.specs.Buckets.{Doubles, LacksSegment, LinkChanges, SeekChanges, StoreChanges, answer_for, helper_fits, is_stored, link_answer, link_answer_of, seek_answer, store_answer}
 pub use Rattle.map_ops.specs.Changes.{GivesBack, GivesFor, GivesSpare, IsRefused, OwnsIf, Prepares, SeeksNear, Spends, SpendsFor, Sweeps}
 pub use Rattle.map_ops.specs.Double.{Double}
 pub use Rattle.map_ops.specs.InitLink.{InitLink}
@@ -47,7 +47,7 @@ pub use Rattle.node_list.specs.Nodes.{Listing, NodeAt, changes_after, first, fir
 unfoldable pub use Rattle.node_list.specs.Nodes.{IsLinked, changed_at, linked_after, next_of, node_of}
 pub use Rattle.node_list.specs.Order.{AbsentFrom, IsNodeBefore}
 unfoldable pub use Rattle.node_list.specs.Order.{IsRising, IsSpread}
-pub use Rattle.node_list.specs.Sound.{AllPlain, IsSound}
+pub use Rattle.node_list.specs.Sound.{IsSound}
 pub use Rattle.split_key.specs.Sort.{IsBefore, IsNotBefore, dummy_at, regular_at}
 unfoldable pub use Rattle.split_key.specs.Sort.{is_before}
 pub use Rattle.split_key.specs.Split.{IsAncestor, ancestor_of}
@@ -74,7 +74,7 @@ pub use Rattle.txn_trace.proofs.Next.{Next, seat-own}
 pub use Rattle.txn_trace.proofs.Now.{same_is, same_option}
 pub use Rattle.txn_trace.proofs.Pushes.{how_many-push, own-push_in, seat_after-push}
 pub use Rattle.txn_trace.specs.Legal.{IsLegal, is_running, runs}
-pub use Rattle.txn_trace.specs.Locks.{LocksHold, has_begun, holder_of, is_locked, stripe_of}
+pub use Rattle.txn_trace.specs.Locks.{has_begun, holder_of, is_locked, stripe_of}
 pub use Rattle.txn_trace.specs.Log.{log_of}
 pub use Rattle.txn_trace.specs.Now.{now}
 pub use Rattle.txn_trace.specs.Serial.{serial}
@@ -83,7 +83,7 @@ pub use Rattle.txn_words.proofs.Levels.{IsLevelIn, seat_leveled}
 pub use Rattle.txn_words.proofs.Maps.{get-insert-here, get-remove-here, get-set_at, same_map}
 pub use Rattle.txn_words.specs.Entries.{entries_of}
 pub use Rattle.txn_words.specs.Kinds.{caller_of, is_began, is_commit}
-pub use Rattle.txn_words.specs.Map.{Map, after, count_of, get, insert, key_of, reply_of, set_at}
+pub use Rattle.txn_words.specs.Map.{Map, after, count_of, get, key_of, reply_of, set_at}
 pub use Rattle.txn_words.specs.Owed.{owed, owed_by, owed_in, reserved}
 pub use Rattle.txn_words.specs.Seats.{is_saved}
 pub use Rattle.txn_words.specs.Shape.{RoomySeat, Seat, changes, closed_seat, how_many, own, row, seat_after}

@@ -4,7 +4,7 @@ use Rattle.boost_core.proofs.Vocabulary.{false≢true, reverse-append, stripe_of
 use Rattle.boost_core.proofs.Numbers.{no_more}
 use Rattle.boost_core.proofs.Moves.{runs_of, keeps_runs, runs_same, state_is, changes_set, stale_since, move_is}
 use Rattle.boost_core.proofs.Outcomes.{Called, entered}
-use Rattle.boost_core.proofs.Spares.{times_pushed, spent, done_covered, still_covered}
+use Rattle.boost_core.proofs.Spares.{times_pushed, spent, done_covered, still_covered, buckets_same}
 use Rattle.boost_core.proofs.Due.{NotedIf, noted, changes_noted, due_noted}
 use Rattle.boost_core.proofs.Sides.{IsGoing, going, waiting_op, changes_last}
 use Rattle.boost_core.proofs.Refused.{seat_here, changes_here}
@@ -82,8 +82,7 @@ module _ (w : World) (tells : Tells w) (c : ℕ) (x : Session) (at : slice_get w
           placed = keeps;
           spares = λ others covered. done_covered w.table t' does.pending.spare does.job x.log.jobs (content w.table) does.pending.op does.does.job_is does.does.spares others
               (rw does.had at covered);
-          largest = does.does.buckets.largest;
-          helpers = ap length does.does.buckets.helps;
+          buckets = does.does.buckets;
           begins = no_more w.counts.began;
           commits = no_more w.counts.committed;
           long = refl;
@@ -151,8 +150,7 @@ module _ (w : World) (tells : Tells w) (c : ℕ) (x : Session) (at : slice_get w
               rw (get-set_at (now w.history) (key_of_job back.job) (value_before back.job) k, ne_eqb k (key_of_job back.job) (held_apart w.limits.stripes w.history d c k (key_of_job back.job) held key_held other)) refl;
           placed = keeps;
           spares = undone_covered;
-          largest = back.back.buckets.largest;
-          helpers = ap length back.back.buckets.helps;
+          buckets = back.back.buckets;
           begins = no_more w.counts.began;
           commits = no_more w.counts.committed;
           long = refl;
@@ -172,8 +170,7 @@ module _ (w : World) (tells : Tells w) (c : ℕ) (x : Session) (at : slice_get w
           placed = keeps;
           sought = subst (λ (s : Session). IsPlacedFor t' seeks.cursor (target_in x.seat.seat.phase s.log)) (sym seeks.becomes) (subst (IsPlacedFor t' seeks.cursor) (sym seeks.target) seeks.places.placed);
           spares = λ others covered. still_covered w.table t' (λ p q. others p q + times_kept (side_of x) p q) seeks.places.spares covered;
-          largest = seeks.places.keeps.buckets.largest;
-          helpers = ap length seeks.places.keeps.buckets.helps;
+          buckets = seeks.places.keeps.buckets;
           same_locks = refl;
           same_counts = refl;
         };
@@ -223,8 +220,7 @@ module _ (w : World) (tells : Tells w) (c : ℕ) (x : Session) (at : slice_get w
         placed = record { placed = λ cursor key is. is; sound = λ sound. sound };
         sought = tt;
         spares = λ others covered. covered;
-        largest = refl;
-        helpers = refl;
+        buckets = buckets_same w.table;
         same_locks = refl;
         same_counts = refl;
       };
