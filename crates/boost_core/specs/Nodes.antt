@@ -118,7 +118,7 @@ pub record SeeksKey (old new : State) (key : ℕ) : Type 0 where
   pub nearest : IsNearest old.stored (key % old.size) bucket
   pub seeks : SeeksFrom old new bucket (regular_at key)
 
--- The effect of changing a key's value, if it has one, from the first to the second. From none to a
+-- The effect of a change at a key, by the value before it and the value after it. From none to a
 -- value, a node is linked. From a value to none, the key's node is marked. From a value to a value,
 -- the value is written there. From none to none, nothing is done. No other node is touched.
 abbrev pub Changes : State → State → ℕ → Option ℕ → Option ℕ → Type 0

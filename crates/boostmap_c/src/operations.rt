@@ -140,7 +140,7 @@ pub extern "C" fn boostmap_take(
     tell(answer, word)
 }
 
-/// Looks up the value at a key, which is the word.
+/// Looks up the value at a key, and writes it to the word.
 ///
 /// # Errors
 ///

@@ -28,7 +28,7 @@ pub extern "C" fn boostmap_striped_begin(caller: &mut CallerHandle) -> u32
     tell_end(answer)
 }
 
-/// Looks up the value at a key, which is the word.
+/// Looks up the value at a key, and writes it to the word.
 ///
 /// # Errors
 ///

@@ -55,7 +55,7 @@ pub fn read_input<R: Read>(alloc: Global, input: &mut R) -> Result<Vec<u8>, Faul
     Ok(bytes)
 }
 
-/// The work that the bytes of a script file are. The bytes are dropped.
+/// The scripts of a file, read from its bytes, which are dropped.
 ///
 /// # Errors
 ///

@@ -1,9 +1,9 @@
 //! The laws of holds: a function that does nothing, whose contract is about the holds of a call for
 //! help. Each clause is about one hold, so it also serves those who call `hold` themselves.
-//! Together the clauses carry a key's bucket from one hold to the next, which the contract of
-//! `Caller::hold` cannot do. Each clause assumes `Held`, which that contract ensures. The two
-//! clauses about the last hold also assume that the core is `IsWhole`, and if the last hold is not
-//! also the first, that core and token are in step.
+//! Together the clauses say from hold to hold which bucket the call is to initialise. The contract
+//! of `Caller::hold` cannot say so, since it is about one hold. Each clause assumes `Held`, which
+//! that contract ensures. The two clauses about the last hold also assume that the core is
+//! `IsWhole`. If the last hold is not the first, they assume that core and token are in step, too.
 ghost use Rattle.std.specs.Prelude.{◌≡◌, ◌%◌, ℕ, true, Some, None};
 ghost use Rattle.txn_drive.specs.declared.drive.Drive.{Drive};
 ghost use Rattle.txn_drive.specs.declared.«end».End.TheVariants.{Helped};

@@ -87,11 +87,11 @@ impl<L: Ledger> SharedMap<L> {
     ///
     /// # Cost
     ///
-    /// One try of the word, outside the lock, unless the token has its right, and time in
-    /// proportion to the rights that it has; three holds of the lock, one of which seeks the
-    /// position of the key, and at most two more for each time that a position no longer fits; if
-    /// the key is busy, two more for each change that is taken back, a step for each savepoint, and
-    /// a run of each side job; may take memory.
+    /// Outside the lock, time in proportion to the rights that the token has, and one try of the
+    /// word unless it has the word's right. Then three holds of the lock, one of which seeks the
+    /// position of the key, and at most two further holds for each time that a position no longer
+    /// fits. If the key is busy: two further holds for each change that is taken back, a step for
+    /// each savepoint, and a run of each side job. May take memory.
     pub fn put<S: Side, R: Wait>(
         &self,
         rt: &R,
@@ -128,11 +128,11 @@ impl<L: Ledger> SharedMap<L> {
     ///
     /// # Cost
     ///
-    /// One try of the word, outside the lock, unless the token has its right, and time in
-    /// proportion to the rights that it has; three holds of the lock, one of which seeks the
-    /// position of the key, and at most two more for each time that a position no longer fits; if
-    /// the key is busy, two more for each change that is taken back, a step for each savepoint, and
-    /// a run of each side job; may take memory.
+    /// Outside the lock, time in proportion to the rights that the token has, and one try of the
+    /// word unless it has the word's right. Then three holds of the lock, one of which seeks the
+    /// position of the key, and at most two further holds for each time that a position no longer
+    /// fits. If the key is busy: two further holds for each change that is taken back, a step for
+    /// each savepoint, and a run of each side job. May take memory.
     pub fn take<S: Side, R: Wait>(
         &self,
         rt: &R,
@@ -167,11 +167,11 @@ impl<L: Ledger> SharedMap<L> {
     ///
     /// # Cost
     ///
-    /// One try of the word, outside the lock, unless the token has its right, and time in
-    /// proportion to the rights that it has; three holds of the lock, one of which seeks the
-    /// position of the key, and at most two more for each time that a position no longer fits; if
-    /// the key is busy, two more for each change that is taken back, a step for each savepoint, and
-    /// a run of each side job; may take memory.
+    /// Outside the lock, time in proportion to the rights that the token has, and one try of the
+    /// word unless it has the word's right. Then three holds of the lock, one of which seeks the
+    /// position of the key, and at most two further holds for each time that a position no longer
+    /// fits. If the key is busy: two further holds for each change that is taken back, a step for
+    /// each savepoint, and a run of each side job. May take memory.
     pub fn put_if<S: Side, R: Wait>(
         &self,
         rt: &R,
@@ -210,11 +210,11 @@ impl<L: Ledger> SharedMap<L> {
     ///
     /// # Cost
     ///
-    /// One try of the word, outside the lock, unless the token has its right, and time in
-    /// proportion to the rights that it has; three holds of the lock, one of which seeks the
-    /// position of the key, and at most two more for each time that a position no longer fits; if
-    /// the key is busy, two more for each change that is taken back, a step for each savepoint, and
-    /// a run of each side job; may take memory.
+    /// Outside the lock, time in proportion to the rights that the token has, and one try of the
+    /// word unless it has the word's right. Then three holds of the lock, one of which seeks the
+    /// position of the key, and at most two further holds for each time that a position no longer
+    /// fits. If the key is busy: two further holds for each change that is taken back, a step for
+    /// each savepoint, and a run of each side job. May take memory.
     pub fn get<S: Side, R: Wait>(
         &self,
         rt: &R,

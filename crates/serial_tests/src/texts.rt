@@ -1,6 +1,7 @@
 //! The texts of a verdict and of a rule, also as errors, and those of the reasons why a call on a
 //! map stopped, as errors. No history is judged here: each value is made by hand beside its text.
-//! Contracts fix these texts by definitions, and the rows are the words that the programs print.
+//! Contracts fix these texts by definitions; each row of the tests has a text word for word, as the
+//! programs print it.
 
 use anyhow::Result;
 use history_check::{Rule, Verdict};

@@ -58,7 +58,7 @@ pub fn run_session<R, W: Session<R> + Drop>(
     run_under::<Brand, R, W>(rt, alloc, blank, limits, session)
 }
 
-/// `run_session` under a ledger that has a name.
+/// `run_session`, with its ledger as a type parameter.
 fn run_under<L: Ledger + Send + Sync, R, W: Session<R> + Drop>(
     rt: &R,
     alloc: Global,

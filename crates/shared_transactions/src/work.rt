@@ -301,7 +301,7 @@ pub fn run_works_from<R: Threads + Wait + Sync, W: Work<R> + Send + Drop>(
     refill_under::<Brand, R, W>(rt, alloc, blank, limits, core, works)
 }
 
-/// `run_works` under a ledger that has a name, if there are no more works than callers.
+/// `run_works`, with its ledger as a type parameter, if there are no more works than callers.
 fn run_under<L: Ledger + Send + Sync, R: Threads + Wait + Sync, W: Work<R> + Send + Drop>(
     rt: &R,
     alloc: Global,
@@ -322,7 +322,7 @@ fn run_under<L: Ledger + Send + Sync, R: Threads + Wait + Sync, W: Work<R> + Sen
     Ok(finished)
 }
 
-/// `run_works_after` under a ledger that has a name, if there are more callers than works.
+/// `run_works_after`, with its ledger as a type parameter, if there are more callers than works.
 fn open_under<
     L: Ledger + Send + Sync,
     R: Threads + Wait + Sync,
@@ -354,7 +354,7 @@ fn open_under<
     Ok((outcome, finished))
 }
 
-/// `run_works_from` under a ledger that has a name, if there are more callers than works.
+/// `run_works_from`, with its ledger as a type parameter, if there are more callers than works.
 fn refill_under<L: Ledger + Send + Sync, R: Threads + Wait + Sync, W: Work<R> + Send + Drop>(
     rt: &R,
     alloc: Global,

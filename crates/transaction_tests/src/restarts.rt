@@ -76,8 +76,8 @@ fn restart<R: Threads + Wait + Sync + Abort>(
     }
 }
 
-/// Makes maps with no pairs and with a thousand pairs: at the least limits from cores of the
-/// greatest limits, and the other way round. There are as many works as the callers allow. The
+/// Makes maps with no pairs and with a thousand pairs: with the smallest limits from cores of the
+/// largest limits, and the other way round. There are as many works as the callers allow. The
 /// history must begin with the puts of the pairs.
 #[test]
 fn every_restart_is_made(rt: HostRuntime) -> Result<(), Fail> {

@@ -69,7 +69,7 @@ module _ {X : Type 0} (may : X → Step → Type 0) (takes : X → Step → Answ
     ends = λ last left. rest.ends last (second_taken x y step second last taken left);
   }
 
-  -- After a step that was answered `placed`, the second step is left of the turn, if there is one.
+  -- If a step was answered `placed`, what is left of the turn is its second step, if it has one.
   pub after_placed : (start : X) (turn : Turn) (x y : X) (next second now other : Option Step) (step : Step) (answer : Answer)
       → next ≡ Some step → now ≡ second → other ≡ None → answer ≡ Placed → takes x step answer y
       → Rest start turn x next second → Rest start turn y now other

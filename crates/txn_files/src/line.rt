@@ -1,6 +1,6 @@
 //! A piece of text on the stack, which is written from its end to its start: each put writes before
 //! the text that is there. The last digit of a number is found first, so no digit has to be moved.
-//! No put tests for room, since its contract requires room.
+//! The puts do not test for room, since their contracts require it.
 ghost use Rattle.std.specs.Prelude.{◌≡◌, ◌+◌, ◌≤◌, [], ◌++◌, length, decimal};
 
 use itoa::write_digits;
