@@ -149,9 +149,9 @@ const EACH_KIND: [(Call, Answer); 17] = [
     (Call::Step(Step::Sweep), Answer::Clean),
 ];
 
-/// Plain aborts. An abort is refused if there is no transaction or no such caller, and on the way to
-/// a level. If the caller already leaves to the end, after a busy operation or after a step `abort`,
-/// the plain abort takes the steps that are left.
+/// Plain aborts. An abort is refused if there is no transaction or no such caller, and on the way
+/// to a level. If the caller already leaves to the end, after a busy operation or after a step
+/// `abort`, the plain abort takes the steps that are left.
 const ABORTS: [(Call, Answer); 15] = [
     (Call::Abort(0), Answer::Refused(Refusal::NotOpen)),
     (Call::Abort(3), Answer::Refused(Refusal::NoSuchCaller)),

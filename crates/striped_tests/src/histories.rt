@@ -5,8 +5,8 @@
 //! stripe is held. Those of an abort or a commit are put at its earlier stamp, since the call gives
 //! stripes back. Commits are put in the order of their places: each at its earlier stamp, or at the
 //! latest stamp at which a commit before it is put, whichever is later. Either stamp was taken
-//! before the atomic step of this commit. A Busy is put at its earlier stamp too, but not before the
-//! first beginning of the caller that it names.
+//! before the atomic step of this commit. A Busy is put at its earlier stamp too, but not before
+//! the first beginning of the caller that it names.
 use crate::calls::{Ask, Home, NEW, Row, Told, answer, open};
 use crate::threads::{Work, in_threads, must_start};
 use history_check::{Checker, Verdict};
