@@ -94,7 +94,8 @@ module _ (c tries : ℕ) (script : List Action) (heard : Heard) (before part : L
   aborted added made quiet =
       all_quiet added quiet (ap (filter is_commit) made.1 ∙ filter_undone is_commit c made.0 (entries.Aborted c ∷ []) refl)
 
-  -- A call that is done, by its stage; an action, and the commit, by the answer.
+  -- A call that is done, by its stage. Of an action, and of the commit that follows the last one, the
+  -- answer says which entries it has added.
   done_told : (stage : Stage) (a : Answer) (added : List Entry) → IsMade c (call_at script stage) (ends.Answered a) added → IsAtStage c script heard part stage → After added (ends.Answered a) (done_at script again stage)
   done_told Beginning (answers.Began t) added made none = record {
     before = before;

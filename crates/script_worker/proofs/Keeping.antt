@@ -53,7 +53,7 @@ module _ (tries workers : ℕ) (half : Bool) (scripts : List (List Action)) (w :
       }
       at false is = (outcomes, told)
 
-  -- A task whose entries are those of its script's chunk, which may have grown, and of another drive.
+  -- The same script, at another attempt and with another drive, and with a chunk that may have grown.
   moved_to : (task : Task) (attempt : Attempt) (drive : Drive) (txn : ℕ) (replies : List (Option ℕ)) (chunk seen later : List Entry)
       → (at : KeepsTask tries workers scripts w task seen) → drive.caller ≡ w → drive.call ≡ call_at at.script attempt.stage
       → later ≡ at.earlier ++ (chunk ++ made drive) → IsChunk w at.script (heard_at attempt txn replies) chunk

@@ -19,7 +19,7 @@ played (actions.Back n ∷ script) (Leave c (Some level) ∷ Returned d reached 
 played (actions.Help k ∷ script) es plays = played script es plays
 played _ _ plays = absurd plays
 
--- A test that changes which are taken back do not pass finds the same entries with them.
+-- A test that no Undone passes finds the same entries without them.
 with_undone : (test : Entry → Bool) → ((c : ℕ) → test (Undone c) ≡ false) → (es : List Entry)
     → filter test es ≡ filter test (without_undone es)
 with_undone test never es = sym (filter_within test test (λ e. not (is_undone e)) (λ e is. refl) stands es)
