@@ -31,7 +31,8 @@ placed_push g e shape callers shaped placed t c p front is = elim (in_or_out (tx
 
 pub committed_placed : (h : List Entry) → IsShaped h → (t c p : ℕ) (front : List Entry) → of t h ≡ front ++ Committed c p ∷ [] → slice_get (commits h) (p - 1) ≡ Some t
 committed_placed h shape t c p front is =
-    rw (commits_are h shape) (by_entries IsPlaced placed_push (λ t c p front is. absurd (none front (Committed c p) is)) h shape t c p front is)
+    rw (commits_are h shape)
+    (by_entries IsPlaced placed_push (λ t c p front is. absurd (none front (Committed c p) is)) h shape t c p front is)
   where
     none : (front : List Entry) (e : Entry) → [] ≡ front ++ e ∷ [] → ⊥
     none [] e is = cc is

@@ -13,6 +13,7 @@ use Rattle.script_worker.specs.declared.attempt.Stage.{Stage}
 use Rattle.script_worker.specs.declared.attempt.Stage.TheVariants.{Beginning, Acting, Leaving}
 use Rattle.script_worker.specs.declared.attempt.Finish.{Finish}
 use Rattle.script_worker.specs.declared.attempt.Finish.TheVariants as finishes
+use Rattle.core_tokens.specs.Holds.{is_out}
 use Rattle.core_tokens.specs.Ready.{refused_at as refused_token, refused_help}
 use Rattle.core_tokens.specs.Suits.{may_refuse}
 use Rattle.thread_runs.specs.Possible.{has_bad_key, is_back, is_abort, MayBeRefused, MayCome, is_op}
@@ -55,10 +56,6 @@ IsGoodAt half script refusal Beginning = MayBeRefused half script refusal
 IsGoodAt half script refusal (Acting i) = IsGood half script refusal (slice_get script i)
 IsGoodAt half script refusal (Leaving why) = ⊥
 
-abbrev is_out : Refusal → Bool
-is_out OutOfStep = true
-is_out refusal = false
-
 module _ (half : Bool) (script : List Action) (tries again : ℕ) (broken : Bool) (seen : List Entry) where
   -- A call that did what it was asked to do, and one that found a stripe held.
   done_stands : (stage : Stage) → HasPhase (phase_after (phase_at stage) (call_at script stage)) (seat_after seen)
@@ -93,7 +90,8 @@ module _ (half : Bool) (script : List Action) (tries again : ℕ) (broken : Bool
   out_stands : (stage : Stage) → broken ≡ true → Stands half script broken seen (refused_at script again stage OutOfStep)
   out_stands stage out = (inl out, tt)
 
-  refused_stands : (refusal : Refusal) (stage : Stage) → is_out refusal ≡ false → IsIn (phase_at stage) broken seen → IsGoodAt half script refusal stage → Stands half script broken seen (refused_at script again stage refusal)
+  refused_stands : (refusal : Refusal) (stage : Stage) → is_out (ends.Refused refusal) ≡ false → IsIn (phase_at stage) broken seen
+      → IsGoodAt half script refusal stage → Stands half script broken seen (refused_at script again stage refusal)
   refused_stands OutOfStep stage plain at good = absurd (false≢true (sym plain))
   refused_stands refusal stage plain at good = leaves refusal stage at good
 
@@ -107,11 +105,13 @@ or_bad true why refusal is = (refl, cc is)
 or_bad false why refusal is = absurd (cc is)
 
 seat_refused : (half : Bool) (script : List Action) (stage : Stage) (s : Seat) (refusal : Refusal) → option_or (refusal_in half (record s { phase = phase_at stage }) (first_step 0 (call_at script stage))) (refused_help half (call_at script stage)) ≡ Some refusal
-    → (is_out refusal ≡ false) × IsGoodAt half script refusal stage
+    → (is_out (ends.Refused refusal) ≡ false) × IsGoodAt half script refusal stage
 seat_refused half script Beginning s refusal is = absurd (cc is)
 seat_refused half script (Acting i) s refusal is = by (slice_get script i) refl is
   where
-    by : (o : Option Action) → slice_get script i ≡ o → option_or (refusal_in half (record s { phase = Opened }) (first_step 0 (call_of o))) (refused_help half (call_of o)) ≡ Some refusal → (is_out refusal ≡ false) × IsGood half script refusal o
+    by : (o : Option Action) → slice_get script i ≡ o
+        → option_or (refusal_in half (record s { phase = Opened }) (first_step 0 (call_of o))) (refused_help half (call_of o)) ≡ Some refusal
+        → (is_out (ends.Refused refusal) ≡ false) × IsGood half script refusal o
     by (Some (actions.Op op)) at is =
         let bad = or_bad (is_bad_key half (key_of op)) BadKey refusal is in
         rw (← bad.1) (refl, any_at (has_bad_key half) script i (actions.Op op) at bad.0)
@@ -125,7 +125,7 @@ seat_refused half script (Acting i) s refusal is = by (slice_get script i) refl 
 seat_refused half script (Leaving why) s refusal is = absurd (cc is)
 
 token_refused : (half : Bool) (script : List Action) (stage : Stage) (b : Bool) (o : Option Seat) (refusal : Refusal) → refused_token half b o (call_at script stage) ≡ Some refusal → (b ≡ true) ⊎ HasPhase (phase_at stage) o
-    → ((refusal ≡ OutOfStep) × (b ≡ true)) ⊎ ((is_out refusal ≡ false) × IsGoodAt half script refusal stage)
+    → ((refusal ≡ OutOfStep) × (b ≡ true)) ⊎ ((is_out (ends.Refused refusal) ≡ false) × IsGoodAt half script refusal stage)
 token_refused half script stage true o refusal is at = inl (sym (cc is), refl)
 token_refused half script stage false o refusal is (inl broken) = absurd (false≢true broken)
 token_refused half script stage false None refusal is (inr at) = absurd (cc at.1)

@@ -34,9 +34,6 @@ module _ {L W : Type 0} (items : W → List codes.Outcome) (half : Bool) (worker
       let ran = (each c r at).ran in
       ap length (sym row_is) ∙ length-reverse r.outcomes.items ∙ sym (length-map r.outcomes.items told_of) ∙ ran.all ∙ ap (λ (n : ℕ). length (every n c scripts)) (sym as_many_rows)
 
-  report_at : (c : ℕ) → c < workers → (r : WorkerReport L) × (slice_get reports c ≡ Some r)
-  report_at c below = get_within reports c (omega (arith, as_many))
-
   module _ (outcomes : List codes.Outcome) (order : Each (λ c row. every (length rows) c outcomes ≡ reverse (items row)) rows) where
     -- Among all outcomes, those of a worker's scripts are the outcomes that the worker has
     -- reported.
@@ -52,7 +49,7 @@ module _ {L W : Type 0} (items : W → List codes.Outcome) (half : Bool) (worker
       where
         by : (c : ℕ) → c < workers → AreToldIn c tries (every workers c scripts) (every workers c (map told_of outcomes)) (own c h)
         by c below =
-            let (r, at) = report_at c below in
+            let (r, at) = get_within reports c (rw as_many below) in
             let report = each c r at in
             let mine : own c h ≡ r.caller.seen = ap (λ (n : ℕ). own n h) (sym report.number_is) ∙ owns c r at in
             rw (mine, own_outcomes c r at) report.ran.told
@@ -63,7 +60,7 @@ module _ {L W : Type 0} (items : W → List codes.Outcome) (half : Bool) (worker
         let c : ℕ = i % workers in
         let k : ℕ = i / workers in
         let at : i ≡ c + k * workers = number_at i workers in
-        let (r, here) = report_at c (mod-lt i some) in
+        let (r, here) = get_within reports c (rw as_many (mod-lt i some)) in
         told_within (λ told. MayCome half told.script told.outcome) (every workers c scripts) (every workers c (map told_of outcomes)) k script outcome
         (get-every workers some scripts c k ∙ ap (slice_get scripts) (sym at) ∙ is)
         (get-every workers some (map told_of outcomes) c k ∙ ap (slice_get (map told_of outcomes)) (sym at) ∙ js)

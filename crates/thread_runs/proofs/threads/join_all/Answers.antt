@@ -1,4 +1,4 @@
-use Rattle.std.proofs.Common.{ℕ, ◌∙◌, ◌+◌, length, sym, ap}
+use Rattle.std.proofs.Common.{◌∙◌, length, sym, ap}
 use Rattle.thread_runs.proofs.Vocabulary.{length-map, length_push, new_ticket}
 use Rattle.std.proofs.lemmas.Iterator.Adapters.{YieldsList-from_vec}
 use Rattle.std.proofs.lemmas.Iterator.Consumers.{YieldsList-end, YieldsList-turn}
@@ -20,7 +20,7 @@ loop-thread-preserved g c =
     let pass = shown_at (λ t. t.promise.pass.value) (new_ticket c.args.limits c.requires.words) c.args.limits.callers c.args.threads.items _ thread c.requires.are turn in
     let here = rw pass at c.in_ok-report.ensures in
     let P = HasReported c.args.limits.half g.T.Terms.workers g.T.Terms.tries g.T.Terms.scripts in (
-      ap length items ∙ length_push reports report ∙ ap (λ (n : ℕ). n + 1) inv.0 ∙ sym (length_push c.loop-thread.yielded thread),
+      rw (items, length_push reports report, length_push c.loop-thread.yielded thread, inv.0),
       rw items (each_push P reports report inv.1 (rw inv.0 here)),
     )
 
