@@ -4,12 +4,13 @@ use Rattle.boost_core.proofs.Vocabulary.{option_eq, false≢true, Entry, Map, ca
 use Rattle.boost_core.proofs.Grow.{Grows}
 use Rattle.boost_core.proofs.Refused.{no_cursor}
 
--- The stripes of a caller are free, as the history says after the transaction's end.
+-- After caller `c` has released its stripes, a stripe has the holder that the history names after
+-- the end of the transaction of `c`.
 released : (c : ℕ) (o : Option ℕ) → without_caller c o ≡ cond (option_eq nat_eq o (Some c)) None o
 released c None = refl
 released c (Some d) = refl
 
--- If no change is above a level, there is none to act on.
+-- If the log has no change above level `n`, it has no key for the caller to act on next.
 pub no_newest : (log : Log MapJob) (n : ℕ) → nat_lt (kept_at log.kept n) (length log.jobs) ≡ false → key_of_newest (newest_above log n) ≡ None
 no_newest log n none = ap key_of_newest (ap (λ (more : Bool). cond more (slice_get log.jobs (length log.jobs - 1)) None) none)
 
@@ -18,7 +19,7 @@ module _ (w : World) (tells : Tells w) (c : ℕ) (x : Session) (at : slice_get w
   pub idle_cursor : (q : Phase) → x.seat.seat.phase ≡ q → target_in q x.log ≡ None → x.cursor ≡ None
   idle_cursor q is none = no_cursor w.table x.cursor (subst (IsSoughtAt w.table x.cursor) (ap (λ p. target_in p x.log) is ∙ none) (tells.sought c x at))
 
-  -- If the caller's phase is not that of a waiting operation, no operation waits.
+  -- If the caller's phase is not `Waiting`, its session has no waiting operation.
   pub nothing_waits : (q : Phase) → x.seat.seat.phase ≡ q → is_waiting q ≡ false → x.pending ≡ None
   nothing_waits q is rests = none_then q rests x.pending (subst (λ p. Waits p x.pending x.log.room) is (tells.seated c x at).agrees.waits)
     where
@@ -34,8 +35,9 @@ module _ (w : World) (tells : Tells w) (c : ℕ) (x : Session) (at : slice_get w
   pub released_holders : (locks' : List (Option ℕ)) → Releases c w.locks locks' → (s : ℕ) → s < w.limits.stripes → held_by locks' s ≡ cond (option_eq nat_eq (holder_of w.limits.stripes s w.history) (Some c)) None (holder_of w.limits.stripes s w.history)
   released_holders locks' releases s below = releases.each s ∙ ap (without_caller c) (tells.holders s below) ∙ released c (holder_of w.limits.stripes s w.history)
 
-  -- A step after which only the caller's savepoints and room have changed; no operation waits, and
-  -- the caller has no cursor.
+  -- A step that adds an entry and leaves the table unchanged. Before the step, no operation of the
+  -- caller waits and the caller has no cursor. Until the seat enters the entry, only the caller's
+  -- savepoints and room change.
   pub quiet : (e : Entry) (y : Session) (seat : Seat) (kept : List ℕ) (log : List (ℕ × Option ℕ)) (committed : Map) (holder : ℕ → Option ℕ) (locks' : List (Option ℕ)) (counts' : Counts) → Next (holder_by w.words) w.limits.stripes w.history e seat log committed (now w.history) holder → log ≡ changes_of x.log.jobs
       → caller_of e ≡ c → (is_saved e ≡ true → 0 < y.seat.room) → seat.kept ≡ 0 ∷ kept → is_waiting seat.phase ≡ false → x.pending ≡ None → x.cursor ≡ None → side_of y ≡ record (side_of x) { kept = kept }
       → counts'.began ≡ w.counts.began + cond (is_began e) 1 0 → counts'.committed ≡ w.counts.committed + cond (is_commit e) 1 0 → length locks' ≡ length w.locks → ((s : ℕ) → s < w.limits.stripes → held_by locks' s ≡ holder s)

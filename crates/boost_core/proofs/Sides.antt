@@ -24,7 +24,7 @@ at_last jobs front job is =
     ∙ slice_get-get_or (front ++ job ∷ []) (length (front ++ job ∷ []) - 1) job (omega arith)
     ∙ ap Some (get_or_push front job job (length (front ++ job ∷ []) - 1) (omega arith))
 
--- If a change is above a level, the newest one is the last.
+-- If the log has a change above level `n`, the newest such change is the last job.
 pub newest_is : (log : Log MapJob) (n : ℕ) → nat_lt (kept_at log.kept n) (length log.jobs) ≡ true → (last : Last log.jobs) × (newest_above log n ≡ Some last.job)
 newest_is log n more =
     let last = last_job log.jobs (omega (arith, ltb-true (kept_at log.kept n) (length log.jobs) more)) in
@@ -46,7 +46,7 @@ pub none_waits : (q : Phase) (room : ℕ) → Waits q None room → is_waiting q
 none_waits (Waiting op) room is = absurd is
 none_waits _ room is = refl
 
--- A caller that takes changes back, to a level or to the end.
+-- The phase of a caller that takes changes back, to a level or to the end.
 abbrev pub IsGoing : Phase → Type 0
 IsGoing (LeavingTo n) = Unit {0}
 IsGoing LeavingToEnd = Unit {0}
@@ -129,7 +129,8 @@ module _ (x : Session) (t : TableAt) (goes : GoesWith x t) where
         none_above = ltb-false (kept_at x.log.kept (level_of x.seat.seat.phase)) (length x.log.jobs) (none_above_if x.seat.seat.phase (length x.log.jobs) x.log.kept leaves (ap has_job (sym seat_is) ∙ no_job));
       }
 
-  -- The key of a seek: that of the waiting operation, or else of the newest change above the level.
+  -- The key to seek: the waiting operation's key, or else the key of the newest change above the
+  -- level.
   pub waiting_target : (pending : PendingAt) → x.pending ≡ Some pending → target_of x ≡ target_in (Waiting pending.op) x.log
   waiting_target pending is = ap (λ q. target_in q x.log) (waiting_op x.seat.seat.phase pending x.log.room (subst (λ (o : Option PendingAt). Waits x.seat.seat.phase o x.log.room) is goes.agrees.waits))
 
