@@ -253,7 +253,7 @@ module _ (w : World) (tells : Tells w) (c : ℕ) (x : Session) (at : slice_get w
             (ap (λ (s : Side). s.cursor) meets.becomes) t' busy_kept.all busy_kept.buckets.all seat' w.placed tells.fresh;
       }
 
-    -- A word that names a caller that may hold the stripe: the caller leaves to the end.
+    -- If the word names a caller that may hold the stripe, the asking caller leaves to the end.
     pub held_called : (named : ℕ) → w.words ≡ true → may_stand (state_of w) (entry.Busy c op named) ≡ true → CalledBy (Held named) w c x (Ask c op) (answers.Busy named) x w.table w.locks
     held_called named words stands =
         let is : Called w c x (Ask c op) (answers.Busy named) x w.table w.locks =
@@ -271,7 +271,7 @@ module _ (w : World) (tells : Tells w) (c : ℕ) (x : Session) (at : slice_get w
         (no_more w.counts.began) (no_more w.counts.committed) refl tells.holders) in
         record { comes = is.comes; move = λ seat'. inr (eq-eqb named named refl, is.move seat'); fresh = is.fresh }
 
-    -- A word that names no caller that may hold the stripe.
+    -- If the word names no caller that may hold the stripe, the ask is refused and nothing changes.
     pub word_stale_called : CalledBy Stale w c x (Ask c op) (answers.Refused StaleWord) x w.table w.locks
     word_stale_called = lacking_called Stale (Ask c op) StaleWord
         (inl (record { refused = refl; free = none; stale = refl; state = refl; stamp = omega arith; one_stamp = omega arith }))

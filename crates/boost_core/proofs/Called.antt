@@ -84,7 +84,7 @@ module _ (w : World) (tells : Tells w) (x : Session) (y : Session) (t' : TableAt
       subst (λ k. CalledBy claim w k x step answer y t' locks') (ap caller_in owner)
       (claimed claim step (subst (λ k. slice_get w.sessions k ≡ Some x) (sym (ap caller_in owner)) at) none some claims answer (rw same at does))
 
--- The requirements of a step on its caller's side, if nothing refuses it.
+-- If nothing refuses a step, its caller's side meets the requirements of the step.
 pub takes : (w : World) → Tells w → (c : ℕ) (x : Session) → slice_get w.sessions c ≡ Some x → (step : Step) → owner_of step ≡ Some (Caller c) → refusal_of (state_of w) step ≡ None
     → w.limits.callers ≤ 64 → 0 < w.limits.stripes → w.counts.began < 2 ^ 63 → w.counts.committed < 2 ^ 63 → Takes w.limits.stripes w.counts step x w.table w.locks
 takes w tells c x at step owner none callers some began done = record {
@@ -135,7 +135,7 @@ placed_cursor claim stripes counts step x t locks answer y t' locks' does is = a
     at (steps.Save c) does = absurd does.0
     at _ does = absurd does
 
--- The change number of the cursor of a caller whose side has changed.
+-- If a caller's new side has a cursor, the state has a change number for that cursor.
 pub changes_there : (sessions : List Session) (c : ℕ) (x z : Session) → slice_get sessions c ≡ Some x → is_some z.cursor ≡ true → is_some (caller_changes (map session_changes (slice_set sessions c z)) c) ≡ true
 changes_there sessions c x z at some =
     rw (slice_get-map session_changes (slice_set sessions c z) c, set_here sessions c z (slice_get_within sessions c x at)) (noted_some z.cursor ∙ some)

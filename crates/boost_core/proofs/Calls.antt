@@ -1,5 +1,5 @@
--- Several steps of one caller in a row: no later one is refused if the first is not, and none has
--- the answer `again`.
+-- Several steps of one caller in a row: if the first is not refused, no later step is refused, and
+-- no step has the answer `again`.
 use Rattle.std.proofs.Common.{◌≡◌, ℕ, ◌-◌, ◌<◌, ◌≤◌, ◌&&◌, ◌||◌, Bool, true, false, cond, List, [], ◌∷◌, ◌++◌, Option, Some, None, is_some, refl, sym, ap, ◌∙◌, arith, nat_le, not, unwrap_or, slice_index, eqb-true, ltb-true, ne_eqb, append-nil, inl, inr, ◌⊎◌, All, option_and_then}
 use Rattle.boost_core.proofs.Vocabulary.{and-false, or-true, false≢true, and_parts, Op, Entry, Refusal, Step, Answer, Map, Sizes, caller_of, Phase, Opened, Waiting, LeavingTo, LeavingToEnd, Seat, closed_seat, row, seat_after, own, All-head, All-tail, Ask, Seek, Act, Back, Abort, Refused, Asked, Placed, Again, Done, Undone, Leaving, Returned, Aborted, own-push_in, seat_after-push, State, Caller, seat_in, caller_changes, refusal_of, lacks_in, MayLack, is_closed, is_waiting, is_leaving, has_job, has_target, IsReply, is_back_at, is_at_end, may_be_stale, Move, Event, Operates, Returns, Aborts, NoSuchCaller, NotOpen, NothingToSeek, Unplaced}
 use Rattle.boost_core.specs.Answers.{end_of}
@@ -7,7 +7,7 @@ use Rattle.boost_core.proofs.Moves.{just_placed}
 use Rattle.boost_core.proofs.Refused.{or_else, refusal_parts, free, three_tests}
 use Rattle.txn_words.specs.declared.entry.Entry.TheVariants as entry
 
--- The seat of a caller that has a transaction is that of its entries.
+-- If a caller has a transaction, its seat is the seat after the caller's entries.
 pub seat_there : (h : List Entry) (c : ℕ) → is_closed (seat_in h c).phase ≡ false → seat_after (own c h) ≡ Some (seat_in h c)
 seat_there h c there = at (seat_after (own c h)) there
   where
@@ -22,7 +22,7 @@ seat_pushed h h' c e seat' is mine there goes =
     (ap (λ (g : List Entry). seat_after (own c g)) is ∙ ap seat_after (own-push_in c h e mine) ∙ seat_after-push (own c h) e
     ∙ ap (option_and_then (λ (s : Seat). row s s.phase e)) (seat_there h c there) ∙ goes)
 
--- A step that nothing refuses has no refusal as its answer.
+-- If a step that no test refuses is refused all the same, it lacks memory or a stamp.
 pub never_refused : (state : State) (step : Step) (refusal : Refusal) → refusal_of state step ≡ None → (refusal_of state step ≡ Some refusal) ⊎ ((refusal_of state step ≡ None) × MayLack state step refusal) → MayLack state step refusal
 never_refused state step refusal none (inl is) = absurd (let both : None ≡ Some refusal = sym none ∙ is in cc)
 never_refused state step refusal none (inr lack) = lack.1
@@ -72,7 +72,7 @@ act_does old new c op answer within waits cursor placed move = at answer move
     at Aborted move = absurd (false≢true (sym (ap is_at_end waits) ∙ (and_parts (not (has_job (seat_in old.history c))) (is_at_end (seat_in old.history c).phase) move.allowed.1).1))
     at _ move = absurd move.allowed.1
 
--- A caller that takes changes back and has none left has arrived at its level or at the end.
+-- If a caller that takes changes back has none left, its act ends the return or the abort.
 no_reply : (q : Phase) (m : Map) (reply : Option ℕ) → is_leaving q ≡ true → IsReply q m reply → ⊥
 no_reply (Waiting op) m reply leaves is = false≢true leaves
 no_reply _ m reply leaves is = is
@@ -133,7 +133,7 @@ row_undone s (LeavingTo n) c leaves job =
 row_undone s LeavingToEnd c leaves job = (ap (λ b. cond b (Some (record s { standing = s.standing - 1 })) None) job, ltb-true 0 s.standing job)
 row_undone s _ c leaves job = absurd (false≢true leaves)
 
--- The states and answers when a change was sought and taken back.
+-- A seek and an act have taken a change back: the two answers, and the state after them.
 pub record TookBack (old between new : State) (c : ℕ) (first second : Answer) : Type 0 where
   pub placed : first ≡ Placed
   pub undone : second ≡ Undone

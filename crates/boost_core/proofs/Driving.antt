@@ -13,7 +13,7 @@ use Rattle.txn_words.specs.declared.answer.Answer.TheVariants as answers
 use Rattle.txn_drive.specs.declared.call.Call.TheVariants as calls
 use Rattle.txn_drive.specs.declared.phase.Phase.TheVariants as phases
 
--- A number without its highest 1 bit is less.
+-- Clearing the highest 1 bit of a number above 0 makes the number smaller.
 cleared_less : (width number : ℕ) → 0 < number → number < 2 ^ width → highest_cleared width number < number
 unfolding highest_cleared
 cleared_less zero number some small = omega arith
@@ -27,7 +27,7 @@ parent_less : (bucket : ℕ) → 0 < bucket → bucket < 2 ^ 32 → parent_of bu
 unfolding parent_of
 parent_less bucket some small = cleared_less 32 bucket some small
 
--- The bucket that follows bucket 0 is not bucket 0.
+-- On the way from bucket 0 to a bucket above 0, the next bucket is above 0.
 child_some : (rounds bucket : ℕ) → 0 < bucket → 0 < child_within rounds 0 bucket
 unfolding child_within
 child_some zero bucket some = some
@@ -61,7 +61,7 @@ rises last bucket small is other =
           ]
     ]
 
--- The cursor with which a dummy is to be linked is the one placed last.
+-- If the phase is to link a dummy, the helper's cursor was placed last.
 abbrev pub IsPlaced : State → ℕ → Phase → Type 0
 IsPlaced state c (phases.Linking way again) = state.placed ≡ Some (Helper c)
 IsPlaced state c phase = Unit {0}
@@ -72,7 +72,7 @@ Fits state c key (phases.Doubling seen) = Unit {0}
 Fits state c key (phases.Refused BadKey) = Unit {0}
 Fits state c key phase = HelpSuits state c phase × Reaches (Unit {0}) state (key % state.size) phase × IsPlaced state c phase
 
--- The number of steps left is at most this.
+-- An upper bound on the number of steps that are left.
 abbrev pub left : Phase → ℕ
 left (phases.Doubling seen) = 3 * 2 ^ 32 + 4
 left (phases.Initialising way again) = 3 * (way.target - way.bucket) + 3
@@ -85,7 +85,7 @@ pub record Goes (state : State) (c key bound : ℕ) (phase : Phase) : Type 0 whe
   pub fits : Fits state c key phase
   pub fewer : left phase < bound
 
--- A phase after which fewer steps are left, and whose cursor is the one placed last.
+-- In this phase fewer than `bound` steps are left, and `IsPlaced` holds.
 record Nears (state : State) (c bound : ℕ) (phase : Phase) : Type 0 where
   placed : IsPlaced state c phase
   fewer : left phase < bound
@@ -93,7 +93,7 @@ record Nears (state : State) (c bound : ℕ) (phase : Phase) : Type 0 where
 weaker : (state : State) (c bound more : ℕ) (phase : Phase) → bound ≤ more → Nears state c bound phase → Nears state c more phase
 weaker state c bound more phase most nears = record { placed = nears.placed; fewer = omega (arith, nears.fewer) }
 
--- After a bucket on the way is initialised.
+-- `Nears` holds after a bucket on the way is initialised.
 towards_nears : (state : State) (c last target : ℕ) → target < 2 ^ 32 → IsAncestor last target → Nears state c (3 * (target - last) + 1) (towards last target)
 towards_nears state c last target small ancestor =
     at_towards (Nears state c (3 * (target - last) + 1)) last target (λ same. record { placed = tt; fewer = omega arith })
@@ -130,7 +130,7 @@ stored_nears new c way answers.Stored small ancestor = towards_nears new c way.b
 stored_nears new c way (answers.Refused refusal) small ancestor = at_refused (Nears new c (3 * (way.target - way.bucket) + 1)) refusal (λ r. record { placed = tt; fewer = omega arith })
 stored_nears new c way _ small ancestor = record { placed = tt; fewer = omega arith }
 
--- The parts of an invariant.
+-- The invariant of a phase has `HelpSuits` as a part, and its parts together give the invariant.
 fits_suits : (state : State) (c key : ℕ) (phase : Phase) (step : Step) → Fits state c key phase → step_in c (calls.Help key) (sized_in state.size phase) ≡ Some step → HelpSuits state c phase
 fits_suits state c key (phases.Doubling seen) step fits is = tt
 fits_suits state c key (phases.Refused refusal) step fits is = absurd (cc is)
@@ -161,7 +161,7 @@ goes state new c key phase step answer whole most within fits is move =
     inside : (target : ℕ) → target < state.size → target < 2 ^ 32
     inside target less = omega (arith, whole.most)
 
-    -- The bucket is that of the key at the size after a step that is no doubling.
+    -- After a step other than a doubling, the target is still the bucket of the key.
     keeps : (step : Step) (target : ℕ) → is_double step ≡ false → Move state step answer new → target ≡ key % state.size
         → target ≡ key % new.size
     keeps step target single move is = is ∙ ap (λ n. key % n) (sym ((sized state new step answer move).same single))
@@ -197,7 +197,7 @@ fits_first state c key = at (is_bad_key state.limits.half key)
     at true = tt
     at false = tt
 
--- The step of a drive of the call in a phase.
+-- The next step of a call's drive is the step that the call takes in the drive's phase.
 step_here : (c key size : ℕ) (drive : Drive) (next : Option Step) → drive.caller ≡ c → drive.call ≡ calls.Help key → next ≡ step_of (sized_of size drive) → next ≡ step_in c (calls.Help key) (sized_in size drive.phase)
 step_here c key size drive next caller call is = is ∙ (λ i. step_in (caller i) (call i) (sized_in size drive.phase))
 

@@ -25,20 +25,21 @@ due_same P m m' (job ∷ jobs) same all due = (
   due_same P (set_at m (key_of_job job) (value_before job)) (set_at m' (key_of_job job) (value_before job)) jobs (λ k passes. set_at_same m m' (key_of_job job) (value_before job) k (same k passes)) all.1 due.1,
 )
 
--- The map before an operation is restored if the operation's key is set to the value that it had.
+-- After an operation, setting its key to the value before the operation restores the map.
 pub set_at-after : (m : Map) (op : Op) → set_at (after m op) (key_of op) (reply_of m op) ≡ m
 set_at-after m op = same_map (set_at (after m op) (key_of op) (reply_of m op)) m (λ q. get-set_at (after m op) (key_of op) (reply_of m op) q ∙ elim (cases_eq q (key_of op)) [
   | inl same ↦ ap (λ b. cond b (reply_of m op) (get (after m op) q)) (eq-eqb q (key_of op) same) ∙ ap (get m) (sym same)
   | inr other ↦ ap (λ b. cond b (reply_of m op) (get (after m op) q)) (ne_eqb q (key_of op) other) ∙ get-after_other m op q other
 ])
 
--- The job of an operation: its key is the operation's, its value the one before, and it is due.
+-- The operation is a change, and this is its job: the job has the operation's key and the value
+-- before the operation, and is due after the operation.
 pub record Noted (m : Map) (op : Op) (spare : Option SpareAt) (job : MapJob) : Type 0 where
   pub change : change_of job ≡ (key_of op, reply_of m op)
   pub is_change : changes op (reply_of m op) ≡ true
   pub due : IsDue (after m op) job
 
--- An operation leaves a job, or is no change.
+-- If there is a job, it is the operation's job; if there is none, the operation is no change.
 abbrev pub NotedIf : Map → Op → Option SpareAt → Option MapJob → Type 0
 NotedIf m op spare None = changes op (reply_of m op) ≡ false
 NotedIf m op spare (Some job) = Noted m op spare job
@@ -68,7 +69,8 @@ noted m (PutIf k expected v) spare there = elim (cases_Bool (option_eq nat_eq (g
   | inr same ↦ rw same same
 ]
 
--- The changes of a caller with one more job, or the same.
+-- After an operation that is a change, a caller's log has one more change; after any other
+-- operation it has the same changes.
 pub changes_noted : (m : Map) (op : Op) (spare : Option SpareAt) (jobs : List MapJob) (job : Option MapJob) → NotedIf m op spare job
     → cond (changes op (reply_of m op)) ((key_of op, reply_of m op) ∷ changes_of jobs) (changes_of jobs) ≡ changes_of (jobs ++ option_to_list job)
 changes_noted m op spare jobs None is = ap (λ b. cond b ((key_of op, reply_of m op) ∷ changes_of jobs) (changes_of jobs)) is ∙ ap changes_of (sym (append-nil jobs))
@@ -76,7 +78,8 @@ changes_noted m op spare jobs (Some job) is =
     ap (λ b. cond b ((key_of op, reply_of m op) ∷ changes_of jobs) (changes_of jobs)) is.is_change ∙ ap (λ (change : ℕ × Option ℕ). change ∷ changes_of jobs) (sym is.change)
     ∙ ap (map change_of) (sym (reverse-append jobs (job ∷ [])))
 
--- After an operation its job is due, and then all that were due before.
+-- After an operation its job is due, and once this job has run, so are the jobs that were due
+-- before the operation.
 pub due_noted : (m : Map) (op : Op) (spare : Option SpareAt) (jobs : List MapJob) (job : Option MapJob) → NotedIf m op spare job → AreDue m (reverse jobs) → AreDue (after m op) (reverse (jobs ++ option_to_list job))
 due_noted m op spare jobs None is due = rw (append-nil jobs, after_unchanged m op (sym (changes-reply m op) ∙ is)) due
 due_noted m op spare jobs (Some job) is due =

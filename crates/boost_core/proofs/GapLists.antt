@@ -25,8 +25,9 @@ found_later : (m : NodeAt) (rest : List NodeAt) (place : ℕ) → (m.place == pl
 unfolding node_of
 found_later m rest place apart = rw apart refl
 
--- `Stay` holds with one node put before both lists, and with a node put before one and its like
--- before the other.
+-- `Stay` still holds if the same node is put before both lists, or if the node that is put before
+-- the new list has the place, the sort key and the stamp of the node that is put before the old
+-- list.
 stay_like : (m m' : NodeAt) (old new : List NodeAt) → (m'.place ≡ m.place) × (m'.at ≡ m.at) × (m'.stamp ≡ m.stamp) → Stay old new → Stay (m ∷ old) (m' ∷ new)
 stay_like m m' old new same stay place n is live = elim (cases_Bool (m.place == place)) [
   | inl here ↦
@@ -55,7 +56,7 @@ stay_changed (m ∷ rest) place change same = elim (cases_Bool (m.place == place
   | inr later ↦ rw later (stay_cons m rest (changed_at rest place change) (stay_changed rest place change same))
 ]
 
--- A node at a place, and the node behind it, are nodes of the list.
+-- A property of all nodes of a list holds of the node at a place and of the node behind a place.
 pub each_at : (P : NodeAt → Type 0) (nodes : List NodeAt) (place : ℕ) (n : NodeAt) → AllByRecursion P nodes → node_of nodes place ≡ Some n → P n
 each_at P [] place n each is = absurd (none_of_none place n is)
 each_at P (m ∷ rest) place n each is = elim (cases_Bool (m.place == place)) [
@@ -93,7 +94,7 @@ each_next P (m ∷ rest) place n each is = elim (cases_Bool (m.place == place)) 
   | inr apart ↦ each_next P rest place n each.1 (sym (next_later m rest place apart) ∙ is)
 ]
 
--- If nodes have different places, the node behind a place is found at its place.
+-- If nodes have different places, looking up the place of the node behind a place finds that node.
 absent_found : (nodes : List NodeAt) (place : ℕ) (n : NodeAt) → AbsentFrom place nodes → node_of nodes place ≡ Some n → ⊥
 absent_found nodes place n absent is = each_at (λ m. m.place ≡ place → ⊥) nodes place n absent is (place_at nodes place n is)
 

@@ -1,4 +1,4 @@
--- The effect of each step on the cursors: of a caller, and of others.
+-- The effect on the cursors: of each step of a caller, and of each step of the table or a helper.
 use Rattle.std.proofs.Common.{◌≡◌, ◌≢◌, ℕ, inl, inr, List, length, set, Option, Some, is_some, sym, ap, subst, ◌∙◌, arith, map, slice_get, slice_set, length-set, get_or-set_other, None, Result, Ok, Err, refl, slice_index_or}
 use Rattle.boost_core.proofs.Vocabulary.{cases_lt, regular_at, Op, key_of, stripe_of, Refusal, Step, Answer, nodes_of, IsSound, slice_get_within, slice_get_past, slice_get-get_or, Session, State, Gap, Caller, Helper, gap_in, gap_for, owner_of, Claim, Lock, Right, AreNeighbours, Cursors, Fits, KeepsGaps, StandsAt, mover_of, next_key, Side, Does, ActsIn, SeeksIn, IsAsked, AsksBy, World, Tells, state_of, nodes_at, gap_by, gap_if, NoMemory, dummy_at, InitSeek, InitLink, SweepOutcome, dummy_node, Sweeps, found_fits, found_placed, TableHelper, Idle, Seeking, Holding, SeekChanges, LinkChanges, StoreChanges, link_answer_of, seek_answer, TableAt, KeepsList, cursor_in, helper_cursor, size_of, stored_of, helps_of, Serves, StampsUsedUp}
 use Rattle.boost_core.proofs.Refused.{set_here}
@@ -17,7 +17,7 @@ use Rattle.map_ops.specs.InitLink.TheVariants as links
 use Rattle.map_ops.specs.SweepOutcome.TheVariants as outcomes
 use Rattle.boost_core.specs.Serves as said
 
--- The cursors after a step of an equal state.
+-- The effect on the cursors of a step from an equal state.
 pub cursors_of : (state old new : State) (step : Step) (answer : Answer) → state ≡ old → Cursors state step answer new → Cursors old step answer new
 cursors_of state old new step answer is cursors = subst (λ s. Cursors s step answer new) is cursors
 
@@ -133,7 +133,7 @@ module _ (t t' : TableAt) (sound : IsSound t'.list) where
   serves_stay (steps.Double seen) answer is = kept is.list
   serves_stay _ answer is = absurd is
 
--- The cursors of all helpers but the one that steps.
+-- A step leaves the cursors of the helpers that do not take it unchanged.
 module _ (t t' : TableAt) (h : ℕ) where
   moved : (k : ℕ) (now : TableHelper) → t'.buckets.helpers ≡ slice_set t.buckets.helpers k now → Some (Helper k) ≢ Some (Helper h)
       → helper_cursor t' h ≡ helper_cursor t h

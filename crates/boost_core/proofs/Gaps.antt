@@ -37,21 +37,22 @@ module _ (t t' : TableAt) (spread : IsSpread (nodes_of t)) (rising : IsRising (n
   session_still None is = is
   session_still (Some s) is = cursor_still s.cursor is
 
--- The nodes beside a caller's cursor, from its side.
+-- The nodes beside a caller's cursor, given the caller's side.
 pub gap_in_is : (t : TableAt) (sessions : List Session) (c : ℕ) → gap_in (map (gap_by t) sessions) c ≡ unwrap_or (option_map (gap_by t) (slice_get sessions c)) None
 gap_in_is t sessions c = ap (λ (o : Option (Option Gap)). unwrap_or o None) (slice_get-map (gap_by t) sessions c)
 
 pub gap_by_side : (t : TableAt) (sessions : List Session) (c : ℕ) (x : Session) (o : Option Cursor) → slice_get sessions c ≡ Some x → x.cursor ≡ o → gap_in (map (gap_by t) sessions) c ≡ gap_if t o
 gap_by_side t sessions c x o at had = gap_in_is t sessions c ∙ ap (λ (s : Option Session). unwrap_or (option_map (gap_by t) s) None) at ∙ ap (gap_if t) had
 
--- The nodes beside the cursor of a caller whose side is unchanged.
+-- If a caller's side is unchanged and the nodes beside its cursor are still neighbours, these nodes
+-- are still beside the cursor.
 pub gap_kept : (w w' : World) → IsSpread (nodes_of w.table) → IsRising (nodes_of w'.table) → Stay (nodes_of w.table) (nodes_of w'.table) → (c : ℕ) (gap : Gap) → slice_get w'.sessions c ≡ slice_get w.sessions c
     → gap_in (map (gap_by w.table) w.sessions) c ≡ Some gap → AreNeighbours (nodes_at w'.table) gap → gap_in (map (gap_by w'.table) w'.sessions) c ≡ Some gap
 gap_kept w w' spread rising stay c gap same is near =
     gap_in_is w'.table w'.sessions c ∙ ap (λ (s : Option Session). unwrap_or (option_map (gap_by w'.table) s) None) same
     ∙ session_still w.table w'.table spread rising stay gap near (slice_get w.sessions c) (sym (gap_in_is w.table w.sessions c) ∙ is)
 
--- A cursor that was placed for a sort key and fits is beside its position.
+-- A cursor that was placed for a sort key and fits is beside the position of that key.
 module _ (t : TableAt) (cursor : Cursor) (at : SortKey) (spread : IsSpread (nodes_of t)) (placed : IsPlacedIn t.list cursor) (at_is : at_of cursor ≡ at) (fit : Fit t.list cursor) where
   beyond : (o : Option NodeAt) (noted : Option Noted) → behind t.list cursor ≡ o → cursor.cur ≡ noted → NextIs o noted → (next : SortKey) → key_at o ≡ Some next → IsNotBefore next at
   beyond None noted was cur is next next_is = absurd (cc (next_is))
@@ -90,11 +91,12 @@ pub same_gap : (t t' : TableAt) (o : Option Cursor) → nodes_of t' ≡ nodes_of
 same_gap t t' None same = refl
 same_gap t t' (Some cursor) same = λ i. cond (same_fits t t' cursor same i) (gap_at (node_of (same i) (pred_of cursor)) (next_of (same i) (pred_of cursor))) None
 
--- The nodes beside a helper's cursor, from that cursor.
+-- The nodes beside a helper's cursor, given that cursor.
 pub helper_gap_is : (t : TableAt) (h : ℕ) → gap_in (helper_gaps_of t) h ≡ gap_if t (helper_cursor t h)
 helper_gap_is t h = unwrap_or-slice_get (helper_gaps_of t) h None ∙ lists.get_or-map (gap_if t) (cursors_of t) h None
 
--- The nodes beside the cursor of a helper that still has it.
+-- If a helper still has its cursor and the nodes beside the cursor are still neighbours, these
+-- nodes are still beside the cursor.
 pub helper_kept : (t t' : TableAt) → IsSpread (nodes_of t) → IsRising (nodes_of t') → Stay (nodes_of t) (nodes_of t') → (h : ℕ) (gap : Gap) → helper_cursor t' h ≡ helper_cursor t h
     → gap_in (helper_gaps_of t) h ≡ Some gap → AreNeighbours (nodes_at t') gap → gap_in (helper_gaps_of t') h ≡ Some gap
 helper_kept t t' spread rising stay h gap same is near =
@@ -103,7 +105,7 @@ helper_kept t t' spread rising stay h gap same is near =
 pub cursors_stay : (t t' : TableAt) (h : ℕ) → t'.buckets ≡ t.buckets → helper_cursor t' h ≡ helper_cursor t h
 cursors_stay t t' h same = ap (λ d. slice_index_or (map cursor_in d.helpers) h None) same
 
--- Whether a helper's cursor fits, from that cursor.
+-- Whether a helper's cursor fits, given that cursor.
 abbrev pub fits_if : TableAt → Option Cursor → Bool
 fits_if t None = false
 fits_if t (Some cursor) = fits t cursor
@@ -142,7 +144,7 @@ no_helper_gap t h is = helper_gap_is t h ∙ at (helper_cursor t h) (sym (fits_b
     at None stale = refl
     at (Some cursor) stale = no_gap t cursor stale
 
--- A helper's cursor that was placed for a bucket and fits is beside the position of its dummy.
+-- A helper's cursor that was placed for a bucket's dummy and fits is beside the dummy's position.
 pub helper_stands : (w' : World) (h b : ℕ) (cursor : Cursor) → IsSpread (nodes_of w'.table)
     → helper_of w'.table.buckets h ≡ Some (Seeking b cursor) → IsPlacedIn w'.table.list cursor → at_of cursor ≡ dummy_at b
     → fits w'.table cursor ≡ true → StandsAt (state_of w') (Helper h) (dummy_at b)

@@ -1,11 +1,12 @@
--- The invariants of a core that hold when one caller's side changes.
+-- After one caller's side changes, the invariants of a core still hold.
 use Rattle.std.proofs.Common.{◌≡◌, ◌≢◌, ℕ, ◌+◌, ◌-◌, ◌<◌, ◌≤◌, true, cond, List, [], ◌∷◌, ◌++◌, length, get_or, set, Option, Some, None, refl, sym, ap, subst, ◌∙◌, arith, slice_get, slice_set, sum_by, reverse, length-set, get_or-set_same, get_or-set_other, ◌⊎◌, inl, inr, option_and_then}
 use Rattle.boost_core.proofs.Vocabulary.{cases_eq, slice_get_within, get_or_from_slice_get, slice_get-get_or, Entry, Map, get, caller_of, is_began, is_commit, now, Phase, Closed, LeavingTo, Seat, RoomySeat, row, seat_after, own, log_of, stripe_of, holder_of, IsLevelIn, seat_leveled, MapJob, TableAt, Cursor, content, IsPlaced, largest_of, helps_of, length-map, length-reverse, sum_by-set, get_or-le-sum_by, All-push, is_saved, IsLegal, is_running, how_many-push, Next, seat-own, log_held, held_by, Counts, Session, Owner, holder_by, IsCovered, Side, side_of, level_of, target_in, target_of, KeepsPlaced, IsSought, IsSoughtAt, Waits, Agrees, change_of, times_kept, changes_of, AreDue, World, Tells, IsSeated, IsFresh, all_times, KeepsBuckets}
 use Rattle.txn_words.specs.declared.holder.Holder.{Holder}
 use Rattle.txn_trace.proofs.Entries.{length-log_of}
 use Rattle.boost_core.proofs.Due.{all_of_changes, due_same}
 
--- The session at another number is unchanged, and at this number it is the new one.
+-- After session `c` is set, each session is either the new one, at `c`, or an unchanged one at
+-- another number.
 pub set_cases : (sessions : List Session) (c d : ℕ) (y s : Session) → c < length sessions → slice_get (slice_set sessions c y) d ≡ Some s → ((d ≡ c) × (s ≡ y)) ⊎ ((d ≢ c) × (slice_get sessions d ≡ Some s))
 set_cases sessions c d y s within at =
     let here : get_or (set sessions c y) d y ≡ s = get_or_from_slice_get (set sessions c y) d s y at in
@@ -63,8 +64,9 @@ still_due stripes h d s room current legal is same = at s.seat.phase refl
         closed_due current (reverse s.jobs) (length-reverse s.jobs ∙ sym is.agrees.standing ∙ none)
     at q is_q = keyed (rw (is.seat, is_q) refl)
 
--- A step that adds an entry. `side` is the caller's side after the step, and `y` that side before
--- its seat enters the entry; it has no cursor. No other caller is disturbed (`apart`).
+-- A step that adds an entry. The record has the history after the entry (`next`), the caller's side
+-- before its seat enters the entry (`side`; the caller has no cursor), and the proof that no other
+-- caller is disturbed (`apart`).
 pub record Grows (w : World) (c : ℕ) (x y : Session) (t' : TableAt) (locks' : List (Option ℕ)) (counts' : Counts) (e : Entry) : Type 0 where
   pub seat : Seat
   pub committed : Map
@@ -117,7 +119,7 @@ module _ (w : World) (tells : Tells w) (c : ℕ) (x y : Session) (at : slice_get
   within : c < length w.sessions
   within = slice_get_within w.sessions c x at
 
-  -- The entry has a row in the caller's seat.
+  -- The caller's seat allows the entry, and entering it gives the seat of `Grows`.
   pub row_there : (e : Entry) (is : Grows w c x y t' locks' counts' e) → row x.seat.seat x.seat.seat.phase e ≡ Some is.seat
   row_there e is =
       let seat : seat_after (own (caller_of e) w.history) ≡ Some x.seat.seat = ap (λ k. seat_after (own k w.history)) is.mine ∙ (tells.seated c x at).seat in

@@ -52,7 +52,7 @@ becomes_tells w tells t' placed' size stored linked helps becomes many follows f
     tells_table w tells t' placed' becomes.regular follows becomes.spares
     becomes.largest (ap length becomes.helps_is ∙ many) fresh
 
--- The state after such a change, but for the nodes.
+-- The state after the buckets and the helpers change, but with the old nodes.
 abbrev pub became : World → TableAt → Option Owner → ℕ → List Bool → List Bool → List Help → State
 became w t' placed' size stored linked helps = record (state_of w) {
   history = w.history ++ [];
@@ -65,7 +65,7 @@ became w t' placed' size stored linked helps = record (state_of w) {
   placed = placed';
 }
 
--- The state after such a change.
+-- The state after the buckets and the helpers change, with the new nodes.
 pub becomes_state : (w : World) (t' : TableAt) (placed' : Option Owner) (size : ℕ) (stored linked : List Bool) (helps : List Help)
     → Becomes w.table t' size stored linked helps → state_of (served w t' placed') ≡ with_nodes t' w.sessions (became w t' placed' size stored linked helps)
 becomes_state w t' placed' size stored linked helps becomes = λ i.
@@ -96,7 +96,7 @@ quiet_move w t' size stored linked helps step answer becomes list allowed after_
     becomes_move w t' None size stored linked helps step answer becomes allowed after_is
     (omega (arith, ap (λ l. l.changes) list)) (λ kept. ap (λ l. l.changes) list) (ap (λ l. l.last) list)
 
--- The refusal of a helper's step, if it has one.
+-- The refusal of a helper's step, if the step is refused.
 abbrev pub refusal_in_result : {A : Type 0} → Result A Refusal → Option Refusal
 refusal_in_result (Ok answer) = None
 refusal_in_result (Err refusal) = Some refusal
@@ -143,7 +143,7 @@ seek_placed : (large here above : Bool) → answer_for (cond {A = Result InitSee
 seek_placed false false above is = refl
 seek_placed _ _ _ is = absurd (cc (is))
 
--- The bucket is stored already, or not yet.
+-- The answer `Ready` says that the bucket is stored, and `Placed` that it is not.
 pub ready_stored : (t : TableAt) (o : Option Help) (bucket : ℕ) → seek_answer (size_of t) (stored_of t) o bucket ≡ Ok seeks.Ready → is_set (stored_of t) bucket ≡ true
 ready_stored t None bucket is = absurd (cc (is))
 ready_stored t (Some help) bucket is = is_set_is (stored_of t) bucket ∙ seek_ready (nat_le (size_of t) bucket) (is_stored (stored_of t) bucket) (is_stored (stored_of t) (parent_of bucket)) is

@@ -1,6 +1,6 @@
 -- A call for help and the core stay in step over each move of the call, whoever else takes steps on
--- the core between them; and the call keeps to its bucket, which is stored when the call is at its
--- end.
+-- the core between two moves. The call keeps to its bucket, and this bucket is stored when the call
+-- is at its end.
 use Rattle.std.proofs.Common.{◌≡◌, ◌≢◌, ℕ, ◌*◌, ◌^◌, ◌%◌, ◌<◌, ◌≤◌, ◌==◌, ◌&&◌, nat_lt, Bool, true, false, if◌then◌else◌, List, [], ◌∷◌, length, Some, None, refl, sym, ap, subst, ◌∙◌, arith, nat_le, not, unwrap_or, slice_get, slice_set, eqb-true, lt-ltb, get_or-set_same, leb-false}
 use Rattle.boost_core.proofs.Vocabulary.{false≢true, eqb-false, mod_below, unwrap_or-slice_get, Step, Answer, Refusal, Way, child_towards, step_in, sized_in, towards, heading, refused_help, told_help, told_init_seek, told_link, told_store, told_in, IsAncestor-root, IsAncestor-child_towards, parent_of-child_towards, child_towards-le, parent_of, IsAncestor, State, Help, Nothing, Sought, Dummy, is_set, with_bucket, help_in, bucket_at, refusal_of, MayLack, has_cursor, has_dummy, first_of, Move, IsWhole, IsOnWay, HelpSuits, HelperOutOfOrder, NoMemory, NoSuchBucket, NoSuchHelper, OutOfStep, ParentMissing, StampsUsedUp}
 use Rattle.txn_drive.specs.declared.phase.Phase.{Phase}
@@ -32,8 +32,8 @@ sized m n step (answers.Doubled size) move = absurd move.allowed.1
 sized m n step (answers.Refused r) move = size_stays m n step (ap (λ (s : State). s.size) move.state)
 sized m n step _ move = size_stays m n step (ap (λ (s : State). s.size) move.state)
 
--- What holds of each phase that may come next holds of the next one: once a bucket on the way is
--- initialised, at the beginning of the way, after a refusal, and after a doubling.
+-- If each phase that may come next has a property, the next phase has it: after a bucket on the way
+-- is initialised, at the beginning of the way, after a refusal, and after a doubling.
 pub at_towards : (P : Phase → Type 0) (last target : ℕ) → (last ≡ target → P Helped) → (last ≢ target → P (Initialising (record { bucket = child_towards last target; target = target }) 0)) → P (towards last target)
 at_towards P last target there on = at (last == target) refl
   where
@@ -65,7 +65,7 @@ at_double P m n key _ move on = absurd move.allowed.1
 pub set_there : {A : Type 0} (xs : List A) (i : ℕ) (x other : A) → i < length xs → unwrap_or (slice_get (slice_set xs i x) i) other ≡ x
 set_there xs i x other within = unwrap_or-slice_get (slice_set xs i x) i other ∙ get_or-set_same xs i x other within
 
--- The bucket that the storing of a dummy stores.
+-- After the answer `Stored`, the bucket of the way is stored.
 stored_there : (m n : State) (c : ℕ) (way : Way) → IsWhole m → HelpSuits m c (Storing way) → Move m (steps.InitStore c) answers.Stored n → is_set n.stored way.bucket ≡ true
 stored_there m n c way whole suits move =
     ap (λ (s : State). is_set s.stored way.bucket) move.state ∙ ap (λ b. is_set (with_bucket m.stored b) way.bucket) suits.2
@@ -110,7 +110,7 @@ store_reaches known m n c bucket way answers.Stored suits to move =
 store_reaches known m n c bucket way (answers.Refused r) suits to move = at_refused (Reaches known n bucket) r (λ r. tt)
 store_reaches known m n c bucket way _ suits to move = tt
 
--- After a bucket on the way is initialised.
+-- The core and the call are in step again after a bucket on the way is initialised.
 help_suits_towards : (n : State) (c last target : ℕ) → target < 2 ^ 32 → IsAncestor last target → target < n.size → is_set n.stored last ≡ true → HelpSuits n c (towards last target)
 help_suits_towards n c last target small ancestor within stored =
     at_towards (HelpSuits n c) last target (λ same. tt)
@@ -132,7 +132,7 @@ help_suits_double m n c key a whole small move =
     (help_suits_towards n c 0 (key % n.size) rest_small (IsAncestor-root (key % n.size) rest_small) rest (ap (λ xs. is_set xs 0) stored ∙ whole.first))
     (λ none. absurd (false≢true (sym none ∙ (λ i. lt-ltb 0 n.size some i && lt-ltb n.size (2 ^ 32) small i)))))
 
--- If the size and the stored buckets are unchanged, a helper is still on its way.
+-- `IsOnWay` still holds if the size and the stored buckets are unchanged.
 way_stays : (m n : State) (way : Way) → n.size ≡ m.size → n.stored ≡ m.stored → IsOnWay m way → IsOnWay n way
 way_stays m n way size stored on = record {
   ancestor = on.ancestor;
@@ -167,7 +167,7 @@ help_suits_seek m n c way again a whole within on move = at a move
         (way_stays m n way (ap (λ (s : State). s.size) move.state) (ap (λ (s : State). s.stored) move.state) on, ap has_cursor sought, ap bucket_at sought)
     at _ move = absurd move.allowed.1
 
--- A link may be refused memory or a stamp, and a store memory.
+-- If a link lacks memory or a stamp, or a store lacks memory, the call may end with this refusal.
 link_lacks : (m n : State) (c : ℕ) (r : Refusal) → MayLack m (steps.InitLink c) r → HelpSuits n c (refused_help r)
 link_lacks m n c NoMemory lack = tt
 link_lacks m n c StampsUsedUp lack = tt

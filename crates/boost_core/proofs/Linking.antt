@@ -10,8 +10,8 @@ use Rattle.bucket_table.specs.declared.answer.InitRefusal.TheVariants as inits
 use Rattle.txn_words.specs.declared.step.Step.TheVariants as steps
 use Rattle.txn_words.specs.declared.answer.Answer.TheVariants as answers
 
--- InitLink. The refusal by a test, given the table's answer. Memory and stamps are not tested: a
--- refusal for the lack of them is none.
+-- InitLink. The refusal by a test, given the table's answer. A lack of memory or of stamps is no
+-- refusal by a test: it is found after all tests.
 abbrev pub refusal_by_test : Result InitLink Refusal → Option Refusal
 refusal_by_test (Err NoMemory) = None
 refusal_by_test (Err StampsUsedUp) = None
@@ -28,7 +28,8 @@ linking_test true true used = refl
 linking_test true false true = refl
 linking_test true false false = refl
 
--- What an answer tells: whether the cursor fits, the dummy is linked, and the stamps are used up.
+-- The facts that follow from an answer: whether the cursor fits, whether the dummy is linked, and
+-- whether the stamps are used up.
 abbrev Says : Result InitLink Refusal → Bool → Bool → Bool → Type 0
 Says (Ok links.Again) fitting there used = fitting ≡ false
 Says (Ok links.Present) fitting there used = there ≡ true
@@ -102,7 +103,7 @@ module _ (w : World) (helper : ℕ) (many : length (helps_of w.table) ≡ w.limi
   lacks_when sought there is =
       ap (λ n. not (is_set (linked_of w.table) n)) (bucket_had (Sought sought.bucket sought.noted) sought.had) ∙ ap not (is_set_is (linked_of w.table) sought.bucket ∙ is)
 
-  -- The lack of memory or of stamps, or a refusal by a test.
+  -- The link is refused for lack of memory or of stamps, or by a test.
   pub link_refused_move : (result : Result InitLink Refusal) → (result ≢ Err NoMemory → result ≡ answer_now) → (result ≡ Err NoMemory → answer_now ≡ Ok links.Linked) → (refusal : Refusal) → result ≡ Err refusal → (t' : TableAt) → t' ≡ w.table
       → Move before (steps.InitLink helper) (answers.Refused refusal) (state_of (served w t' w.placed))
   link_refused_move result says no_memory refusal is t' same = rw same (at refusal is)

@@ -4,12 +4,12 @@ use Rattle.boost_core.proofs.Vocabulary.{Entry, caller_of, is_began, false≢tru
 use Rattle.txn_words.specs.Packed.{holder_in, is_small}
 use Rattle.txn_words.proofs.Packing.{small_of}
 
--- A history that is legal by either rule is legal by the wider one.
+-- A history that is legal by either rule is legal by the wider rule (`Begun`).
 wider : (words : Bool) (stripes : ℕ) (h : List Entry) → IsLegal (holder_by words) stripes h → IsLegal Begun stripes h
 wider false stripes h legal = legal_begun stripes h legal
 wider true stripes h legal = legal
 
--- Who has begun is a caller.
+-- If `c` has begun a transaction, `c` is the number of a caller.
 begun_below : (callers c : ℕ) (h : List Entry) → All (λ e. caller_of e < callers) h → has_begun c h ≡ true → c < callers
 begun_below callers c [] all is = absurd (false≢true is)
 begun_below callers c (e ∷ h) all is = elim (or_cases (is_began e && caller_of e == c) (has_begun c h) is) [

@@ -50,7 +50,7 @@ fits_of l c fit =
     (ap (λ (o : Option NodeAt). is_noted o c.pred.stamp) fit.pred_is ∙ and_from (fit.pred.stamp == c.pred.stamp) (not fit.pred.marked) (eq-eqb fit.pred.stamp c.pred.stamp fit.stamp) (ap not fit.live))
     (next_noted (behind l c) c.cur fit.next)
 
--- The sort key of a node, if there is one.
+-- The sort key of a node, if there is a node.
 abbrev pub key_at : Option NodeAt → Option SortKey
 key_at o = option_map (λ (n : NodeAt). n.at) o
 
@@ -67,7 +67,7 @@ starts : (nodes : List NodeAt) → Live (first nodes) → StartsAt (seen nodes) 
 starts [] live = tt
 starts (n ∷ rest) live = λ i. record { at = n.at; marked = live i }
 
--- A node and the next one are neighbours.
+-- A node and the next node are neighbours if both are unmarked.
 beside : (nodes : List NodeAt) (place : ℕ) (n : NodeAt) → node_of nodes place ≡ Some n → n.marked ≡ false → Live (next_of nodes place) → AreNeighbours (seen nodes) (record { before = n.at; behind = key_at (next_of nodes place) })
 beside [] place n is live next = absurd (none_of_none place n is)
 beside (m ∷ rest) place n is live next = elim (cases_Bool (m.place == place)) [
@@ -92,7 +92,7 @@ beside (m ∷ rest) place n is live next = elim (cases_Bool (m.place == place)) 
 pub neighbours : (l : Listing) (c : Cursor) (fit : Fit l c) → AreNeighbours (seen l.nodes) (record { before = fit.pred.at; behind = key_at (behind l c) })
 neighbours l c fit = beside l.nodes (pred_of c) fit.pred fit.pred_is fit.live (next_live (behind l c) c.cur fit.next)
 
--- Neighbours are a node and the next one.
+-- Conversely, the second of two neighbours is the node next to the first, and is unmarked.
 abbrev NextAt : Option NodeAt → Option SortKey → Type 0
 NextAt None None = Unit {0}
 NextAt (Some n) (Some at) = (n.at ≡ at) × (n.marked ≡ false)

@@ -28,7 +28,8 @@ pub record Swept (old new : List Node) : Type 0 where
   pub new_is : new ≡ front ++ back
   pub first : IsClean front
 
--- The marked nodes before the first unmarked one that is not before the sort key were removed.
+-- A seek for a sort key has removed the marked nodes that it passed. It stops at the first unmarked
+-- node at or behind that key, or at the end of the list.
 pub record Cleaned (sort : SortKey) (old new : List Node) : Type 0 where
   pub passed : List Node
   pub back : List Node
@@ -62,7 +63,8 @@ inserted (n ∷ rest) place x linked = elim (cases_Bool (n.place == place)) [
       )
 ]
 
--- The node at a place, if the first node has this place and if it has not.
+-- The node at a place is the first node if that node has the place, and otherwise a node of the
+-- rest.
 pub node_here : (m : NodeAt) (rest : List NodeAt) (place : ℕ) (n : NodeAt) → node_of (m ∷ rest) place ≡ Some n → (m.place == place) ≡ true → m ≡ n
 unfolding node_of
 node_here m rest place n is here = cc (rw here at is)

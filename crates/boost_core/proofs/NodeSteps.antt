@@ -1,5 +1,5 @@
--- The effect of each step on the nodes, the change number and the last stamp: of a caller, and of
--- others.
+-- The effect on the nodes, the change number and the last stamp: of each step of a caller, and of
+-- each step of the table or a helper.
 use Rattle.std.proofs.Common.{◌≡◌, ◌⊎◌, ℕ, ◌-◌, ◌%◌, ◌<◌, Bool, true, false, List, [], ◌∷◌, ◌++◌, length, Option, Some, None, is_some, inl, inr, refl, sym, ap, subst, ◌∙◌, reverse, slice_get, unwrap_or, nat_lt, nat_eq, IsSome, option_map, Result, Ok, Err}
 use Rattle.boost_core.proofs.Vocabulary.{option_eq, false≢true, cases_Bool, slice_get-map, unwrap_or-slice_get, regular_at, Op, Put, Take, Get, PutIf, Refusal, Step, Answer, Phase, Waiting, LeavingTo, LeavingToEnd, Map, get, key_of, now, log_of, stripe_of, Seat, kept_at, newest_above, MapJob, Unput, Restore, Relink, length-map, reverse-append, ancestor_of, NodeAt, changes_after, sought, IsDummyAt, PendingAt, key_of_job, value_before, takes_node, IsDue, TableAt, SpareAt, KeepsNodes, KeepsList, NamesDummies, content, nodes_of, size_of, stored_of, table_changes, last_of, SeeksNear, IsRefused, Session, State, Caller, is_set, seat_in, owner_of, Touches, stamp_after, Writes, Links, Marks, SeeksFrom, SeeksKey, IsNearest, Changes, PutsIf, OpDoes, OpDoesIn, BackDoes, Lists, key_in, next_key, newest_key, Does, ActsIn, DoesIn, TakesBackIn, SeeksIn, IsAsked, AsksBy, unless_busy, Waits, AreDue, key_of_newest, target_in, target_of, changes_of, Claim, Lock, Right, IsClaim, ListsAsk, ListsBy, stamp_by, World, Tells, state_of, node_at, NoMemory, StaleWord, Abort, Act, Ask, Back, Begin, Commit, Save, Seek, dummy_at, InitSeek, InitLink, SweepOutcome, dummy_node, Sweeps, Seeking, SeekChanges, LinkChanges, Help, Nothing, helps_of, help_in, bucket_at, Serves, Sweeping}
 use Rattle.boost_core.specs.Nodes.{Keeps}
@@ -19,7 +19,7 @@ use Rattle.map_ops.specs.InitLink.TheVariants as links
 use Rattle.map_ops.specs.SweepOutcome.TheVariants as outcomes
 use Rattle.boost_core.specs.Serves as said
 
--- The changes to the list from an equal state.
+-- The effect on the list of a step from an equal state.
 pub lists_of : (state old new : State) (step : Step) (answer : Answer) → state ≡ old → Lists state step answer new → Lists old step answer new
 lists_of state old new step answer is lists = subst (λ s. Lists s step answer new) is lists
 
@@ -199,7 +199,8 @@ module _ (w : World) (tells : Tells w) (c : ℕ) (x : Session) (at : slice_get w
     not_stale op (inl is) = cc (is)
     not_stale op (inr is) = is
 
-    -- A stale right has used up a stamp if the operation takes a node; a word uses none.
+    -- A stale right has used up a stamp if the operation takes a node; a claim by a word uses no
+    -- stamp.
     asked_with : (op : Op) (stripe : ℕ) (own : Answer) → IsAsked c stripe op x w.table w.locks own y w'.table locks' → ListsAsk Right (state_of w) (Ask c op) (unless_busy own) (state_of w')
     asked_with op stripe answers.Asked is = let lists = asked op stripe answers.Asked is in record { nodes = lists.nodes; stamp = lists.stamp }
     asked_with op stripe (answers.Busy holder) is = let lists = asked op stripe (answers.Busy holder) is in record { nodes = lists.nodes; stamp = lists.stamp }
@@ -222,7 +223,8 @@ module _ (w : World) (tells : Tells w) (c : ℕ) (x : Session) (at : slice_get w
     acted answers.Aborted is = record { nodes = same w w' is.2; stamp = ap last_of is.2 }
     acted _ is = absurd is
 
--- The effect on the list of each step of a caller that claims no word, and by its claim.
+-- The effect on the list of each step of a caller: first of a step that claims no word, then of a
+-- step with any claim.
 module _ (w : World) (tells : Tells w) (x : Session) (w' : World) (y : Session) (locks' : List (Option ℕ)) where
   locked : NamesDummies w.table → (stripes : ℕ) (step : Step) → slice_get w.sessions (caller_in (owner_of step)) ≡ Some x
       → (answer : Answer) → Does Lock stripes w.counts step x w.table w.locks answer y w'.table locks'

@@ -1,5 +1,5 @@
--- What the core counts beside its history: transactions, the entries that are owed, and the callers
--- that have begun.
+-- Beside its history the core counts transactions and the entries that are owed, and notes which
+-- callers have begun.
 use Rattle.std.proofs.Common.{◌≡◌, ◌+◌, ◌≤◌, ℕ, Bool, true, false, Result, Ok, Err, List, length, arith, is_err, OnOk, OnErr, suc, [], ◌∷◌, Some, refl, sym, ap, ◌∙◌, slice_get, sum_by, ◌<◌, ◌||◌, ◌++◌, replicate, Option, None, option_to_list, lt-ltb, append-nil, length-set, get_or-set_same, get_or-set_other, inl, inr}
 use Rattle.boost_core.proofs.Vocabulary.{length-filter, count_by-le-length, Entry, is_began, is_commit, how_many, World, Tells, range_with_len, sum_by-cons, seat_after, own, owed_by, owed, owed_of, or-false, cases_eq, cases_lt, or_right, length-replicate, get_or-replicate, get_or_past, caller_of, Began, has_begun, has_begun-own, has_begun-other}
 use Rattle.boost_core.specs.Begun.{begun_with, AreNoted}
@@ -17,17 +17,18 @@ committed_bound w tells = omega (arith, tells.commits, how_many_bound is_commit 
 pub no_more : (n : ℕ) → n ≡ n + 0
 no_more n = omega arith
 
--- A statement about the value of a result that is no error.
+-- If a result is no error, a statement about its value holds.
 pub when_ok : {A E P : Type 0} (r : Result A E) → false ≡ is_err r → OnOk r P → P
 when_ok (Ok a) fine p = p
 when_ok (Err e) fine p = absurd (cc (fine))
 
--- A statement about the error of a result that is one.
+-- If a result is an error, a statement about the error holds.
 pub when_err : {A E P : Type 0} (r : Result A E) → true ≡ is_err r → OnErr r P → P
 when_err (Ok a) wrong p = absurd (cc (wrong))
 when_err (Err e) wrong p = p
 
--- A sum over the positions of a list, if each summand is that of the element.
+-- If `f` at each position of a list equals `g` of the element there, the sum of `f` over the
+-- positions is the sum of `g` over the elements.
 sum_of_places : {X : Type 0} (f : ℕ → ℕ) (g : X → ℕ) (a : ℕ) (xs : List X) → ((i : ℕ) (x : X) → slice_get xs i ≡ Some x → f (a + i) ≡ g x) → sum_by f (range_with_len a (length xs)) ≡ sum_by g xs
 sum_of_places f g a [] same = refl
 sum_of_places f g a (x ∷ xs) same =
@@ -45,7 +46,7 @@ owed_is w tells =
     ap (λ n. sum_by (λ c. owed_by (seat_after (own c w.history))) (range_with_len 0 n)) (sym tells.count)
     ∙ sum_of_places (λ c. owed_by (seat_after (own c w.history))) owed_of 0 w.sessions (λ c s at. ap (λ k. owed_by (seat_after (own k w.history))) (from_none c) ∙ ap owed_by (tells.seated c s at).seat)
 
--- An entry that begins nothing.
+-- An entry other than `Began` leaves the notes of who has begun unchanged.
 stays : (c : ℕ) (h : List Entry) (e : Entry) → is_began e ≡ false → has_begun c (h ++ e ∷ []) ≡ has_begun c h
 stays c h e begins = elim (cases_eq c (caller_of e)) [
   | inl mine ↦ rw (mine, has_begun-own h e, begins) (or-false (has_begun (caller_of e) h))

@@ -12,19 +12,20 @@ use Rattle.boost_core.proofs.Spares.{buckets_same}
 use Rattle.txn_words.specs.declared.step.Step.TheVariants as steps
 use Rattle.txn_words.specs.declared.answer.Answer.TheVariants as answers
 
--- One more entry, or none.
+-- A step adds no entry, as `Stays` says, or one entry, as `Grows` says.
 abbrev pub Comes : World → ℕ → Session → Session → TableAt → List (Option ℕ) → Counts → List Entry → Type 0
 Comes w c x y t' locks' counts' [] = Stays w c x y t' locks' counts'
 Comes w c x y t' locks' counts' (e ∷ []) = Grows w c x y t' locks' counts' e
 Comes w c x y t' locks' counts' (e ∷ f ∷ es) = ⊥
 
--- The outcome of a step of a caller, whatever seat enters the added entry.
+-- The outcome of a step of a caller. Its move is made, and its new cursor fits, for every seat that
+-- the caller may have after the added entry.
 pub record CalledBy (claim : Claim) (w : World) (c : ℕ) (x : Session) (step : Step) (answer : Answer) (y : Session) (t' : TableAt) (locks' : List (Option ℕ)) : Type 0 where
   pub comes : Comes w c x y t' locks' (counts_after w.counts answer) (entries_of step answer)
   pub move : (seat' : RoomySeat) → Goes claim (state_of w) step answer (state_of (world_after w c (seated_as y seat') (w.history ++ entries_of step answer) (counts_after w.counts answer) t' locks' (placed_then w.placed step answer)))
   pub fresh : (seat' : RoomySeat) → IsFresh t' (slice_set w.sessions c (seated_as y seat')) (placed_then w.placed step answer)
 
--- A step that claims no word.
+-- The outcome of a step whose claim is a lock.
 abbrev pub Called : World → ℕ → Session → Step → Answer → Session → TableAt → List (Option ℕ) → Type 0
 Called w c x step answer y t' locks' = CalledBy Lock w c x step answer y t' locks'
 
@@ -53,21 +54,21 @@ entered w c x y t' locks' step answer e cursors one unplaced after_is dropped al
   fresh = λ seat'. subst (IsFresh t' (slice_set w.sessions c (seated_as y seat'))) (sym unplaced) tt;
 }
 
--- A claim for a step of an equal state.
+-- A step has the same claim and the same outcome in an equal state.
 pub claims_of : (claim : Claim) (state old : State) (step : Step) → state ≡ old → IsClaim claim old step → IsClaim claim state step
 claims_of claim state old step is claims = subst (λ s. IsClaim claim s step) (sym is) claims
 
 pub goes_of : (claim : Claim) (state old new : State) (step : Step) (answer : Answer) → state ≡ old → Goes claim state step answer new → Goes claim old step answer new
 goes_of claim state old new step answer is goes = subst (λ s. Goes claim s step answer new) is goes
 
--- Whether a refusal of an Ask follows all of its tests.
+-- Whether an Ask that has passed all of its tests may still get this refusal.
 abbrev pub is_late : Refusal → Bool
 is_late NoMemory = true
 is_late StampsUsedUp = true
 is_late StaleWord = true
 is_late _ = false
 
--- Whether a refusal is that of a stale right.
+-- Whether a refusal says that the claim, a right or a word, is stale.
 abbrev pub is_stale_word : Refusal → Bool
 is_stale_word StaleWord = true
 is_stale_word _ = false
@@ -83,7 +84,7 @@ first_early (test ∷ tests) early refusal is = next_early test.0 test.1 refusal
 pub ask_early : (state : State) (c : ℕ) (op : Op) (refusal : Refusal) → refusal_of state (steps.Ask c op) ≡ Some refusal → is_late refusal ≡ false
 ask_early state c op refusal is = first_early (tests_of state (owner_of (steps.Ask c op)) (steps.Ask c op)) (refl, (refl, (refl, (refl, (refl, (refl, tt)))))) refusal is
 
--- A refusal that may be the answer with every claim.
+-- Every claim allows the refusals that are not late.
 may_refuse : (claim : Claim) (refusal : Refusal) → is_late refusal ≡ false → may_come claim (answers.Refused refusal) ≡ true
 may_refuse Lock refusal early = refl
 may_refuse Right refusal early = refl
@@ -95,7 +96,7 @@ goes_early : (claim : Claim) (state : State) (step : Step) (refusal : Refusal) �
 goes_early Lock state step refusal early move = move
 goes_early claim state step refusal early move = inr (may_refuse claim refusal early, move)
 
--- If a claim reserves something, memory may be refused.
+-- A claim that reserves room for the step allows the refusal `NoMemory`.
 pub goes_lacking : (claim : Claim) (state : State) (step : Step) → 0 < reserved_by claim step → Move state step (answers.Refused NoMemory) state → Goes claim state step (answers.Refused NoMemory) state
 goes_lacking Lock state step some move = move
 goes_lacking Right state step some move = inr (refl, move)
@@ -106,8 +107,8 @@ pub reserved_least : (claim : Claim) (step : Step) → reserved_by claim step �
 reserved_least Lock step = omega arith
 reserved_least _ step = omega arith
 
--- A refusal by a test may be the answer with every claim: the claim is a lock, or the refusal is
--- not a late one.
+-- If a test refuses a step, the claim is a lock, or the refusal is not late. So the claim allows
+-- the refusal.
 early_or_lock : (claim : Claim) (state : State) (step : Step) (refusal : Refusal) → IsClaim claim state step → refusal_of state step ≡ Some refusal → (claim ≡ Lock) ⊎ (is_late refusal ≡ false)
 early_or_lock Lock state step refusal claims is = inl refl
 early_or_lock _ state (steps.Ask c op) refusal claims is = inr (ask_early state c op refusal is)
@@ -132,7 +133,7 @@ reserved_few (steps.Ask c (Put k v)) = omega arith
 reserved_few (steps.Ask c _) = omega arith
 reserved_few _ = omega arith
 
--- A step that reserves something may be refused memory, if no test refuses it.
+-- If no test refuses a step that reserves room, the answer may be the refusal `NoMemory`.
 pub no_memory : (state : State) (step : Step) → refusal_of state step ≡ None → (0 < reserved step) → Move state step (answers.Refused NoMemory) state
 no_memory state (steps.Begin c) none some = lacks state (steps.Begin c) NoMemory none tt
 no_memory state (steps.Ask c op) none some = lacks state (steps.Ask c op) NoMemory none tt
@@ -140,11 +141,11 @@ no_memory state (steps.Save c) none some = lacks state (steps.Save c) NoMemory n
 no_memory state (steps.Back c n) none some = lacks state (steps.Back c n) NoMemory none tt
 no_memory state _ none some = absurd (omega arith)
 
--- For each entry at most this number is reserved.
+-- For each entry of the list, at most `n` entries are reserved.
 abbrev AreWithin : ℕ → List Entry → Type 0
 AreWithin n es = AllByRecursion (λ (e : Entry). reserved_for e ≤ n) es
 
--- A refusal adds no entry, and a Busy entry is owed already.
+-- A refusal adds no entry. A Busy entry reserves nothing, since it is owed already.
 refused_within : (n : ℕ) (step : Step) (refusal : Refusal) → AreWithin n (entries_of step (answers.Refused refusal))
 refused_within n (steps.Begin c) refusal = tt
 refused_within n _ refusal = tt
@@ -153,7 +154,7 @@ busy_within : (n : ℕ) (step : Step) (x : ℕ) → AreWithin n (entries_of step
 busy_within n (steps.Ask c op) x = (omega arith, tt)
 busy_within n _ x = tt
 
--- So the claim reserves enough for the entry of a step.
+-- So the claim reserves enough for the entry that the step adds.
 may_within : (claim : Claim) (step : Step) (answer : Answer) → may_come claim answer ≡ true
     → AreWithin (reserved_by claim step) (entries_of step answer)
 may_within Lock step answer may = reserved_enough step answer
@@ -170,7 +171,7 @@ goes_within claim state new step answer (inl stale) =
     (refused_within (reserved_by claim step) step StaleWord)
 goes_within claim state new step answer (inr goes) = may_within claim step answer goes.0
 
--- At most as many changes stand as entries are owed.
+-- A caller owes at least one entry for each change that stands.
 standing_owed : (q : Phase) (standing : ℕ) (kept : List ℕ) → IsLevelIn q standing kept → standing ≤ owed_in standing q
 standing_owed Closed standing kept is = let none : standing ≡ 0 = is.0 in omega arith
 standing_owed _ standing kept is = omega arith
@@ -182,7 +183,7 @@ module _ (w : World) (tells : Tells w) (c : ℕ) (x y : Session) (at : slice_get
   grows : (e : Entry) → option_to_list (Some e) ≡ entries_of step answer → Grows w c x y t' locks' (counts_after w.counts answer) e
   grows e is = subst (Comes w c x y t' locks' (counts_after w.counts answer)) (sym is) called.comes
 
-  -- The added entry has a row in the caller's seat, and the claim reserves enough for it.
+  -- The caller's seat has a row for the added entry, and the claim reserves enough for the entry.
   row_is : (e : Entry) (is : option_to_list (Some e) ≡ entries_of step answer) → row x.seat.seat x.seat.seat.phase e ≡ Some (grows e is).seat
   row_is e is = row_there w tells c x y at t' locks' (counts_after w.counts answer) e (grows e is)
 
@@ -196,11 +197,11 @@ module _ (w : World) (tells : Tells w) (c : ℕ) (x y : Session) (at : slice_get
   same_owed : (o : Option Entry) → option_to_list o ≡ entries_of step answer → owed_in y.seat.seat.standing y.seat.seat.phase ≡ owed_of x
   same_owed o is = ap (λ (s : Seat). owed_in s.standing s.phase) (same_seat o is)
 
-  -- The entry is of one of the callers.
+  -- The caller of the added entry is one of the core's callers.
   pub called_caller : (o : Option Entry) → option_to_list o ≡ entries_of step answer → (e : Entry) → o ≡ Some e → caller_of e < w.limits.callers
   called_caller o is e some = omega (arith, (grows e (rw some at is)).mine, tells.count, slice_get_within w.sessions c x at)
 
-  -- The entry that the step adds may be added.
+  -- The entry that the step adds, if it adds one, fits the caller's seat and the history's room.
   pub can_add : (o : Option Entry) → option_to_list o ≡ entries_of step answer → (len cap owed : ℕ) → owed ≡ sum_by owed_of w.sessions → len + (owed + reserved_by claim step) ≤ cap → cap < 2 ^ 63 → w.limits.callers ≤ 64 → CanAdd y.seat len cap owed o
   can_add None is len cap owed owes room small few_callers = omega (arith, one_of_sum owed_of w.sessions c x at, same_owed None is)
   can_add (Some e) is len cap owed owes room small few_callers =
@@ -244,7 +245,7 @@ module _ (w : World) (tells : Tells w) (c : ℕ) (x y : Session) (at : slice_get
   called_room seat' (Some e) is entered len cap room =
       omega (arith, room, sum_changed owed_of w.sessions c x (seated_as y seat') at, owed_by-row y.seat.seat seat'.seat e entered, same_owed (Some e) is, few e is)
 
-  -- The move.
+  -- The step leads to the state after it, as its claim allows.
   pub called_move : (seat' : RoomySeat) (o : Option Entry) → option_to_list o ≡ entries_of step answer → (h' : List Entry) → h' ≡ w.history ++ option_to_list o
       → Goes claim (state_of w) step answer (state_of (world_after w c (seated_as y seat') h' (counts_after w.counts answer) t' locks' (placed_then w.placed step answer)))
   called_move seat' o is h' pushed = rw (pushed, is) (called.move seat')

@@ -2,7 +2,7 @@
 use Rattle.std.proofs.Common.{◌≡◌, ℕ, ◌<◌, Bool, true, false, cond, List, [], ◌∷◌, ◌++◌, length, get_or, Option, Some, None, is_some, refl, sym, ap, ◌∙◌, arith, nat_le, not, map, slice_get, unwrap_or, leb-false, option_map, length-set, slice_set, get_or-set_same}
 use Rattle.boost_core.proofs.Vocabulary.{lt-leb, not-false, false≢true, slice_get-map, slice_get-get_or, Refusal, Step, Phase, Closed, Opened, Waiting, Seat, closed_seat, TableAt, Cursor, cursor_changes, NoSuchCaller, Unplaced, Begin, Act, Back, Commit, Abort, Session, State, Owner, Caller, seat_in, caller_changes, owner_of, is_closed, is_waiting, is_leaving, tests_in, tests_of, first_of, refusal_in, refusal_of, lacks_in, lacks_cursor, IsSoughtAt, World, Tells, state_of, session_changes}
 
--- The first option, or the second if there is none.
+-- The first option if it is a refusal, or else the second option.
 abbrev pub or_else : Option Refusal → Option Refusal → Option Refusal
 or_else None other = other
 or_else (Some refusal) other = Some refusal
@@ -23,7 +23,7 @@ or_else_none : (one other : Option Refusal) → or_else one other ≡ None → (
 or_else_none None other none = (refl, none)
 or_else_none (Some refusal) other none = absurd (cc (none))
 
--- The number of the caller that owns a step.
+-- The number of the caller that owns a step, or 0 if no caller owns it.
 abbrev pub caller_in : Option Owner → ℕ
 caller_in (Some (Caller c)) = c
 caller_in _ = 0
@@ -91,13 +91,13 @@ pub no_cursor : (t : TableAt) (cursor : Option Cursor) → IsSoughtAt t cursor N
 no_cursor t None sought = refl
 no_cursor t (Some cursor) sought = absurd sought
 
--- A cursor has a change number.
+-- There is a change number exactly if there is a cursor.
 pub noted_some : (o : Option Cursor) → is_some (option_map cursor_changes o) ≡ is_some o
 noted_some None = refl
 noted_some (Some cursor) = refl
 
 module _ (w : World) (tells : Tells w) (c : ℕ) (x : Session) (at : slice_get w.sessions c ≡ Some x) where
-  -- A caller's seat and its cursor's change number are the machine's.
+  -- The machine's state has the seat of the caller's session, and the change number of its cursor.
   pub seat_here : seat_in w.history c ≡ x.seat.seat
   seat_here = ap (λ o. unwrap_or o closed_seat) (tells.seated c x at).seat
 
@@ -115,14 +115,14 @@ module _ (w : World) (tells : Tells w) (c : ℕ) (x : Session) (at : slice_get w
       ∙ ap (λ b. cond b (Some NoSuchCaller) (or_else (refusal_in w.limits.half (seat_in w.history c) step) (cond (lacks_in (seat_in w.history c) (is_some (caller_changes (map session_changes w.sessions) c)) step) (Some Unplaced) None))) within
       ∙ (λ i. or_else (refusal_in w.limits.half (seat_here i) step) (cond (lacks_in (seat_here i) (changes_is_some i) step) (Some Unplaced) None))
 
-  -- A step that nothing refuses is not refused by the caller's side.
+  -- If nothing refuses a step, the caller's seat does not refuse it, and no cursor is missing.
   pub seat_free : (step : Step) → owner_of step ≡ Some (Caller c) → refusal_of (state_of w) step ≡ None → refusal_in w.limits.half x.seat.seat step ≡ None
   seat_free step owner none = ap (λ s. refusal_in w.limits.half s step) (sym seat_here) ∙ (free (state_of w) c step owner none).seat
 
   pub cursor_free : (step : Step) → owner_of step ≡ Some (Caller c) → refusal_of (state_of w) step ≡ None → lacks_in x.seat.seat (is_some x.cursor) step ≡ false
   cursor_free step owner none = (λ i. lacks_in (sym seat_here i) (sym changes_is_some i) step) ∙ (free (state_of w) c step owner none).cursor
 
--- If the seat refuses, that is the refusal; if it does not, the refusal is the missing cursor.
+-- If the first option is a refusal, `or_else` answers it.
 pub or_else_some : (one other : Option Refusal) → is_some one ≡ true → or_else one other ≡ one
 or_else_some None other some = absurd (false≢true some)
 or_else_some (Some refusal) other some = refl
@@ -131,7 +131,7 @@ pub not_some : {A : Type 0} (one : Option A) → is_some one ≡ false → one �
 not_some None none = refl
 not_some (Some x) none = absurd (false≢true (sym none))
 
--- An element at its position.
+-- If `get_or` finds `x` at a position within the list, `slice_get` finds it too.
 pub index_at : {A : Type 0} (xs : List A) (i : ℕ) (x : A) → i < length xs → x ≡ get_or xs i x → slice_get xs i ≡ Some x
 index_at xs i x within is = slice_get-get_or xs i x within ∙ ap Some (sym is)
 
@@ -144,14 +144,15 @@ le_false a b less = lt-leb a b less
 pub lacking : (one : Option Refusal) (b value : Bool) → one ≡ None → b ≡ value → or_else one (cond b (Some Unplaced) None) ≡ cond value (Some Unplaced) None
 lacking one b value none is = rw (none, is) refl
 
--- A step that nothing refuses in an equal state: nothing refuses it here, and its caller has a side.
+-- If nothing refuses a step in a state that is equal to the state of `w`, then nothing refuses it
+-- in the state of `w`, and its caller has a session.
 pub free_at : (w : World) (old : State) → Tells w → state_of w ≡ old → (c : ℕ) (step : Step) → owner_of step ≡ Some (Caller c) → (r : Option Refusal) → r ≡ refusal_of old step → r ≡ None → (x : Session) → x ≡ get_or w.sessions c x
     → (refusal_of (state_of w) step ≡ None) × (slice_get w.sessions c ≡ Some x)
 free_at w old tells view c step owner r says none x is =
     let nothing = ap (λ (s : State). refusal_of s step) view ∙ sym says ∙ none in
     (nothing, index_at w.sessions c x (omega (arith, tells.count, leb-false w.limits.callers c (free (state_of w) c step owner nothing).within)) is)
 
--- The refusal of a step in an equal state, from its caller's side.
+-- The refusal of a step, from its caller's side, in a state that is equal to the state of `w`.
 pub refusal_at : (w : World) (old : State) → Tells w → state_of w ≡ old → (c : ℕ) (x : Session) → x ≡ get_or w.sessions c x → (step : Step) → owner_of step ≡ Some (Caller c) → c < w.limits.callers
     → refusal_of old step ≡ or_else (refusal_in w.limits.half x.seat.seat step) (cond (lacks_in x.seat.seat (is_some x.cursor) step) (Some Unplaced) None)
 refusal_at w old tells view c x is step owner within =

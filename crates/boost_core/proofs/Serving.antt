@@ -25,7 +25,7 @@ lt_not_le a b = elim (cases_lt a b) [
 
 module _ (w : World) (tells : Tells w) (parents : HasParents w.table)
     (t' : TableAt) (follows : Follows w.table t') (rises : table_changes w.table ≤ table_changes t') where
-  -- Nothing has changed.
+  -- If the table is unchanged, the invariants still hold.
   same_tells : t' ≡ w.table → Tells (served w t' w.placed)
   same_tells same = rw same tells
 
@@ -78,7 +78,7 @@ module _ (w : World) (tells : Tells w) (parents : HasParents w.table)
     move = store_refused_move w t' h tells.helpers is.outcome is.says is.no_memory is.lacks refusal says changes;
   }
 
-  -- The size after each answer of a doubling.
+  -- The outcome of a doubling is an answer that the state allows.
   doubling : (seen : ℕ) (outcome : Double) (one two three : Bool) → (size_of w.table == seen) ≡ one → (size_of w.table == w.limits.buckets) ≡ two → nat_le (count_of (now w.history)) (2 * size_of w.table) ≡ three
       → outcome ≡ cond (not one) (doubles.Moved (size_of w.table)) (cond two doubles.AtLimit (cond three doubles.Light (doubles.Doubled (2 * size_of w.table)))) → IsAnswer (state_of w) (steps.Double seen) (said.doubled outcome)
   doubling seen outcome false two three at top few is = rw is (refl, ap not at)

@@ -22,7 +22,7 @@ at_last jobs front job is =
     ∙ slice_get-get_or (front ++ job ∷ []) (length (front ++ job ∷ []) - 1) job (omega (arith, length_push front job))
     ∙ ap Some (get_or_push front job job (length (front ++ job ∷ []) - 1) (omega (arith, length_push front job)))
 
--- If a change is above a level, the newest one is the last.
+-- If the log has a change above level `n`, the newest such change is the last job.
 pub newest_is : (log : Log MapJob) (n : ℕ) → nat_lt (kept_at log.kept n) (length log.jobs) ≡ true → (last : Last log.jobs) × (newest_above log n ≡ Some last.job)
 newest_is log n more =
     let last = last_job log.jobs (omega (arith, ltb-true (kept_at log.kept n) (length log.jobs) more)) in

@@ -40,7 +40,7 @@ times_unlike spare place stamp unlike = ap (λ b. cond b 1 0) (and_right (spare.
 times_is : (spare : SpareAt) (place stamp : ℕ) → place ≡ spare.place → stamp ≡ spare.stamp → times_of (Some spare) place stamp ≡ 1
 times_is spare place stamp at is = ap (λ (p : ℕ). times_of (Some spare) p stamp) at ∙ ap (λ (s : ℕ). times_of (Some spare) spare.place s) is ∙ times_here spare
 
--- After a spare is given up, the others are kept as before.
+-- After a spare is given up, the spares that are out are exactly the others that are kept.
 pub spent : (t t' : TableAt) (spare : Option SpareAt) (others : ℕ → ℕ → ℕ) → Spends t t' spare → IsCovered (λ place stamp. others place stamp + times_of spare place stamp) t → IsCovered others t'
 spent t t' None others is covered place stamp = omega (arith, times_same t t' place stamp (is place), covered place stamp)
 spent t t' (Some spare) others is covered place stamp = elim (cases_eq place spare.place) [
@@ -54,7 +54,8 @@ spent t t' (Some spare) others is covered place stamp = elim (cases_eq place spa
       ]
 ]
 
--- A new spare is kept beside the others.
+-- After a new spare is given, the spares that are out are exactly this spare and the others that
+-- are kept.
 pub given : (t t' : TableAt) (spare : SpareAt) (others : ℕ → ℕ → ℕ) → GivesSpare t t' spare → IsCovered others t → IsCovered (λ place stamp. others place stamp + times_of (Some spare) place stamp) t'
 given t t' spare others gives covered place stamp = elim (cases_eq place spare.place) [
   | inr other ↦ omega (arith, times_same t t' place stamp (gives.others place other), covered place stamp, times_away spare place stamp (λ e. other (sym e)))
@@ -69,21 +70,21 @@ given t t' spare others gives covered place stamp = elim (cases_eq place spare.p
       ]
 ]
 
--- If the same spares are out, the same are kept.
+-- If the same spares are out after a step, they are still exactly the spares that are kept.
 pub still_covered : (t t' : TableAt) (kept : ℕ → ℕ → ℕ) → KeepsSpares t t' → IsCovered kept t → IsCovered kept t'
 still_covered t t' kept same covered place stamp = covered place stamp ∙ sym (times_same t t' place stamp (same place))
 
--- If no spare is out, none is kept.
+-- If no spare is out and none is kept, the spares that are out are exactly those that are kept.
 pub none_covered : (t : TableAt) (kept : ℕ → ℕ → ℕ) → ((place : ℕ) → spare_out t place ≡ None) → ((place stamp : ℕ) → kept place stamp ≡ 0) → IsCovered kept t
 none_covered t kept none_out none_kept place stamp = none_kept place stamp ∙ sym (times_none t place stamp (none_out place))
 
--- A spare that is kept once belongs to the table.
+-- A spare that is kept, if there is one, belongs to the table.
 pub owns_if : (t : TableAt) (spare : Option SpareAt) (kept : ℕ → ℕ → ℕ) → ((place stamp : ℕ) → times_of spare place stamp ≤ kept place stamp) → IsCovered kept t → OwnsIf t spare
 owns_if t None kept few covered = tt
 owns_if t (Some spare) kept few covered = kept_owned kept t spare.place spare.stamp covered (omega (arith, times_here spare, few spare.place spare.stamp))
 
--- What is given to a prepared operation: a spare if it takes a node, which is kept beside the others
--- and has a new stamp.
+-- A prepared operation is given a spare exactly if it takes a node. The spare has a new stamp, and
+-- is kept beside the others.
 pub record Given (t t' : TableAt) (takes : Bool) (spare : Option SpareAt) : Type 0 where
   pub has : is_some spare ≡ takes
   pub stamped : (not takes || not (last_of t == 2 ^ 64 - 2)) ≡ true
@@ -92,7 +93,7 @@ pub record Given (t t' : TableAt) (takes : Bool) (spare : Option SpareAt) : Type
   pub most : last_of t' ≤ last_of t + 1
   pub covered : (others : ℕ → ℕ → ℕ) → IsCovered others t → IsCovered (λ place stamp. others place stamp + times_of spare place stamp) t'
 
--- Each case of a spare that is given or not.
+-- `GivesFor` implies `Given`, both with a spare and without one.
 pub given_for : (t t' : TableAt) (takes : Bool) (spare : Option SpareAt) → GivesFor t t' takes spare → Given t t' takes spare
 given_for t t' true (Some spare) gives = record {
   has = refl;
@@ -135,11 +136,11 @@ rests_more t0 t t' spare rests back follows = record {
   placed = record { placed = λ cursor key is. follows.placed cursor key (rests.placed.placed cursor key is); sound = λ sound. follows.list.sound (rests.placed.sound sound) };
 }
 
--- How often one more job keeps a spare.
+-- A list with one more job owns the job's spare once more, and each other spare as often as before.
 pub times_more : (jobs : List MapJob) (job : MapJob) (place stamp : ℕ) → times_in (jobs ++ job ∷ []) place stamp ≡ times_in jobs place stamp + times_of (spare_of_job job) place stamp
 times_more jobs job place stamp = sum_by_push (λ (j : MapJob). times_of (spare_of_job j) place stamp) jobs job
 
--- The same, of a list that has one more job.
+-- The same for a list `jobs` that is equal to `jobs'` and one more job.
 pub times_pushed : (jobs jobs' : List MapJob) (job : MapJob) (place stamp : ℕ) → jobs ≡ jobs' ++ job ∷ [] → times_in jobs place stamp ≡ times_in jobs' place stamp + times_of (spare_of_job job) place stamp
 times_pushed jobs jobs' job place stamp is = ap (λ js. times_in js place stamp) is ∙ times_more jobs' job place stamp
 
@@ -148,7 +149,8 @@ pub newest_owned : (t : TableAt) (jobs jobs' : List MapJob) (job : MapJob) → j
 newest_owned t jobs jobs' job is others covered =
     owns_if t (spare_of_job job) (λ place stamp. others place stamp + times_in jobs place stamp) (λ place stamp. omega (arith, times_pushed jobs jobs' job place stamp is)) covered
 
--- After the newest job is given up, the spares of the others are still covered.
+-- After the newest job is removed and its spare is given back, the spares that are out are still
+-- exactly those that are kept.
 pub popped_covered : (t t' : TableAt) (jobs jobs' : List MapJob) (job : MapJob) → jobs ≡ jobs' ++ job ∷ [] → GivesBack t t' (spare_of_job job)
     → (others : ℕ → ℕ → ℕ) → IsCovered (λ place stamp. others place stamp + times_in jobs place stamp) t → IsCovered (λ place stamp. others place stamp + times_in jobs' place stamp) t'
 popped_covered t t' jobs jobs' job is back others covered =

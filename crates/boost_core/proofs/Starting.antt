@@ -7,7 +7,7 @@ use Rattle.boost_core.proofs.NodeLists.{node_here, node_later, none_of_none}
 use Rattle.boost_core.proofs.Spares.{none_covered}
 use Rattle.std.specs.Int.Count.{ones_step}
 
--- 2 to some number.
+-- The number is a power of two.
 abbrev pub IsPower : ℕ → Type 0
 IsPower n = (exponent : ℕ) × (n ≡ 2 ^ exponent)
 
@@ -29,18 +29,18 @@ power_below (suc d) n most one =
 pub power_from_test : (n : ℕ) → is_power_of_two n ≡ true → IsPower n
 power_from_test n is = power_below n n (omega arith) (eqb-true (count_ones n) 1 is)
 
--- The number of buckets within the limits.
+-- If the three numbers are within the limits, the number of buckets is a power of two.
 pub buckets_power : (callers stripes buckets : ℕ) → are_limits callers stripes buckets ≡ true → IsPower buckets
 buckets_power callers stripes buckets are = power_from_test buckets (and_parts _ (is_power_of_two buckets) are).1
 
--- The numbers of callers and stripes within the limits.
+-- If the three numbers are within the limits, there are at most 64 callers and at least one stripe.
 pub few_callers : (callers stripes buckets : ℕ) → are_limits callers stripes buckets ≡ true → callers ≤ 64
 few_callers callers stripes buckets are = grind arith
 
 pub some_stripe : (callers stripes buckets : ℕ) → are_limits callers stripes buckets ≡ true → 0 < stripes
 some_stripe callers stripes buckets are = grind arith
 
--- A list whose elements all have one image.
+-- If `f` maps every element of a list to `b`, the mapped list has only copies of `b`.
 image_is : {A B : Type 0} (f : A → B) (b : B) (xs : List A) → ((x : A) (k : ℕ) → slice_get xs k ≡ Some x → f x ≡ b) → map f xs ≡ replicate (length xs) b
 image_is f b [] all = refl
 image_is f b (x ∷ xs) all = λ i. all x 0 refl i ∷ image_is f b xs (λ y k at. all y (suc k) at) i

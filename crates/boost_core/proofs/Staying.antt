@@ -76,7 +76,7 @@ module _ (t t' : TableAt) (spread : IsSpread (nodes_of t')) where
     acted c answers.Aborted is = same is.2
     acted c _ is = absurd is
 
-    -- The parts that each step of a caller leaves unchanged.
+    -- Each step of a caller leaves unmarked nodes linked, and buckets and helpers unchanged.
     pub does_stay : (claim : Claim) (stripes : ℕ) (counts : Counts) (step : Step) (answer : Answer)
         → Does claim stripes counts step x t locks answer y t' locks' → Leaves t t'
     does_stay claim stripes counts (Begin d) (answers.Began n) is = same is.2

@@ -19,11 +19,11 @@ pub record Becomes (old new : TableAt) (size : ℕ) (stored linked : List Bool) 
   pub linked_is : linked_of new ≡ linked
   pub helps_is : helps_of new ≡ helps
 
--- The state of a helper, from the table's.
+-- The state of helper `h` in `helps_of` is the state that the table's buckets have for `h`.
 pub help_is : (t : TableAt) (h : ℕ) (had : TableHelper) → helper_of t.buckets h ≡ Some had → slice_get (helps_of t) h ≡ Some (help_of had)
 help_is t h had is = slice_get-map help_of t.buckets.helpers h ∙ ap (option_map help_of) is
 
--- A helper for which a seek placed a cursor is one of the table's.
+-- A helper for which a seek placed a cursor is one of the table's helpers.
 pub seeker_there : (t : TableAt) (h b : ℕ) → seek_answer (size_of t) (stored_of t) (slice_get (helps_of t) h) b ≡ Ok seeks.Placed
     → h < length t.buckets.helpers
 seeker_there t h b placed = at (helper_of t.buckets h) refl
@@ -32,7 +32,7 @@ seeker_there t h b placed = at (helper_of t.buckets h) refl
     at None is = absurd (cc (rw (slice_get-map help_of t.buckets.helpers h, is) at placed))
     at (Some had) is = slice_get_within t.buckets.helpers h had is
 
--- The node of a dummy that is linked.
+-- To link a dummy is to link its node, which has the next stamp.
 pub links_node : (l l' : Listing) (pred bucket place : ℕ) → LinksAt l l' pred bucket place
     → LinksNode l l' (dummy_node place bucket (l.last + 1))
 links_node l l' pred bucket place is = record {
@@ -50,7 +50,7 @@ module _ (t t' : TableAt) where
       ∙ ap (λ cs. slice_index_or cs other None) (map-set cursor_in t.buckets.helpers h now)
       ∙ get_or-set_other (map cursor_in t.buckets.helpers) h other (cursor_in now) None apart
 
-  -- The helper has the cursor that a seek placed, which fits.
+  -- After a seek, the helper has the cursor that the seek placed, and the cursor fits.
   pub seeker_is : (h b : ℕ) (is : Seeks t.buckets t'.buckets t.list t'.list h b) → h < length t.buckets.helpers
       → helper_of t'.buckets h ≡ Some (Seeking b is.cursor)
   seeker_is h b is within = ap (λ d. helper_of d h) is.now ∙ set_here t.buckets.helpers h (Seeking b is.cursor) within
@@ -58,7 +58,7 @@ module _ (t t' : TableAt) where
   pub seeker_fits : (h b : ℕ) → Seeks t.buckets t'.buckets t.list t'.list h b → h < length t.buckets.helpers → helper_fits t' h ≡ true
   seeker_fits h b is within = ap (cursor_fits t'.list) (seeker_is h b is within) ∙ found_fits t'.list is.cursor is.found
 
-  -- The buckets are these now.
+  -- The table after a call, if its buckets are now `d`.
   becomes : (d : Directory) (stored linked : List Bool) (helps : List Help) → t'.buckets ≡ d
       → regular t' ≡ regular t → KeepsSpares t t' → linked_of t' ≡ linked
       → limit_of d ≡ largest_of t → map is_some d.entries ≡ stored → map help_of d.helpers ≡ helps → Becomes t t' d.size stored linked helps
@@ -72,7 +72,7 @@ module _ (t t' : TableAt) where
     helps_is = ap (λ d. map help_of d.helpers) is ∙ helpers;
   }
 
-  -- The list is unchanged, and the buckets are these now.
+  -- The table after a call, if its buckets are now `d` and its list is unchanged.
   quiet : (d : Directory) (stored : List Bool) (helps : List Help) → t'.buckets ≡ d → KeepsList t t'
       → limit_of d ≡ largest_of t → map is_some d.entries ≡ stored → map help_of d.helpers ≡ helps
       → Becomes t t' d.size stored (linked_of t) helps
@@ -80,7 +80,8 @@ module _ (t t' : TableAt) where
       becomes d stored (linked_of t) helps is (ap (λ l. pairs l.nodes) list) (λ place. ap (λ l. out_at l place) list)
       (λ i. map (has_dummy (list i).nodes) (range_with_len 0 ((ap (λ d. limit_of d) is ∙ limit) i))) limit entries helpers
 
-  -- After a seek, a link, a store and a doubling.
+  -- The table after each outcome of a call: a helper has become idle, has sought a cursor, holds a
+  -- dummy that was linked already, has linked a dummy, or has stored a bucket; or a doubling ended.
   pub idle_becomes : (h : ℕ) → t'.buckets ≡ with_helper t.buckets h Idle → KeepsList t t'
       → Becomes t t' (size_of t) (stored_of t) (linked_of t) (slice_set (helps_of t) h Nothing)
   idle_becomes h is list = quiet _ _ _ is list refl refl (map-set help_of t.buckets.helpers h Idle)
