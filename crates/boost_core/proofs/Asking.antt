@@ -14,8 +14,8 @@ use Rattle.txn_words.specs.declared.answer.Answer.TheVariants as answers
 use Rattle.txn_trace.proofs.Entries as laws
 
 module _ (w : World) (tells : Tells w) (c : ℕ) (x : Session) (at : slice_get w.sessions c ≡ Some x) where
-  -- The cursor that was placed last still fits if the nodes, the buckets and the caller's cursor are
-  -- unchanged.
+  -- The cursor that was placed last still fits if the nodes, the buckets and the caller's cursor
+  -- are unchanged.
   pub fresh_kept : (y : Session) → y.cursor ≡ x.cursor → (t' : TableAt) → nodes_of t' ≡ nodes_of w.table → t'.buckets ≡ w.table.buckets
       → (seat' : RoomySeat) (o : Option Owner) → IsFresh w.table w.sessions o → IsFresh t' (slice_set w.sessions c (seated_as y seat')) o
   fresh_kept y same t' nodes buckets seat' None fresh = tt

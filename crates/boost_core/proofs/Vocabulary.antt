@@ -1,5 +1,5 @@
--- The names of specs and of lower crates that several proofs cite, passed on from one place. Declares
--- nothing.
+-- The names of specs and of lower crates that several proofs cite, passed on from one place.
+-- Declares nothing.
 pub use Rattle.boost_core.specs.Answers.{IsAnswer, IsReply, is_at_end, is_back_at, is_just_placed, keeps_list, may_be_stale, may_stand, owner_changes, size_after}
 pub use Rattle.boost_core.specs.Core.{IsFresh, IsSeated, Tells, World, all_times, gap_at, gap_by, gap_if, gap_of, helper_gaps_of, node_at, nodes_at, session_changes, state_of, world_of}
 pub use Rattle.boost_core.specs.Counts.{counts_after}

@@ -197,8 +197,8 @@ crew_more scripts tries count crew worker member each w other less = elim (cases
       rw (last, get_or-append_seam crew worker [] other) member
 ]
 
--- In a crew's history the outcomes of each worker's scripts are true, and its committed transactions
--- play its scripts.
+-- In a crew's history the outcomes of each worker's scripts are true, and its committed
+-- transactions play its scripts.
 pub crew_told : {rule : Holder} (limits : Sizes) (scripts : List (List Action)) (tries count stripes : ℕ) (h : List Entry) (crew : List Worker) → IsLegal rule stripes h → IsCrew scripts tries count h crew
     → (c : ℕ) → c < count → (outcomes : List Outcome) × AreTrue c tries h (tolds_of (every count c scripts) outcomes)
 crew_told limits scripts tries count stripes h crew legal is c below =

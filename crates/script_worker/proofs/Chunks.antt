@@ -95,8 +95,8 @@ module _ (c tries : ℕ) (script : List Action) (heard : Heard) (before part : L
   aborted added made quiet =
       all_quiet added quiet (ap (filter is_commit) made.1 ∙ filter_undone is_commit c made.0 (entries.Aborted c ∷ []) refl)
 
-  -- The entries that a call has added, if it did what it was asked to do. The cases are the stage of
-  -- the attempt, the action (or the commit, after the last action), and the answer.
+  -- The entries that a call has added, if it did what it was asked to do. The cases are the stage
+  -- of the attempt, the action (or the commit, after the last action), and the answer.
   done_told : (stage : Stage) (a : Answer) (added : List Entry) → IsMade c (call_at script stage) (ends.Answered a) added → IsAtStage c script heard part stage → After added (ends.Answered a) (done_at script again stage)
   done_told Beginning (answers.Began t) added made none = record {
     before = before;

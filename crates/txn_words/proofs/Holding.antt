@@ -76,7 +76,8 @@ pub times_removed_le : (k j : ℕ) (ks : List ℕ) → times j (removed k ks) �
 times_removed_le k j ks = dite (ℕ_discrete j k)
     (λ (e : j ≡ k). subst (λ (i : ℕ). times i (removed k ks) ≤ times i ks) (sym e) (omega (arith, times_removed_same k ks))) (λ ne. omega (arith, times_removed_other k j ks ne))
 
--- f and g are the words of the stripes before and after a step that changes at most the word of stripe i.
+-- f and g are the words of the stripes before and after a step that changes at most the word of
+-- stripe i.
 module _ (f g : ℕ → ℕ) (i : ℕ) (other : (k : ℕ) → k ≢ i → g k ≡ f k) where
   -- If the word of stripe i does not name a seat before or after the step, the step does not change
   -- which words name this seat.
