@@ -25,8 +25,8 @@ busy_so work wider zero a b is same = same
 busy_so work wider (suc n) a c is (b, holder, so_far, failed) =
     (b, holder, busy_so work wider n a b is so_far, fails_so work wider b c (Busy holder) is failed)
 
--- If a work on values that hold callers does a transfer's work on these callers, its relation
--- between the callers implies `Works`.
+-- `did` relates the values before and after a work on values that hold callers. If each `Ok` of the
+-- work is a transfer's work on the callers, the relation between the callers implies `Works`.
 works_so : {H : Type 0} (caller_of : H → Caller) (did : H → Result Bool Stop → H → Type 0) (from to sum : ℕ) → ((h : H) (moved : Bool) (k : H) → did h (Ok moved) k → HasWorked from to sum moved (caller_of h) (caller_of k))
     → (a : Caller) (r : Result Bool Stop) (b : Caller) → on_callers caller_of did a r b → Works from to sum a r b
 works_so caller_of did from to sum is a (Ok moved) b (h, k, done, first, last) =

@@ -26,9 +26,9 @@ abbrev pub Makes : ℕ → ℕ → ℕ → Bool → Map → Map → Type 0
 Makes from to sum true old new = IsTransfer from to sum old new
 Makes from to sum false old new = (new ≡ old) × CannotMove sum (balance old from) (balance old to)
 
--- The caller has committed one transaction more. The legal history that it has seen goes on from
--- what it had seen, and ends with this commit. The commits before it leave a map, and this commit
--- turns that map into the map after the transfer.
+-- The caller has committed one transaction more. The history that it has now seen is legal, begins
+-- with all entries that it had seen before, and ends with this commit. The commits before it leave
+-- a map, and this commit turns that map into the map after the transfer.
 pub record HasTransferred (from to sum : ℕ) (moved : Bool) (a b : Caller) : Type 0 where
   pub map_is : b.map ≡ a.map
   pub number_is : number b ≡ number a
@@ -75,7 +75,7 @@ pub record HasWorked (from to sum : ℕ) (moved : Bool) (a b : Caller) : Type 0 
   pub has : Option ℕ
   pub written : HasWritten (number a) from to sum moved had has entries
 
--- The work of a transfer with its answer; nothing is stated of one that failed.
+-- The work of a transfer with this result; if the transfer failed, nothing is stated.
 abbrev pub Works : ℕ → ℕ → ℕ → Caller → Result Bool Stop → Caller → Type 0
 Works from to sum a (Ok moved) b = HasWorked from to sum moved a b
 Works from to sum a (Err stop) b = Unit {0}

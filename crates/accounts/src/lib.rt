@@ -1,4 +1,4 @@
-//! Accounts in a striped map: a key is an account, its value what the account has.
+//! Accounts in a striped map: a key is an account, and its value is the account's balance.
 //!
 //! An example of a caller of `striped_map`. Proved: a transfer is one transaction of its caller,
 //! whatever other callers do in their threads meanwhile. The commits before it leave a map. In that
@@ -16,7 +16,8 @@ use striped_map::{Caller, Stop, Transaction};
 /// It does not if the first account has too little, or if the second would have 2^64 or more. An
 /// account without a key has 0.
 ///
-/// If a stripe is busy it gives way and begins again, at most `tries` times more.
+/// If a stripe is busy, the transaction aborts and the transfer is tried again, at most `tries`
+/// times more.
 ///
 /// # Errors
 ///

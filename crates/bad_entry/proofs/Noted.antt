@@ -21,7 +21,7 @@ use Rattle.bad_entry.specs.declared.desks.Desk.{Desk}
 use Rattle.bad_entry.specs.declared.desks.Desks.{Desks}
 use Rattle.bad_entry.specs.Desks.{HaveNoted, IsAt}
 
--- A caller that has done nothing.
+-- The desk of a caller that has done nothing.
 abbrev pub IsFresh : Desk → Type 0
 IsFresh desk = (desk.waiting ≡ None) × (desk.txn ≡ None)
 

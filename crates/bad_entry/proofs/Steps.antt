@@ -17,8 +17,8 @@ next_drop i h e d below same at = drop_more h i d below ∙ ap (λ x. x ∷ drop
 pub last_at_end : {X : Type 0} (test : List Entry → Entry → Option X) (i : ℕ) (h : List Entry) (last found : Option X) → length h ≤ i → last_from test (take i h) (drop i h) last ≡ found → last ≡ found
 last_at_end test i h last found none is = ap (λ r. last_from test (take i h) r last) (sym (drop_all i h none)) ∙ is
 
--- The index and the caller of the entry after g, if it is a commit that changes the key.
--- `last_commit` is the last such answer over a history.
+-- The index and the caller of the entry e after g, if e is a commit that changes the key's value.
+-- `last_commit` is the last answer of `commit_at` over a history.
 abbrev pub commit_at : ℕ → List Entry → Entry → Option (ℕ × ℕ)
 commit_at k g e = settled (length g) e (get (serial g) k) (get (serial (g ++ e ∷ [])) k)
 

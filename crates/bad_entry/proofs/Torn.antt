@@ -1,4 +1,4 @@
--- Since when the replies of a caller's transaction contradict one another.
+-- The entry with which the replies of a caller's transaction begin to contradict one another.
 use Rattle.std.proofs.Common.{◌≡◌, ℕ, ◌+◌, ◌<◌, ◌≤◌, List, length, take, Option, Some, None, Bool, true, false, refl, subst, sym, arith, if◌then◌else◌}
 use Rattle.std.specs.Option.{option_or}
 use Rattle.std.proofs.Math.Logic.{⊎_elim}

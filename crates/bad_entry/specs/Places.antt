@@ -3,8 +3,9 @@ use Rattle.std.specs.Prelude.{Option, None, List, [], ◌∷◌, ◌++◌}
 use Rattle.std.specs.Option.{option_or}
 use Rattle.txn_words.specs.declared.entry.Entry.{Entry}
 
--- The answer of a test to the last of the entries h that it answers; `last` if it answers none of
--- them. The entries g precede h, and the test sees all entries before the one that it tests.
+-- The answer of a test to the last entry of h for which it has an answer, or `last` if it has none
+-- for any entry of h. The entries g precede h. The test is given an entry and all entries before
+-- it.
 abbrev pub last_from : {X : Type 0} → (List Entry → Entry → Option X) → List Entry → List Entry
     → Option X → Option X
 last_from test g [] last = last
@@ -14,7 +15,7 @@ last_from test g (e ∷ h) last = last_from test (g ++ e ∷ []) h (option_or (t
 abbrev pub last_of : {X : Type 0} → (List Entry → Entry → Option X) → List Entry → Option X
 last_of test h = last_from test [] h None
 
--- The answer of a test to the first of the entries h that it answers. The entries g precede h.
+-- The answer of a test to the first entry of h for which it has an answer. The entries g precede h.
 abbrev pub first_from : {X : Type 0} → (List Entry → Entry → Option X) → List Entry → List Entry
     → Option X
 first_from test g [] = None

@@ -1,4 +1,4 @@
--- The meaning of a verdict's reason for the history before the bad entry.
+-- The meaning of each reason of a verdict, in terms of the history before the bad entry.
 use Rattle.std.specs.Prelude.{◌≡◌, ℕ, true, Option, Some, None, List, slice_get}
 use Rattle.txn_words.specs.declared.op.Op.{Op}
 use Rattle.txn_words.specs.declared.entry.Entry.{Entry}
@@ -54,7 +54,8 @@ IsReasonByLocks rules.Shape stripes h e reason = IsShapeReason h (caller_of e) r
 
 -- Misread: the caller's open transaction read a value that the committed map does not have, and
 -- `commit` is the last commit that changed the key. Torn: the transaction has the replies of
--- running alone on the committed map, or on no map at all, and `since` is as `IsTornSince` says.
+-- running alone on the committed map, or no map gives it all of its replies; and `since` is as
+-- `IsTornSince` says.
 abbrev pub IsCommitReason : List Entry → ℕ → Reason → Type 0
 IsCommitReason h c (reasons.Misread key read due commit) =
     ((t : ℕ) → txn_in h c ≡ Some t → is_open t h ≡ true

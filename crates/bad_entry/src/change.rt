@@ -121,7 +121,8 @@ fn waiting_after(caller: u64, waiting: Option<Op>, entry: Entry) -> Option<Op>
     }
 }
 
-/// The number of newer changes of this caller that stand above a change after an entry.
+/// The number of this caller's newer changes that stand, after one more entry; `above` is their
+/// number before the entry.
 fn above_after(caller: u64, waiting: Option<Op>, above: u64, entry: Entry) -> u64
     requires { above < 2 ^ 63 }
     ensures above { result ≡ above_after caller waiting above entry }

@@ -138,8 +138,9 @@ pub fn torn_since(
     Ok(since)
 }
 
-/// Updates `since`, the index of the entry since which replies contradict one another, by the entry
-/// at `index`. After this entry they contradict one another if `is_torn`; if not, answers `None`.
+/// The index of the entry since which replies contradict one another, after the entry at `index`;
+/// `since` is the same index before this entry. Answers `None` if the replies do not contradict one
+/// another after this entry (`is_torn` is false).
 fn since_after(is_torn: bool, index: u64, since: Option<u64>) -> Option<u64>
     ensures { result ≡ (if is_torn then option_or since (Some index) else None) }
 {

@@ -50,8 +50,8 @@ fn holder_in(entries: &[SmallEntry], stripes: u64, stripe: u64) -> Option<u64>
     held
 }
 
-/// The index of an entry of the transaction `txn`, if that is `wanted` and the entry asks for a key
-/// of the stripe.
+/// The index of an entry of the transaction `txn`, if the entry asks for a key of the stripe and
+/// `txn` is the transaction `wanted`.
 fn asked_in(
     txn: Option<u64>,
     wanted: Option<u64>,

@@ -19,7 +19,8 @@ use Rattle.bad_file.specs.Meets.{in_range, is_entry_name, is_named, is_of, is_ol
 use Rattle.bad_file.specs.declared.expected.Expected.{Expected}
 use Rattle.bad_file.specs.declared.expected.Expected.TheVariants.{EntryName, Caller, Number, NumberOrNull}
 
--- Whether elements are exactly what is expected, in version 1 or not, with ranges or not.
+-- Whether elements are exactly those that are expected. The flag o says that the version is 1, and
+-- r that ranges count.
 abbrev pub accepts : Bool → Bool → List Data → List Expected → Bool
 accepts o r [] [] = true
 accepts o r [] (e ∷ es) = false
@@ -108,8 +109,9 @@ put_if_next false r es k ds =
     ∙ sym (bind (optional_at ds) (λ e. number_at e.1 >>= λ v. Some (PutIf k e.0 v.0, v.1)) (kept_op false r es)
     ∙ (λ i. then_test (optional_at ds) (λ e rest. bind (number_at rest) (λ v. Some (PutIf k e v.0, v.1)) (kept_op false r es) i)))
 
--- The operation on the key k, with the elements after it; and the elements that are expected after
--- the operation's word. The first true flag tells the word: "put", "take", "get" or "put_if".
+-- `op_by` reads the operation on the key k, and answers it with the elements after it;
+-- `after_op_by` has the elements that are expected after the operation's word. For both, the first
+-- true flag tells the word: "put", "take", "get" or "put_if".
 abbrev op_by : Bool → Bool → Bool → Bool → ℕ → List Data → Option (Op × List Data)
 op_by b1 b2 b3 b4 k ds =
     if b1 then (number_at ds >>= λ v. Some (Put k v.0, v.1))
@@ -207,7 +209,8 @@ keeps : (o b : Bool) → ((not o || true) && b) ≡ b
 keeps true b = refl
 keeps false b = refl
 
--- The last element of an entry: the entry counts only if no element follows, as b says.
+-- After the last element of an entry: there is an entry only if b is true, which means that no
+-- element follows.
 last : {A : Type 0} (o r : Bool) (c : ℕ) (a : A) (f : A → Entry) → kept o r (Some (f a)) ≡ ok r c → (b : Bool)
     → (ok r c && b) ≡ kept o r ((if b then Some a else None) >>= λ x. Some (f x))
 last o r c a f is true = both_true (ok r c) ∙ sym is
@@ -298,8 +301,8 @@ caller_case : (o r : Bool) (es : List Expected) (f : ℕ → List Data → Optio
     → accepts o r ds (Caller ∷ es) ≡ kept o r (number_at ds >>= λ c. f c.0 c.1)
 caller_case o r es f each ds = caller_first o r es ds ∙ (λ i. then_test (number_at ds) (λ c rest. each c rest i)) ∙ through o r f (number_at ds)
 
--- The entry of the caller c; and the elements that are expected after the entry's word. The first
--- true flag tells the word, in the order of `entry_word`.
+-- `entry_by` reads the entry of the caller c; `after_by` has the elements that are expected after
+-- the entry's word. For both, the first true flag tells the word, in the order of `entry_word`.
 abbrev entry_by : (b1 b2 b3 b4 b5 b6 b7 b8 b9 b10 : Bool) → ℕ → List Data → Option Entry
 entry_by b1 b2 b3 b4 b5 b6 b7 b8 b9 b10 c ds =
     if b1 then (op_of ds >>= λ op. Some (Asked c op))

@@ -100,7 +100,7 @@ neither : {A : Type 0} (x y : Option A) → option_or x y ≡ None → (x ≡ No
 neither None y is = (refl, is)
 neither (Some a) y is = absurd (cc is)
 
--- The members after the first are as expected.
+-- The version, the stripes and the entries of a file are as expected.
 pub record Members (r : Bool) (d : Data) : Type 0 where
   pub version_is : is_met r (Some expected.Version) (at Version d) ≡ true
   pub stripes_is : is_met r (Some expected.Stripes) (at Stripes d) ≡ true
@@ -288,7 +288,7 @@ few v ps = is_version v && nat_le (length ps) max_entries
 abbrev some_locks : ℕ → Bool
 some_locks s = nat_le 1 s && nat_le s max_stripes
 
--- A file whose shape is right, with all its entries.
+-- A file whose shape is right, and all of whose entries were read.
 module _ (d : Data) (shape : Shape d) (all : Pieced (is_old_file d) parts.Entry 0 shape.entries) where
   tested_history : history_in d ≡ by_tests shape.version_no shape.stripes_no all.pieces (few shape.version_no all.pieces) (some_locks shape.stripes_no) (list_all is_in_range all.pieces)
   tested_history = history_is d shape ∙ ap (file_from shape.version_no shape.stripes_no) all.read ∙ gated shape.version_no shape.stripes_no all.pieces (few shape.version_no all.pieces)

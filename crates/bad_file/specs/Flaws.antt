@@ -114,7 +114,8 @@ IsFlawOf d faults.NoMemory flaw = ⊥
 abbrev pub history_in : Data → Result (ℕ × List TheEntry × ℕ) FileFault
 history_in d = contents_of history_file d >>= λ file. entries_from file.0 file.1 file.2
 
--- The flaw of a value as a history file: none if it is taken, else the cause of the refusal.
+-- The flaw of the history file that has this JSON value: none if the file is taken, else the cause
+-- of the refusal.
 abbrev pub TellsOf : Data → Option Flaw → Type 0
 TellsOf d None = IsOk (history_in d)
 TellsOf d (Some flaw) = (fault : FileFault) × (history_in d ≡ Err fault) × IsFlawOf d fault flaw
@@ -127,7 +128,8 @@ IsFlaw fault (Err faults.NotJson) flaw =
     (line : ℕ) × (column : ℕ) × (flaw ≡ NotJson line column)
 IsFlaw fault (Err other) flaw = flaw ≡ TooLong
 
--- The flaw of bytes as a history file: none if they are taken, else the cause of the refusal.
+-- The flaw of the history file that has these bytes: none if the file is taken, else the cause of
+-- the refusal.
 abbrev pub Tells : List ℕ → Option Flaw → Type 0
 Tells bytes None = IsOk (history_of bytes)
 Tells bytes (Some flaw) =

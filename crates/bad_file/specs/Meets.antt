@@ -49,7 +49,7 @@ abbrev pub is_op_name : List ℕ → Bool
 is_op_name word =
     list_any (bytes_eq word) (codes "put" ∷ codes "take" ∷ codes "get" ∷ codes "put_if" ∷ [])
 
--- Whether there is a word, and it is one of these.
+-- Whether there is a word, and it passes the test.
 abbrev pub is_named : (List ℕ → Bool) → Option (List ℕ) → Bool
 is_named test None = false
 is_named test (Some word) = test word

@@ -6,13 +6,13 @@
 //! number is out of range. This crate answers the writer's next question: which element of the
 //! entry is wrong, which words and numbers are allowed there, or which member is missing.
 //!
-//! The format is that of `txn_files`, in its own definitions. An element of an entry is at fault if
+//! The format is that of the definitions in `txn_files`. An element of an entry is at fault if
 //! some entry begins with the elements before it, but no entry begins with these and the element.
-//! Allowed in its place are exactly the elements with which some entry goes on.
+//! The elements allowed in its place are exactly those with which some entry goes on.
 //!
-//! Proved: `flaw_in` finds no flaw exactly in a file that `read_history` takes, and else a flaw
-//! that is the cause of the refusal. It keeps the JSON value of the whole file, which takes much
-//! more memory than `read_history`; it is called only for files that are refused.
+//! Proved: `flaw_in` finds no flaw exactly if `read_history` takes the file; if it finds a flaw,
+//! this is the cause of the refusal. `flaw_in` keeps the JSON value of the whole file, which takes
+//! much more memory than `read_history`; it is called only for files that are refused.
 #![tactic(auto)]
 
 mod elements;

@@ -16,7 +16,7 @@ pub enum Place {
     Entries,
     /// The entry of this index: `$.entries[4]`.
     Entry(usize),
-    /// The element of the second index in the entry of the first: `$.entries[4][2]`.
+    /// The element at the second index of the entry at the first index: `$.entries[4][2]`.
     Element(usize, usize),
 }
 

@@ -3,11 +3,11 @@
 //! atomic words.
 //!
 //! Each phase writes one line on standard error: what it did, the number of operations, the time,
-//! and the sum of their answers, by which another program that does the same can be compared. In
-//! place of the sum stands the number of commits for the shared map, of bytes for the reading of a
-//! step file, and of granted takes for the words. The striped map writes how many
-//! transactions it does a second, the processor time of one, and the outcomes. Nothing is written
-//! on standard output.
+//! and the sum of their answers, by which another program that does the same can be compared. Three
+//! kinds of lines have another number in place of the sum: the shared map writes the number of
+//! commits, the reading of a step file the number of bytes, and the words the number of granted
+//! takes. The striped map writes how many transactions it does a second, the processor time of one,
+//! and the outcomes. Nothing is written on standard output.
 //!
 //! The first argument is `nodes`, `maps`, `core`, `shared`, `words` or `striped`, for only that
 //! part, or `all`, which is the default. For all parts but `striped`, the second argument is the

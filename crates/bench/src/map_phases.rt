@@ -16,8 +16,9 @@ const BUCKETS: u32 = 65_536;
 
 const MANY_BUCKETS: u32 = 1_048_576;
 
-/// Half of the operations look up a key, a quarter put one and a quarter take one. They use twice
-/// as many keys as were put in, so that about half of these are there.
+/// Half of the operations look up a key, a quarter put one and a quarter take one. Their keys are
+/// drawn from twice as many keys as the map is filled with, so about half of the drawn keys are in
+/// the map.
 fn mixed_op(position: u64, keys: u64) -> Op {
     let drawn = number_at(position.wrapping_add(1 << 40));
     let key = number_at((drawn >> 8) % keys.max(1).saturating_mul(2));

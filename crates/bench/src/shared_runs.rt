@@ -40,8 +40,8 @@ fn commits_in(trace: &[SmallEntry]) -> u64 {
     commits
 }
 
-/// Runs the scripts, and writes the time, including that of the map and the threads, and the number
-/// of commits.
+/// Runs the scripts, and writes the time and the number of commits. The time includes making the
+/// map and starting the threads.
 fn time_run<R: Runtime + AllocGlobal + Threads + Wait + Sync>(
     rt: &R,
     limits: Limits,

@@ -3,7 +3,7 @@ use Rattle.std.proofs.Common.{◌≡◌, ℕ, ◌==◌, true, false, inl, inr, L
 use Rattle.boost_core.proofs.Vocabulary.{AllByRecursion, false≢true, cases_Bool, is_before, IsBefore, NodeAt, node_of, next_of, first, linked_after, changed_at, IsRising, IsSpread, IsNodeBefore, AbsentFrom, cleaned, sought, without_first_marked, SortKey}
 use Rattle.boost_core.proofs.NodeLists.{node_here, node_later, none_of_none}
 
--- A node that is linked and unmarked is still linked at its place, with its stamp.
+-- A node with the sort key and the stamp of `n` is linked at `place`.
 pub record IsStill (nodes : List NodeAt) (place : ℕ) (n : NodeAt) : Type 0 where
   pub node : NodeAt
   pub is : node_of nodes place ≡ Some node
@@ -94,7 +94,8 @@ each_next P (m ∷ rest) place n each is = elim (cases_Bool (m.place == place)) 
   | inr apart ↦ each_next P rest place n each.1 (sym (next_later m rest place apart) ∙ is)
 ]
 
--- If nodes have different places, looking up the place of the node behind a place finds that node.
+-- Let all nodes have different places. If n is the node behind some place, `node_of` finds n at n's
+-- own place.
 absent_found : (nodes : List NodeAt) (place : ℕ) (n : NodeAt) → AbsentFrom place nodes → node_of nodes place ≡ Some n → ⊥
 absent_found nodes place n absent is = each_at (λ m. m.place ≡ place → ⊥) nodes place n absent is (place_at nodes place n is)
 

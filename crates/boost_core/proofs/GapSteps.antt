@@ -17,11 +17,11 @@ use Rattle.map_ops.specs.InitLink.TheVariants as links
 use Rattle.map_ops.specs.SweepOutcome.TheVariants as outcomes
 use Rattle.boost_core.specs.Serves as said
 
--- The effect on the cursors of a step from an equal state.
+-- From an equal state, a step has the same effect on the cursors.
 pub cursors_of : (state old new : State) (step : Step) (answer : Answer) → state ≡ old → Cursors state step answer new → Cursors old step answer new
 cursors_of state old new step answer is cursors = subst (λ s. Cursors s step answer new) is cursors
 
--- The sides of the callers other than the one that changes.
+-- If the side of one caller is set, the sides of the other callers are unchanged.
 set_other : (sessions : List Session) (c d : ℕ) (z : Session) → d ≢ c → slice_get (slice_set sessions c z) d ≡ slice_get sessions d
 set_other sessions c d z other = elim (cases_lt d (length sessions)) [
   | inl within ↦
@@ -133,7 +133,7 @@ module _ (t t' : TableAt) (sound : IsSound t'.list) where
   serves_stay (steps.Double seen) answer is = kept is.list
   serves_stay _ answer is = absurd is
 
--- A step leaves the cursors of the helpers that do not take it unchanged.
+-- A step leaves a helper's cursor unchanged if the helper does not take the step.
 module _ (t t' : TableAt) (h : ℕ) where
   moved : (k : ℕ) (now : TableHelper) → t'.buckets.helpers ≡ slice_set t.buckets.helpers k now → Some (Helper k) ≢ Some (Helper h)
       → helper_cursor t' h ≡ helper_cursor t h

@@ -15,14 +15,15 @@ set_cases sessions c d y s within at =
       | inr other ↦ inr (other, slice_get-get_or sessions d y (omega (arith, length-set sessions c y, slice_get_within (set sessions c y) d s at)) ∙ ap Some (sym (get_or-set_other sessions c d y y other) ∙ here))
     ]
 
--- A sum over all sessions in which one changes.
+-- If session c changes from x to y, the sum of f over all sessions loses f x and gains f y.
 pub sum_changed : (f : Session → ℕ) (sessions : List Session) (c : ℕ) (x y : Session) → slice_get sessions c ≡ Some x → sum_by f (slice_set sessions c y) + f x ≡ sum_by f sessions + f y
 sum_changed f sessions c x y at = rw (get_or_from_slice_get sessions c x x at) at (sum_by-set f sessions c y x (slice_get_within sessions c x at))
 
 pub one_of_sum : (f : Session → ℕ) (sessions : List Session) (c : ℕ) (x : Session) → slice_get sessions c ≡ Some x → f x ≤ sum_by f sessions
 one_of_sum f sessions c x at = rw (get_or_from_slice_get sessions c x x at) at (get_or-le-sum_by f sessions c x (slice_get_within sessions c x at))
 
--- Spares stay covered if those that one caller keeps are exchanged.
+-- If a change keeps the spares of one session covered beside any other spares, it keeps the spares
+-- of all sessions covered.
 pub traded : (t t' : TableAt) (sessions : List Session) (c : ℕ) (x y : Session) → slice_get sessions c ≡ Some x
     → ((others : ℕ → ℕ → ℕ) → IsCovered (λ place stamp. others place stamp + times_kept (side_of x) place stamp) t → IsCovered (λ place stamp. others place stamp + times_kept (side_of y) place stamp) t')
     → IsCovered (all_times sessions) t → IsCovered (all_times (slice_set sessions c y)) t'

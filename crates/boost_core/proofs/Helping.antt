@@ -13,7 +13,7 @@ use Rattle.bucket_table.specs.declared.answer.InitRefusal.TheVariants as inits
 use Rattle.txn_words.specs.declared.step.Step.TheVariants as steps
 use Rattle.txn_words.specs.declared.answer.Answer.TheVariants as answers
 
--- A world after a step that is no caller's.
+-- The world after a step of the table or of a helper.
 abbrev pub served : World → TableAt → Option Owner → World
 served w t' placed' = record { limits = w.limits; history = w.history; counts = w.counts; table = t'; sessions = w.sessions; locks = w.locks; placed = placed'; words = w.words }
 

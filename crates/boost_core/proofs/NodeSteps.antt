@@ -19,7 +19,7 @@ use Rattle.map_ops.specs.InitLink.TheVariants as links
 use Rattle.map_ops.specs.SweepOutcome.TheVariants as outcomes
 use Rattle.boost_core.specs.Serves as said
 
--- The effect on the list of a step from an equal state.
+-- From an equal state, a step has the same effect on the list.
 pub lists_of : (state old new : State) (step : Step) (answer : Answer) → state ≡ old → Lists state step answer new → Lists old step answer new
 lists_of state old new step answer is lists = subst (λ s. Lists s step answer new) is lists
 
@@ -199,8 +199,8 @@ module _ (w : World) (tells : Tells w) (c : ℕ) (x : Session) (at : slice_get w
     not_stale op (inl is) = cc (is)
     not_stale op (inr is) = is
 
-    -- A stale right has used up a stamp if the operation takes a node; a claim by a word uses no
-    -- stamp.
+    -- An ask with a stale right has used up a stamp if its operation takes a node. An ask with a
+    -- word uses no stamp.
     asked_with : (op : Op) (stripe : ℕ) (own : Answer) → IsAsked c stripe op x w.table w.locks own y w'.table locks' → ListsAsk Right (state_of w) (Ask c op) (unless_busy own) (state_of w')
     asked_with op stripe answers.Asked is = let lists = asked op stripe answers.Asked is in record { nodes = lists.nodes; stamp = lists.stamp }
     asked_with op stripe (answers.Busy holder) is = let lists = asked op stripe (answers.Busy holder) is in record { nodes = lists.nodes; stamp = lists.stamp }

@@ -250,7 +250,8 @@ module _ (w : World) (tells : Tells w) (c : ℕ) (x y : Session) (at : slice_get
       → Goes claim (state_of w) step answer (state_of (world_after w c (seated_as y seat') h' (counts_after w.counts answer) t' locks' (placed_then w.placed step answer)))
   called_move seat' o is h' pushed = rw (pushed, is) (called.move seat')
 
--- The stripes of a caller are free, as the history says after the transaction's end.
+-- After the end of a transaction of caller c, the locks and the history agree on a stripe's holder:
+-- none if c held the stripe, and otherwise the old holder.
 released : (c : ℕ) (o : Option ℕ) → without_caller c o ≡ cond (option_eq nat_eq o (Some c)) None o
 released c None = refl
 released c (Some d) = refl

@@ -1,4 +1,4 @@
--- The outcome of each step that is no caller's.
+-- The outcome of each step that no caller owns.
 use Rattle.std.proofs.Common.{◌≡◌, ℕ, ◌*◌, ◌≤◌, ◌==◌, ◌&&◌, Bool, true, false, cond, Some, None, Result, Ok, Err, refl, sym, ap, ◌∙◌, nat_le, nat_lt, not, lt-ltb, le-leb, length-set, inl, inr, le-ltb, slice_get}
 use Rattle.boost_core.proofs.Vocabulary.{lt-leb, cases_lt, Step, Answer, now, InitSeek, InitLink, Refusal, SweepOutcome, TableAt, Follows, content, size_of, stored_of, helps_of, table_changes, count_of, Double, HasParents, KeepsList, linked_of, regular, Doubles, SeekChanges, LinkChanges, StoreChanges, seek_answer, Helper, IsAnswer, placed_then, Move, Serves, Sweeping, Linking, Storing, World, Tells, state_of}
 use Rattle.boost_core.proofs.Tables.{doubled_becomes, held_becomes, idle_becomes, linked_becomes, seeker_fits, seeker_there, sought_becomes, stored_becomes}

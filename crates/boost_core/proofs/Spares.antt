@@ -110,7 +110,8 @@ pub open_to : (o : Option ℕ) (c : ℕ) → (o ≡ None) ⊎ (o ≡ Some c) →
 open_to o c (inl free) = rw free refl
 open_to o c (inr mine) = rw mine (eq-eqb c c refl)
 
--- Nodes and buckets that are unchanged, and stay so.
+-- A table that does not change keeps its buckets. If each of two steps keeps the nodes and the
+-- buckets, both steps together keep them.
 pub buckets_same : (t : TableAt) → KeepsBuckets t t
 buckets_same t = record { all = refl; size = refl; largest = refl; stored = refl; helps = refl }
 

@@ -113,7 +113,8 @@ IsAnswer state (Double seen) (answers.Doubled size) =
     (size ≡ 2 * state.size) × IsTrue (may_grow state seen && is_crowded state)
 IsAnswer state step answer = ⊥
 
--- The callers' cursors after a step and its answer, with the change number that the list then has.
+-- After a step and its answer: for each caller, the change number that its cursor noted, if it has
+-- a cursor. `changes` is the list's change number after the step.
 abbrev pub cursors_after : List (Option ℕ) → Step → Answer → ℕ → List (Option ℕ)
 cursors_after cursors (Seek c) answers.Placed changes = slice_set cursors c (Some changes)
 cursors_after cursors (Act c) answers.Again changes = slice_set cursors c None
@@ -123,8 +124,8 @@ cursors_after cursors (Back c n) answers.Leaving changes = slice_set cursors c N
 cursors_after cursors (Abort c) answers.Leaving changes = slice_set cursors c None
 cursors_after cursors step answer changes = cursors
 
--- The states of the helpers after a step and its answer, with the change number that the list then
--- has.
+-- The states of the helpers after a step and its answer. `changes` is the list's change number
+-- after the step.
 abbrev pub helpers_after : List Help → Step → Answer → ℕ → List Help
 helpers_after helpers (InitSeek h b) answers.Ready changes = slice_set helpers h Nothing
 helpers_after helpers (InitSeek h b) answers.Placed changes = slice_set helpers h (Sought b changes)

@@ -4,7 +4,7 @@ use Rattle.txn_words.specs.declared.entry.Entry.{Entry}
 use Rattle.txn_words.specs.declared.entry.Entry.TheVariants.{Began}
 use Rattle.txn_trace.specs.Locks.{has_begun}
 
--- The notes after one more entry, or none.
+-- The notes after a step with this entry, or with no entry.
 abbrev pub begun_with : List Bool → Option Entry → List Bool
 begun_with begun (Some (Began c t)) =
     if nat_lt c (length begun) then slice_set begun c true else begun

@@ -111,7 +111,7 @@ pub record IsSeated (history : List Entry) (c : ℕ) (side : Side) (room : ℕ) 
   pub due : AreDue (now history) (reverse side.jobs)
   pub agrees : Agrees side room
 
--- How often all callers together keep a spare.
+-- The number of times that all callers together keep a spare, for waiting operations and in logs.
 abbrev pub all_times : List Session → ℕ → ℕ → ℕ
 all_times sessions place stamp = sum_by (λ s. times_kept (side_of s) place stamp) sessions
 

@@ -23,7 +23,7 @@ MayEndHelp NoMemory = Unit {0}
 MayEndHelp StampsUsedUp = Unit {0}
 MayEndHelp refusal = ⊥
 
--- The buckets, and the helper of this number, suit the phase of its call for help.
+-- The buckets and the helper of this number suit the phase of that helper's call for help.
 abbrev pub HelpSuits : State → ℕ → Phase → Type 0
 HelpSuits m c (Doubling seen) = Unit {0}
 HelpSuits m c (Initialising way again) = IsOnWay m way

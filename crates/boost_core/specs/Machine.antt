@@ -9,17 +9,18 @@ use Rattle.boost_core.specs.Refusals.{refusal_of, MayLack}
 use Rattle.boost_core.specs.Answers.{IsAnswer, keeps_list, after}
 use Rattle.boost_core.specs.Nodes.{Lists, Cursors}
 
--- Whether a step may have this answer: the first refusal whose test fits, or if none does, the lack
--- of memory or of stamps, or an answer of the step.
+-- Whether a step may have this answer. If a test of the step fits, the only answer is the refusal
+-- of the first such test. If no test fits, the step may be refused memory or a stamp (`MayLack`),
+-- or have one of its answers (`IsAnswer`).
 abbrev pub IsAllowed : State → Step → Answer → Type 0
 IsAllowed state step (answers.Refused refusal) =
     (refusal_of state step ≡ Some refusal)
     ⊎ ((refusal_of state step ≡ None) × MayLack state step refusal)
 IsAllowed state step answer = (refusal_of state step ≡ None) × IsAnswer state step answer
 
--- A step, its answer and the state after it; `Nodes` describes its nodes and cursors. The change
--- number never falls, and is unchanged if the answer says so (`keeps_list`); the last stamp rises
--- by at most one.
+-- A step, its answer and the state after it; `Nodes` describes the nodes and cursors of that state.
+-- The change number never falls, and is unchanged if the answer is one that keeps the list
+-- (`keeps_list`). The last stamp rises by at most one.
 pub record Move (old : State) (step : Step) (answer : Answer) (new : State) : Type 0 where
   pub allowed : IsAllowed old step answer
   pub state : new
@@ -33,8 +34,8 @@ pub record Move (old : State) (step : Step) (answer : Answer) (new : State) : Ty
   pub stamp : old.stamp ≤ new.stamp
   pub one_stamp : new.stamp ≤ old.stamp + 1
 
--- A step is taken, and nothing else: it makes a move, and the linked nodes, the last stamp and all
--- cursors change as `Nodes` says.
+-- One step is taken: it makes a move, and the linked nodes, the last stamp and all cursors change
+-- as `Nodes` says.
 pub record Event (old : State) (step : Step) (answer : Answer) (new : State) : Type 0 where
   pub move : Move old step answer new
   pub lists : Lists old step answer new

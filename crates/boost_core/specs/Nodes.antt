@@ -1,5 +1,5 @@
--- The effect of each step on the linked nodes, the change number and the last stamp, and which
--- cursors of callers and helpers fit.
+-- The effect of each step on the linked nodes, the change number and the last stamp. These
+-- definitions also say which cursors of callers and helpers fit, before and after the step.
 use Rattle.std.specs.Prelude.{◌≡◌, ◌≢◌, ℕ, ◌+◌, ◌-◌, ◌%◌, ◌<◌, Bool, true, false, not, List, [], ◌∷◌, ◌++◌, Option, Some, None, is_some, length, filter, nat_eq, if◌then◌else◌}
 use Rattle.std.specs.Option.{option_eq}
 use Rattle.std.specs.List.{AllByRecursion}
@@ -222,8 +222,8 @@ Fits old (InitLink h) (answers.Refused NoMemory) new = HasFit old (Helper h)
 Fits old (InitLink h) (answers.Refused StampsUsedUp) new = HasFit old (Helper h)
 Fits old step answer new = Unit {0}
 
--- The owner whose cursor a step and its answer may move: the step's caller or helper, or none if
--- the step is refused.
+-- The owner whose cursor a step and its answer may move: the step's caller or helper. There is none
+-- if the step is refused, or is `Sweep` or `Double`.
 abbrev pub mover_of : Step → Answer → Option Owner
 mover_of step (answers.Refused refusal) = None
 mover_of step answer = owner_of step

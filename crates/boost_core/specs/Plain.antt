@@ -49,8 +49,8 @@ Returns old c n (answers.Returned m) new =
     × Ends left c (answers.Returned m) new
 Returns old c n answer new = Event old (Back c n) answer new
 
--- The step by which a caller leaves to the end. No step is taken if the caller leaves already, as
--- the Boolean says.
+-- The step by which a caller leaves to the end. If the Boolean is true, the caller is leaving to
+-- the end already, and no step is taken.
 abbrev pub Leaves : Bool → State → ℕ → State → Type 0
 Leaves true old c left = left ≡ old
 Leaves false old c left = Event old (Abort c) answers.Leaving left

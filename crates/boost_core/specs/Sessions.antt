@@ -376,9 +376,9 @@ pub record Takes (stripes : ℕ) (counts : Counts) (step : Step) (s : Session) (
   pub begins : counts.began < 2 ^ 63
   pub commits : counts.committed < 2 ^ 63
 
--- The effect of each step on its caller's side, the table and the locks, by its answer and, if it
--- asks, by its claim. The seat is unchanged except for room: the entry of step and answer is
--- entered there afterwards.
+-- The effect of each step on its caller's side, the table and the locks. It depends on the answer
+-- and, if the step is an ask, on the claim. Of the seat only the room may change: the entry of step
+-- and answer is added to the seat afterwards.
 abbrev pub Does : Claim → ℕ → Counts → Step → Session → TableAt → List (Option ℕ) → Answer → Session
     → TableAt → List (Option ℕ) → Type 0
 Does claim stripes counts (Begin c) s t locks (answers.Began n) s' t' locks' =

@@ -1,4 +1,4 @@
--- The spares that are kept, and for whom.
+-- How often a spare is kept, by a waiting operation or by jobs, and how often it is out.
 use Rattle.std.specs.Prelude.{ℕ, ◌≡◌, ◌==◌, ◌&&◌, nat_eq, List, Option, Some, None, sum_by, if◌then◌else◌}
 use Rattle.std.specs.Option.{option_eq}
 use Rattle.map_ops.specs.declared.job.MapJob.{MapJob}

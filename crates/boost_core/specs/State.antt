@@ -30,9 +30,9 @@ pub record Gap : Type 0 where
 
 -- The limits; whether stripes are words; the history; the size; for each bucket whether it is
 -- stored and whether its dummy is linked; the linked nodes in order; the list's change number; the
--- last stamp given; for each caller the change number that its cursor noted and, if the cursor
--- fits, the nodes between which it stands; the same nodes for each helper; each helper's state; and
--- the owner of the cursor that the last move placed. A refusal does not count as a move.
+-- last stamp given; for each caller the change number that its cursor noted; for each caller, and
+-- then for each helper, the gap of its cursor, if the cursor fits; each helper's state; and the
+-- owner of the cursor that the last move placed. A refusal does not count as a move.
 pub record State : Type 0 where
   pub limits : Sizes
   pub words : Bool

@@ -49,8 +49,9 @@ reserved_by Lock step = reserved step
 reserved_by Right step = reserved step
 reserved_by claim step = 0
 
--- Whether a claim that is not refused as stale allows an answer: with a right no operation is busy;
--- with a word none is granted, and neither memory nor a stamp is refused.
+-- Whether a claim that is not refused as stale allows an answer. With a right, every answer except
+-- `Busy` is allowed. With a word, only `Busy` with the caller that the word names is allowed, and
+-- the refusals except `NoMemory` and `StampsUsedUp`.
 abbrev pub may_come : Claim → Answer → Bool
 may_come Lock answer = true
 may_come Right (answers.Busy x) = false
@@ -99,9 +100,9 @@ pub record ListsAsk (claim : Claim) (old : State) (step : Step) (answer : Answer
   pub nodes : Touches old step answer new
   pub stamp : new.stamp ≡ stamp_by claim old.stamp step answer
 
--- The requirement on a claim. An operation is asked for by a lock exactly if stripes are not words;
--- any other step claims a lock. If the claim names a holder, the rule of locks lets a Busy entry
--- name it too.
+-- The requirement on a claim. The claim of an ask is `Lock` exactly if stripes are not words; the
+-- claim of any other step is always `Lock`. If the claim names a holder, the rule of locks lets a
+-- Busy entry name this caller too.
 abbrev pub IsClaim : Claim → State → Step → Type 0
 IsClaim Lock state step = state.words ≡ true → is_ask step ≡ false
 IsClaim Right state (Ask c op) = state.words ≡ true

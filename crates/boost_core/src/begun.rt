@@ -1,7 +1,7 @@
-//! A flag for each caller: whether it has begun a transaction. As a stripe's holder, a word may
-//! name only a caller whose flag is set. The flags are kept beside the history, so that no test
-//! walks it. By the core's invariant a flag is set exactly if the history has a Began of its
-//! caller. No flag is ever cleared.
+//! A flag for each caller: whether it has begun a transaction. A word may name a caller as the
+//! holder of its stripe only if the caller's flag is set. The flags are kept beside the history, so
+//! that no test walks the history. By the core's invariant a flag is set exactly if the history has
+//! a Began of its caller. No flag is ever cleared.
 ghost use Rattle.std.specs.Prelude.{◌≡◌, false, replicate, IfOk};
 ghost use Rattle.boost_core.specs.Begun.{begun_with};
 

@@ -1,7 +1,7 @@
 //! The claims of an operation to its stripe: the core's lock, a right in hand, or a word that names
-//! a holder. One enum has all kinds, so that an ask is one step whoever keeps the stripes. A claim
-//! is never stored. A claim by a word takes no spare and reserves no room: the room for its Busy
-//! entry was reserved when the transaction began.
+//! a holder. One enum has all kinds, so that an ask is the same step whether the core keeps the
+//! stripes or others do. A claim is never stored. A claim by a word takes no spare and reserves no
+//! room: the room for its Busy entry was reserved when the transaction began.
 ghost use Rattle.std.specs.Prelude.{◌≡◌};
 
 use txn_trace::Step;

@@ -1,6 +1,7 @@
-//! The numbers of transactions that have begun and that have committed, which number the next ones.
-//! By the core's invariant both are functions of the history; they are kept, so that a begin or a
-//! commit need not count entries. Only the answer to a step changes them.
+//! The numbers of transactions that have begun and that have committed. The number of the next
+//! Began or Committed is one more. By the core's invariant both are functions of the history; they
+//! are kept, so that a begin or a commit need not count entries. Only the answer to a step changes
+//! them.
 ghost use Rattle.std.specs.Prelude.{◌≡◌};
 
 use txn_trace::Answer;

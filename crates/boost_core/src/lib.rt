@@ -4,10 +4,10 @@
 //! split-ordered hash table (Shalev and Shavit, "Split-Ordered Lists: Lock-Free Extensible Hash
 //! Tables", Journal of the ACM 53(3), 2006, section 2).
 //!
-//! An operation takes the stripe of its key, is sought and done on the table in steps between which
-//! other callers may act, and leaves an inverse if it is a change. A commit drops the inverses; an
-//! abort or a return to a savepoint runs them newest first. Stripes are kept to the end of the
-//! transaction.
+//! An operation takes the stripe of its key. It is then done on the table by a seek and an act,
+//! between which other callers may act, and leaves an inverse if it is a change. A commit drops the
+//! inverses; an abort or a return to a savepoint runs them newest first. Stripes are kept to the
+//! end of the transaction.
 //!
 //! The model is a machine of thirteen steps, and the history is the main part of its state. The
 //! main theorem is five claims, each in its file of `specs/`: the history has the shape of

@@ -195,8 +195,8 @@ impl Session {
     }
 }
 
-/// The answer to an ask with the stripe's right, from that of `ask`. It is never `Busy`: if another
-/// caller holds the stripe, the right is stale.
+/// Converts the answer of `ask` to the answer to an ask with the stripe's right: `Busy` becomes
+/// `StaleWord`, since the word that gave the right was stale if another caller holds the stripe.
 fn unless_busy(answer: Answer) -> Answer
     ensures { result ≡ unless_busy answer }
 {

@@ -1,6 +1,6 @@
 //! A caller's side of the core: seat, waiting operation, cursor and log. A cursor belongs to the
-//! waiting operation or to the newest change, so one field serves both. The steps on it are in
-//! `operations.rt` and `transactions.rt`.
+//! waiting operation or to the newest change, so one field serves both. The steps that a side takes
+//! are in `operations.rt` and `transactions.rt`.
 ghost use Rattle.std.specs.Prelude.{◌≡◌, ◌+◌, ◌≤◌, ◌<◌, true, None, IfOk, is_some, length};
 
 use crate::claim::Claim;

@@ -84,7 +84,7 @@ impl Core {
         ensures limits { self.new.limits ≡ self.old.limits }
         ensures words { self.new.words ≡ true }
     {
-        // The right is only shown.
+        // The caller only shows that it has the right; the step uses nothing of it.
         let _stripe = right.stripe();
         self.call(caller, Step::Ask(caller, op), Claim::Right)
     }

@@ -1,4 +1,4 @@
--- Ownership of a handle's pointer: of a core, a referee or a member on the heap, or of nothing.
+-- A handle's pointer owns a core, a referee or a member on the heap, or nothing.
 use Rattle.std.specs.Prelude.{Bool, false, not, Option, Some, None}
 use Rattle.boost_core.specs.State.{State}
 use Rattle.boost_core.specs.contracts.machine.Core.{the_row}

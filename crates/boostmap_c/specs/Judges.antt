@@ -81,7 +81,7 @@ FeedsAll (Some old) entries status before after (Some new) = FedFront entries ol
 FeedsAll None entries status before after None = (status ≡ empty) × (after ≡ before)
 FeedsAll old entries status before after new = ⊥
 
--- The verdict is the one on whatever the referee was fed.
+-- C is told the referee's verdict on the entries that the referee was fed.
 abbrev pub Tells : Option Referee → ℕ → CVerdict → CVerdict → Option Referee → Type 0
 Tells (Some old) status before after (Some new) =
     (new ≡ old) × (status ≡ done)

@@ -27,19 +27,19 @@ abbrev pub IsVerdictBy : Way → ℕ → List Entry → Verdict → Type 0
 IsVerdictBy (ByLocks holder) stripes h outcome = on_locks.IsVerdictOn holder stripes h outcome
 IsVerdictBy ByCommits stripes h outcome = on_commits.IsVerdictOn h outcome
 
--- Whatever the referee was fed, it is fed this entry in addition.
+-- The referee has been fed the same entries as before, and then this one.
 abbrev pub TakesIn : Entry → Referee → Referee → Type 0
 TakesIn entry old new =
     (way : Way) (stripes : ℕ) (h : List Entry)
     → IsFedBy way stripes h old → IsFedBy way stripes (h ++ entry ∷ []) new
 
--- Whatever the referee was fed, it is fed nothing in addition.
+-- The referee has been fed the same entries as before.
 abbrev pub Stays : Referee → Referee → Type 0
 Stays old new =
     (way : Way) (stripes : ℕ) (h : List Entry)
     → IsFedBy way stripes h old → IsFedBy way stripes h new
 
--- The verdict is the one on whatever the referee was fed.
+-- Whichever entries the referee was fed, the outcome is its rule's verdict on them.
 abbrev pub IsVerdictOf : Referee → Verdict → Type 0
 IsVerdictOf referee outcome =
     (way : Way) (stripes : ℕ) (h : List Entry)

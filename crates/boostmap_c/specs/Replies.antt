@@ -1,4 +1,4 @@
--- An answer as C is told it: a status, and for some a word.
+-- An answer as C is told it: a status, and for some answers a word.
 use Rattle.std.specs.Prelude.{ℕ, ◌+◌, Some, None, Result, Ok, Err}
 use Rattle.txn_words.specs.declared.answer.Answer.{Answer}
 use Rattle.txn_words.specs.declared.answer.Answer.TheVariants.{Began, Busy, Done, Returned, Aborted, Saved, Committed, Refused}

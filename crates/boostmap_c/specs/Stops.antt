@@ -1,4 +1,4 @@
--- The answers of a striped map as C is told them: a status, and for some a word.
+-- The answers of a striped map as C is told them: a status, and for some answers a word.
 use Rattle.std.specs.Prelude.{ℕ, Option, Some, None, Result, Ok, Err}
 use Rattle.map_answers.specs.declared.stop.Stop.{Stop}
 use Rattle.map_answers.specs.declared.stop.Stop.TheVariants.{Busy, Refused}

@@ -21,7 +21,8 @@ abbrev pub Counts : Caller → Result ℕ Stop → Caller → Type 0
 Counts a (Ok count) b = Looks a b × (count ≡ count_of (now (seen b)))
 Counts a (Err stop) b = IsCut a b stop
 
--- The pairs of the map, by rising keys, or their number; or the reason why they are not told.
+-- The pairs of the map, by rising keys, or only their number if the array is too short; or the
+-- reason why neither is told.
 abbrev pub ReadsMap : Option Member → ℕ → List CPair → List CPair → ℕ → ℕ → Option Member → Type 0
 ReadsMap (Some old) status before after was word (Some new) =
     (new.waiting ≡ old.waiting)

@@ -1,5 +1,5 @@
 //! An entry of a history as C writes it, and the entry that it stands for. C passes numbers, not an
-//! enum: numbers that stand for no entry are never used, and have their own status. Only this
+//! enum: if the numbers stand for no entry, nothing is fed, and the call answers 8. Only this
 //! module reads the numbers, so a checker is fed only entries of callers below 64, as it requires.
 ghost use Rattle.std.specs.Prelude.{◌≡◌, ◌<◌, Some, IfSome};
 ghost use Rattle.txn_words.specs.Kinds.{caller_of};

@@ -137,7 +137,8 @@ fn feed_entry(referee: &mut Referee, entry: &CEntry) -> u32
     }
 }
 
-/// Feeds entries up to the first that is not fed, and answers their number and the status.
+/// Feeds the entries in their order until the feed of one fails. Answers the number of entries that
+/// were fed, and the status of the feed that failed or `DONE`.
 fn feed_front(referee: &mut Referee, entries: &[CEntry]) -> (usize, u32)
     ensures { FedFront entries.now referee.old result.1 result.0 referee.new }
 {
@@ -151,13 +152,14 @@ fn feed_front(referee: &mut Referee, entries: &[CEntry]) -> (usize, u32)
 }
 
 /// Begins to judge the history of a map with this number of stripes, by a rule. Rules 0 and 1 are
-/// by locks: by 0 a Busy entry may name a caller that holds the stripe now, by 1 one that has begun
-/// a transaction before. Rule 2 is by the order of commits; for it stripes do not matter.
+/// by locks: the caller that a Busy entry names must hold the stripe now (rule 0), or must have
+/// begun a transaction before (rule 1). Rule 2 is by the order of commits; for it stripes do not
+/// matter.
 ///
 /// # Errors
 ///
-/// The handle is unchanged: 4 if it has a checker, 38 (`Limit`) if there is no such rule, or it is
-/// by locks and there are no stripes, 30 (`NoMemory`) if memory is refused.
+/// The handle is unchanged: 4 if it has a checker, 38 (`Limit`) if there is no such rule or if a
+/// rule by locks is given no stripes, 30 (`NoMemory`) if memory is refused.
 ///
 /// # Cost
 ///
@@ -210,8 +212,8 @@ pub extern "C" fn boostmap_judge_feed(alloc: Global, judge: &mut Judge, entry: &
     status
 }
 
-/// Feeds the judge the entries of an array in their order, up to the first that is not fed; the
-/// word is the number of those that were fed.
+/// Feeds the judge the entries of an array in their order, until the feed of one fails; the word is
+/// the number of entries that were fed.
 ///
 /// # Errors
 ///

@@ -47,11 +47,11 @@
 //! or waits.
 //!
 //! Proved of each export, in the words of `specs/Calls.antt`, `Contents.antt`, `Striped.antt`,
-//! `Members.antt` and `Judges.antt`: the objects of the handle before and after the call are those
-//! that the contract of the library's call says; the status and the word are those of its answer;
-//! no word is written if the answer has none; and a handle that owns an object does so after every
-//! call except a `free`. The judge's verdict is that of the checker's definition on the entries
-//! that it was fed, which are those that C's numbers stand for.
+//! `Members.antt` and `Judges.antt`: the contract of the library's call holds of the handle's
+//! object before and after the call and of the answer; the status and the word are those of this
+//! answer; no word is written if the answer has none; and a handle that owns an object still owns
+//! one after every call except a `free`. The judge's verdict is that of the checker's definition on
+//! the entries that the judge was fed, which are those that C's numbers stand for.
 //!
 //! Crossing from C to Rattle and back takes no memory and little time: `boostmap_count`, with its
 //! caller's loop, is 23 instructions. Calls take constant time and no memory unless they say

@@ -143,8 +143,8 @@ pub extern "C" fn boostmap_striped_join(
 }
 
 /// Frees the caller: an open transaction is aborted, and its stripes are given back. The handle is
-/// then all zeros. Callers that still wait in this one are freed with it. The map is freed with its
-/// last caller.
+/// then all zeros. If the caller is the first of its map, the callers that still wait for a handle
+/// are freed too. The map is freed with its last caller.
 ///
 /// # Errors
 ///

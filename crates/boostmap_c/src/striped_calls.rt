@@ -34,8 +34,8 @@ pub extern "C" fn boostmap_striped_begin(caller: &mut CallerHandle) -> u32
 ///
 /// 3 if the handle has no caller; 2 if another caller held the key's stripe: then the transaction
 /// is aborted, with all its changes taken back, and the word is the holder. A refusal leaves the
-/// transaction unchanged: 19 (`NotOpen`), 30 (`NoMemory`), after which it may hold the key's
-/// stripe.
+/// transaction unchanged, except that after 30 it may hold the key's stripe: 19 (`NotOpen`), 30
+/// (`NoMemory`).
 ///
 /// # Cost
 ///
@@ -59,8 +59,8 @@ pub extern "C" fn boostmap_striped_get(caller: &mut CallerHandle, key: u64, word
 ///
 /// 3 if the handle has no caller; 2 if another caller held the key's stripe: then the transaction
 /// is aborted, with all its changes taken back, and the word is the holder. A refusal leaves the
-/// transaction unchanged: 19 (`NotOpen`), 30 (`NoMemory`), after which it may hold the key's
-/// stripe.
+/// transaction unchanged, except that after 30 it may hold the key's stripe: 19 (`NotOpen`), 30
+/// (`NoMemory`).
 ///
 /// # Cost
 ///
@@ -89,8 +89,8 @@ pub extern "C" fn boostmap_striped_put(
 ///
 /// 3 if the handle has no caller; 2 if another caller held the key's stripe: then the transaction
 /// is aborted, with all its changes taken back, and the word is the holder. A refusal leaves the
-/// transaction unchanged: 19 (`NotOpen`), 30 (`NoMemory`), after which it may hold the key's
-/// stripe.
+/// transaction unchanged, except that after 30 it may hold the key's stripe: 19 (`NotOpen`), 30
+/// (`NoMemory`).
 ///
 /// # Cost
 ///
@@ -115,8 +115,8 @@ pub extern "C" fn boostmap_striped_take(caller: &mut CallerHandle, key: u64, wor
 ///
 /// 3 if the handle has no caller; 2 if another caller held the key's stripe: then the transaction
 /// is aborted, with all its changes taken back, and the word is the holder. A refusal leaves the
-/// transaction unchanged: 19 (`NotOpen`), 30 (`NoMemory`), after which it may hold the key's
-/// stripe.
+/// transaction unchanged, except that after 30 it may hold the key's stripe: 19 (`NotOpen`), 30
+/// (`NoMemory`).
 ///
 /// # Cost
 ///
@@ -146,8 +146,8 @@ pub extern "C" fn boostmap_striped_put_if_absent(
 ///
 /// 3 if the handle has no caller; 2 if another caller held the key's stripe: then the transaction
 /// is aborted, with all its changes taken back, and the word is the holder. A refusal leaves the
-/// transaction unchanged: 19 (`NotOpen`), 30 (`NoMemory`), after which it may hold the key's
-/// stripe.
+/// transaction unchanged, except that after 30 it may hold the key's stripe: 19 (`NotOpen`), 30
+/// (`NoMemory`).
 ///
 /// # Cost
 ///

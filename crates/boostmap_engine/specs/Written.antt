@@ -36,7 +36,7 @@ HasNone IsRefused bytes faults.Read = ⊥
 HasNone IsRefused bytes faults.Write = ⊥
 HasNone IsRefused bytes faults.OutOfStep = ⊥
 
--- A text of the bytes that were read was written.
+-- The output grew by a text of the bytes that were read.
 abbrev pub Writes : (List ℕ → List ℕ → Type 0) → Option (List ℕ) → Option (List ℕ)
     → Option (List ℕ) → Type 0
 Writes IsTextOf remaining old new =

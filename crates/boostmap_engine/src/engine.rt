@@ -26,7 +26,7 @@ use std::io::{Read, Write};
 ///
 /// # Errors
 ///
-/// Nothing is written, except before `Write`.
+/// Nothing is written, unless the error is `Write`.
 ///
 /// - `Read` if a read fails.
 /// - `Input` if the file is refused.
@@ -61,7 +61,7 @@ pub fn replay<R: Read, W: Write>(alloc: Global, input: &mut R, output: &mut W) -
 ///
 /// # Errors
 ///
-/// Nothing is written, except before `Write`.
+/// Nothing is written, unless the error is `Write`.
 ///
 /// - `Read` if a read fails.
 /// - `Input` if the file is refused.
@@ -97,7 +97,7 @@ pub fn check<R: Read, W: Write>(alloc: Global, input: &mut R, output: &mut W) ->
 ///
 /// # Errors
 ///
-/// Nothing is written, except before `Write`.
+/// Nothing is written, unless the error is `Write`.
 ///
 /// - `Read` if a read fails.
 /// - `Input` if the file is refused.

@@ -48,8 +48,8 @@ pub enum Fault {
     OutOfStep,
 }
 
-/// The text of a fault on standard error: one line without its line feed, but for `Usage` the whole
-/// usage.
+/// The text of a fault on standard error: one line without its line feed. For `Usage` it is the
+/// whole usage.
 #[derive(Clone, Copy, Debug)]
 pub struct Message<'a> {
     fault: &'a Fault,

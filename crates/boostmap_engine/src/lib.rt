@@ -18,9 +18,10 @@
 //! `NoMemory` nothing is written; at `Write`, a proper beginning of the text is written
 //! (`specs/Written.antt`).
 //!
-//! No read and no write is repeated. The file and its content are in memory at the same time; then
-//! the file is dropped. A report is made as a whole before its first byte is written. A history is
-//! written in pieces, in memory that is taken before the first write.
+//! No read and no write is repeated. The bytes of the file and the values that are read from them
+//! are in memory at the same time; then the bytes are dropped. A report is made as a whole before
+//! its first byte is written. A history is written in pieces, in memory that is taken before the
+//! first write.
 #![tactic(auto)]
 
 mod engine;

@@ -1,6 +1,7 @@
-//! The history that `mix` prints, before it is a text: that of a core on which the scripts were
-//! mixed. It is apart from `engine`, since it needs no reader and no writer. The scripts and the
-//! rest of the core are dropped before the history is written, since they are large.
+//! The history that `mix` prints, before it is turned into text: the history of a core on which the
+//! scripts were mixed. This module is apart from `engine`, since it needs no reader and no writer.
+//! The scripts and the rest of the core are dropped before the history is written, since they are
+//! large.
 ghost use Rattle.std.specs.Prelude.{IfOk, IfErr};
 ghost use Rattle.txn_files.specs.HistoryText.{text_of_history};
 ghost use Rattle.boostmap_engine.specs.Mixture.{IsMixtureOf, IsNoScriptFile};
@@ -13,7 +14,7 @@ use script_mix::mix_scripts;
 use std::alloc::Global;
 use txn_words::SmallEntry;
 
-/// A history, with the numbers that its text says beside its entries.
+/// A history, with the version and the number of stripes that its text also has.
 #[derive(Drop)]
 pub(crate) struct MixedHistory {
     /// The version of the history, which is that of its script file.

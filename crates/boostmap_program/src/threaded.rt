@@ -18,16 +18,16 @@ use txn_words::{Refusal, SmallEntry};
 /// The version of a history file of a run.
 const VERSION: u64 = 3;
 
-/// A history, with the number of stripes, which its text says beside its entries.
+/// The entries of a history, and its number of stripes. The text of a history has both.
 #[derive(Drop)]
 struct ThreadedHistory {
     stripes: u32,
     entries: Vec<SmallEntry>,
 }
 
-/// A history of the scripts that the bytes are, each worker in its own thread. The history has
-/// version 3, whatever version its script file has: a Busy entry names a caller that has begun a
-/// transaction, and may have ended it.
+/// Runs the scripts of the file that the bytes are, each worker in its own thread, and answers the
+/// history. The history has version 3, whatever version the script file has, since a Busy entry
+/// names a caller that has begun a transaction and may have ended it.
 ///
 /// # Errors
 ///

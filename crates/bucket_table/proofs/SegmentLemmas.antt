@@ -29,7 +29,8 @@ segment_within limit bucket long within fits = omega (arith, within, fits)
 same_bucket : (one other : ℕ) → one / 64 ≡ other / 64 → one % 64 ≡ other % 64 → one ≡ other
 same_bucket one other segment place = omega (arith, segment, place)
 
--- A bucket is stored in its segment, whose other entries are unchanged. So it is in the flat list.
+-- The bucket's old segment is replaced by `segment`. The two differ only in the bucket's entry,
+-- which is now `dummy`. So the flat list, too, changes only in this entry.
 module _ (limit : ℕ) (row : List (Option (List (Option ℕ)))) (bucket : ℕ) (segment : List (Option ℕ)) (dummy : ℕ) (within : bucket < limit) (long : limit ≤ 64 * length row) (here : slice_index_or segment (bucket % 64) None ≡ Some dummy)
     (others : (place : ℕ) → place ≢ bucket % 64 → slice_index_or segment place None ≡ slice_index_or (held_by (slice_index_or row (bucket / 64) None)) place None) where
   abbrev changed : List (Option (List (Option ℕ)))

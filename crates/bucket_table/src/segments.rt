@@ -1,6 +1,7 @@
 //! The entries of the buckets, in segments of 64. Memory for a segment is taken when the first of
-//! its buckets is stored, unless some was taken before. To `buckets.rt` the entries are one flat
-//! list. A look-up reads one entry, and a store writes one; a segment's first store writes all 64.
+//! its buckets is stored, unless memory that was taken before is left (`spares`). To `buckets.rt`
+//! the entries are one flat list. A look-up reads one entry, and a store writes one; a segment's
+//! first store writes all 64.
 ghost use Rattle.std.specs.Prelude.{◌≡◌, ℕ, ◌-◌, ◌*◌, ◌<◌, ◌≤◌, ◌^◌, ◌∷◌, List, Option, Some, None, length, replicate, slice_index_or, slice_set, IfOk, OnErr};
 ghost use Rattle.bucket_table.specs.Segments.{LacksSegment, Puts};
 
@@ -153,8 +154,8 @@ impl Segments {
     }
 }
 
-/// Stores a dummy at a place of a segment. A missing segment is made first, in memory that was
-/// taken before if there is some.
+/// Stores a dummy at a place of a segment. If the segment is missing, it is made first, in memory
+/// from `spares` if any is left there.
 fn put(
     alloc: Global,
     spares: &mut Vec<Vec<PackedRef>>,

@@ -21,7 +21,7 @@ unless-fault : (kind : ErrorKind) (kinds : Kinds) (found : Option Asked) → IsA
 unless-fault kind [] found none = absurd none
 unless-fault kind (first ∷ kinds) found among = refl
 
--- An error other than that of memory means that the words are no call.
+-- If the parse fails with an error other than `OutOfMemory`, the words are no call.
 pub refused : (app : App) (words : List Text) (error : Error) → app ≡ command_line → (is_simple_and_free app ≡ true → HasKind (fault_of app words) error) → (kind_of error ≡ OutOfMemory → ⊥)
     → asked words ≡ None
 refused app words error same fails other =

@@ -87,7 +87,7 @@ fn all_commands<'a>(alloc: Global) -> Result<clap::Command<'a>, AllocError>
         .subcommand(command_on_file(alloc, "check")?)
 }
 
-/// The seed that a word writes: one or more decimal digits, of a number below 2^64.
+/// The number that a word of one or more decimal digits writes, if it is below 2^64.
 fn seed_in(word: &str) -> Option<u64>
     ensures { result ≡ seed_of word.now }
 {

@@ -82,7 +82,8 @@ fn has_pairs(
     has_map(rt, alloc, core, wanted)
 }
 
-/// Returns to a savepoint twice, to one that is gone, which is refused, and to the beginning.
+/// Returns twice to the first savepoint, and then to the beginning. In between, a return to the
+/// second savepoint is refused, because that savepoint is gone.
 const SAVEPOINTS: [(Call, Answer); 14] = [
     (Call::Run(Step::Begin(0)), Answer::Began(1)),
     (Call::Op(0, Op::Put(1, 10)), Answer::Done(None)),

@@ -178,7 +178,7 @@ const DRIVE_OF_A_PUT: &[Turns] = &[
     Turns::Both(1, 4, Step::Seek(0), Step::Act(0), Answer::Done(None)),
 ];
 
-/// A pair of steps that is told `again` stays a pair.
+/// A turn of two steps that is told `again` is followed by another turn of two steps.
 const TAKE: &[Turns] = &[
     Turns::One(Step::Ask(1, Op::Take(3)), Answer::Asked),
     Turns::Again(8, Step::Seek(1), Step::Act(1)),

@@ -1,7 +1,6 @@
 //! Histories that are judged by `history_check`, whole and entry by entry. The verdicts on the
-//! worked ones were found by hand, and are also compared with those of the slow program in `plain`.
-//! The verdicts on the histories that `generated` draws from a thousand seeds are only compared
-//! with that program's.
+//! worked histories were found by hand. These verdicts, and those on the histories that `generated`
+//! draws from a thousand seeds, are compared with the verdicts of the slow program in `plain`.
 mod generated;
 mod plain;
 
@@ -259,9 +258,9 @@ const WITH_SAVEPOINTS: [Entry; 16] = [
 /// A history, an entry that replaces one of its entries, the number of stripes, and the verdict.
 type Row = (&'static [Entry], Option<(usize, Entry)>, u64, Verdict);
 
-/// The verdicts if a Busy must name a holder of now.
+/// The verdicts if a Busy must name a caller that holds the stripe at that moment (`Holder::Now`).
 static BY_HOLDERS_OF_NOW: [Row; 19] = [
-    // Of replies, as `checker_replies` in `crates/txn_trace/proofs/Cases.antt`.
+    // Histories about replies, as `checker_replies` in `crates/txn_trace/proofs/Cases.antt`.
     (
         &REPLIES,
         None,
@@ -289,7 +288,7 @@ static BY_HOLDERS_OF_NOW: [Row; 19] = [
             rule: Rule::Shape,
         },
     ),
-    // Of locks.
+    // Histories about locks.
     (
         &ON_A_CHANGE,
         None,
@@ -412,7 +411,7 @@ static BY_HOLDERS_OF_NOW: [Row; 19] = [
             rule: Rule::Shape,
         },
     ),
-    // Others: of keys that share a split key, and of savepoints.
+    // Histories with keys that share a split key, and with savepoints.
     (
         &ONE_SPLIT_KEY,
         None,
@@ -587,9 +586,9 @@ fn is_fed(rt: &impl Abort, checker: &mut Checker, entry: &Entry) -> bool {
     false
 }
 
-/// Ends with a checker that has taken `taken` entries and was refused memory for the next one. In
-/// its place the checker is fed an entry that no caller may add, which needs no memory: the verdict
-/// must name it as the entry after those taken.
+/// Ends the feeding of a checker that has taken `taken` entries and was refused memory for the next
+/// entry. Instead of that entry, feeds an entry that no caller may add, which needs no memory. The
+/// verdict must be that this entry, number `taken`, is illegal.
 fn end_refused(rt: &impl Abort, alloc: Global, checker: &mut Checker, taken: usize) {
     assert!(rt; is_refused(alloc));
     assert!(rt; feed(rt, checker, &Entry::Undone(63)).is_ok());
@@ -737,7 +736,8 @@ impl Tally {
     }
 }
 
-/// Judges a drawn history, which must be legal, and answers the verdict on it with one fault.
+/// Judges a drawn history, which must be legal. Then spoils the history at one place, and answers
+/// the verdict on the spoiled history.
 fn judge_history(
     rt: &impl Abort,
     alloc: Global,
@@ -752,8 +752,8 @@ fn judge_history(
     judge_once(rt, alloc, history, stripes, holder)
 }
 
-/// Judges a history drawn from the seed, which must be legal, and answers the verdict on it with
-/// one fault.
+/// Draws a history from the seed and judges it with `judge_history`, which answers the verdict on
+/// the spoiled history.
 fn judge_seed(
     rt: &impl Abort,
     alloc: Global,

@@ -208,7 +208,7 @@ const BAD_HELPS_BESIDE_A_PUT: Mix = Mix {
     workers: &[(0, BAD_HELPS), (1, BAD_HELP_AND_PUT)],
 };
 
-/// Checks for each seed that the scripts are mixed so.
+/// Mixes the scripts by each seed, and checks the turns of the workers.
 fn mixes_by_each_seed(rt: &impl Abort, alloc: Global, mix: &Mix) -> Result<(), Fail> {
     for seed in 0..mix.seeds {
         mixes_so(rt, alloc, seed, mix.scripts, mix.workers)?;

@@ -123,7 +123,7 @@ fn numbers_of(callers: u64, stripes: u64, buckets: u64) -> Result<(u64, u64, u64
 /// Numbers of callers, stripes and buckets that limits may have.
 const IN_RANGE: [(u64, u64, u64); 3] = [(2, 8, 8), (1, 1, 2), (64, 4096, 65536)];
 
-/// Numbers that they may not have.
+/// Numbers of callers, stripes and buckets that limits may not have.
 const OUT_OF_RANGE: [(u64, u64, u64); 10] = [
     (0, 8, 8),
     (65, 8, 8),

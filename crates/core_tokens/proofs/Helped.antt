@@ -53,7 +53,8 @@ Told known n key bucket e = (e.call ≡ calls.Help key) × Reaches known n bucke
 
 -- `n`, `seen'` and `e` are core, entries and drive after a turn.
 module _ (known : Type 0) (tried : Option Trial) (c key bucket : ℕ) (n : State) (seen' : List Entry) (e : Drive) where
-  -- After the last step of the turn.
+  -- The last step of the turn is a move of the core. If the call keeps to its bucket over this
+  -- move, it keeps to the bucket over the turn.
   took_last : {m : State} {seen : List Entry} {phase : Phase} {step : Step} {a : Answer} → is_ask step ≡ false → Takes tried m seen (helping c key phase) step a n seen' e
       → (Move m step a n → Reaches known n bucket (told_in (calls.Help key) phase a)) → Told known n key bucket e
   took_last {m} {seen} {phase} {step} {a} plain takes reaches =
@@ -81,8 +82,8 @@ begun : (known : Type 0) (tried : Option Trial) (m n : State) (seen seen' : List
 begun known tried m n seen seen' c key (Doubling size) e first doubling turned = took_last known tried c key (key % n.size) n seen' e refl turned.1 (double_reaches known m n key turned.0 (λ k same. first k))
 begun known tried m n seen seen' c key phase e first doubling turned = absurd doubling
 
--- If such a call has not ended, it is on its way to the bucket. If it has ended with `Helped`, the
--- bucket is stored.
+-- If a call that keeps to its bucket has not ended, it is on its way to the bucket. If it has ended
+-- with `Helped`, the bucket is stored.
 going : (known : Type 0) (n : State) (c bucket : ℕ) (call : Call) (phase : Phase) → Reaches known n bucket phase → ended_by (turn_in c call phase) ≡ None → IsTo bucket phase
 going known n c bucket call Helped reaches none = absurd (cc none)
 going known n c bucket call (Refused r) reaches none = absurd (cc none)

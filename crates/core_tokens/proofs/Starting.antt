@@ -10,7 +10,8 @@ use Rattle.txn_drive.specs.declared.«end».End.TheVariants as ends
 use Rattle.txn_words.specs.declared.answer.Answer.TheVariants as answers
 use Rattle.txn_words.specs.declared.refusal.Refusal.TheVariants as refusals
 
--- A first step that the seat does not refuse is not refused.
+-- If the caller's seat does not refuse the first step of a call other than help, no test of the
+-- core (`refusal_of`) refuses the step.
 pub first_free : (m : State) (c : ℕ) (call : Call) → nat_le m.limits.callers c ≡ false → is_help call ≡ false → refusal_in m.limits.half (seat_in m.history c) (first_step c call) ≡ None → refusal_of m (first_step c call) ≡ None
 first_free m c (calls.Help key) within plain none = refl
 first_free m c call within plain none = refusal_parts m c (first_step c call) refl ∙ (λ i. cond (within i) (Some refusals.NoSuchCaller) (or_else (none i) None))

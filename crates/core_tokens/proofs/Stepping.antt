@@ -25,9 +25,9 @@ own-mine w h es all = filter-append (λ e. caller_of e == w) h es ∙ ap (λ xs.
 legal_seat : (h : List Entry) (c : ℕ) → IsShaped h → seat_after (own c h) ≡ Some (seat_in h c)
 legal_seat h c shape = some_is (seat_after (own c h)) (has_seat h shape c)
 
--- The step's entries are added to the caller's own, so its seat afterwards is the one after these
--- entries, and the drive fits it. Either a stale word has ended the call, or the core made its
--- move.
+-- The step's entries are added to the caller's own entries. So the caller's new seat is the old
+-- seat after the step's entries, and the drive fits the new seat. Either a stale word has ended the
+-- call, or the core has made its move.
 pub in_step_told : (tried : Option Trial) (m n : State) (limits : Sizes) (c : ℕ) (seen seen' : List Entry) (d e : Drive) (step : Step) (a : Answer)
     → IsWhole m → IsWhole n → IsShaped m.history → IsShaped n.history → length seen' < 2 ^ 63 → IsSized m.size d.phase → step_of d ≡ Some step
     → Takes tried m seen d step a n seen' e → IsInStep m limits c seen d → IsInStep n limits c seen' e

@@ -96,8 +96,8 @@ module _ (m n : State) (c : ℕ) (s : Seat) (call : Call) (within : nat_le m.lim
       subst (λ r. Suits n s c call (told_seek work again (answers.Refused r))) (sym nothing.1) (nothing_suits work again fits (ap has_target is ∙ nothing.0))
   suits_seek work again a there is fits move = absurd move.allowed.1
 
-  -- While fewer than 2^64 - 1 changes were taken back, the call goes on after one more, and its
-  -- next phase suits the seat and the core.
+  -- If fewer than 2^64 - 1 changes were taken back, the call goes on when one more change is taken
+  -- back, and its next phase suits the seat and the core.
   counted_suits : (k : ℕ) (more work : Work) → k < 2 ^ 64 - 1 → Fits s call (counted k more work) → Suits n s c call (counted k more work)
   counted_suits k more work few =
       subst (λ b. Fits s call (if b then Seeking more 0 else Last work answers.Undone) → Suits n s c call (if b then Seeking more 0 else Last work answers.Undone)) (sym (lt-ltb k (2 ^ 64 - 1) few))

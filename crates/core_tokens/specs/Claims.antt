@@ -117,12 +117,14 @@ abbrev pub HasTriedIf : Option Trial → ℕ → Option Step → Type 0
 HasTriedIf tried stripes None = Unit {0}
 HasTriedIf tried stripes (Some step) = HasTriedStep tried stripes step
 
--- The claim of a caller with this trial: by the right that it found, or by the word.
+-- The claim of caller `c` after this trial: by the right if the trial found the right, else by the
+-- word that the trial found.
 abbrev pub claim_by : State → ℕ → Trial → Claim
 claim_by m c trial = if trial.word == 0 then Right else claim_of m c (trial.word - 1)
 
--- The claim of a step to its stripe: an operation claims it by the last trial, any other step by no
--- right and no word.
+-- The claim of a step to its stripe. A step that asks for an operation has the claim by the last
+-- trial. If nothing was tried yet, or the step is another one, the claim is `Lock`: it uses neither
+-- a right nor a word.
 abbrev pub claim_in : Option Trial → State → Step → Claim
 claim_in None m step = Lock
 claim_in (Some trial) m (Ask c op) = claim_by m c trial

@@ -1,5 +1,5 @@
--- A hold is one turn of a call on the core. Here is its effect on core, token and drive, and the
--- effect of a call by its end.
+-- A hold is one turn of a call on the core. `Held` is its effect on core, token and drive. `GoesTo`
+-- is about the entries that the call has added after a hold, whether the call goes on or has ended.
 use Rattle.std.specs.Prelude.{ℕ, ◌≡◌, ◌≢◌, Bool, true, false, not, ◌||◌, List, [], ◌++◌}
 use Rattle.std.specs.Prelude.{Option, Some, None, is_some}
 use Rattle.txn_words.specs.declared.answer.Answer.{Answer}
@@ -52,7 +52,9 @@ abbrev pub out_if : Option End → Bool
 out_if None = false
 out_if (Some outcome) = is_out outcome
 
--- Claims, a core and seen entries with which the next step of a drive may be taken.
+-- The next step of a drive may be taken: each seen entry has a row, the core has as many stripes as
+-- there are words, and if the step asks for an operation, the last trial was of the stripe of its
+-- key.
 pub record MayTake (claims : Claimed) (m : State) (seen : List Entry) (d : Drive) : Type 0 where
   pub whole : is_some (seat_after seen) ≡ true
   pub stripes : m.limits.stripes ≡ claims.stripes

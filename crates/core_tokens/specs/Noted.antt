@@ -15,11 +15,12 @@ use Rattle.txn_words.specs.Entries.{entries_of}
 use Rattle.txn_words.specs.Owed.{owed_by, reserved}
 use Rattle.txn_words.specs.Packed.{is_small}
 
--- The number of the last transaction that the entries begin, or 0 if they begin none.
+-- The number of the transaction that an entry begins, or `before` if the entry begins none.
 abbrev pub began_by : ℕ → Entry → ℕ
 began_by before (Began c txn) = txn
 began_by before entry = before
 
+-- The number of the last transaction that the entries begin, or 0 if they begin none.
 abbrev pub last_txn : List Entry → ℕ
 last_txn entries = fold began_by 0 entries
 

@@ -25,7 +25,8 @@ use Rattle.boost_core.specs.State.{State, seat_in, caller_changes}
 use Rattle.boost_core.specs.Refusals.{refusal_in, lacks_in}
 use Rattle.boost_core.specs.Helps.{HelpSuits}
 
--- The phase of a caller during a work of its call.
+-- The phase that a caller's seat has while a drive does this work of the call, or `None` if the
+-- call has no such work.
 abbrev pub work_phase : Call → Work → Option Standing
 work_phase (calls.Op op) Operation = Some (seats.Waiting op)
 work_phase (calls.Op op) (Busy x k) = Some seats.LeavingToEnd

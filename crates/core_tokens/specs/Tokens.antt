@@ -59,7 +59,8 @@ pub record IsSameButSide {S : Type 0} (k l : Token S) : Type 0 where
   pub claims : IsSameClaims k l
   pub broken : l.broken ≡ k.broken
 
--- The seat of a pass or of a caller: it has the number, and there is a word for each stripe.
+-- The seat of a pass or of a caller has the number of the pass or caller, and there is a word for
+-- each stripe.
 pub record IsSeated (number : ℕ) (limits : Sizes) (claims : Claimed) : Type 0 where
   pub number_is : claims.seat.number ≡ number
   pub stripes : claims.stripes ≡ limits.stripes

@@ -250,7 +250,8 @@ impl<L: Ledger, S: Side> Caller<L, S> {
     }
 
     /// Tries the word of the stripe of an operation's key, unless the token has the stripe's right.
-    /// `make_ready` does so too: this is for those who call `hold` for operations only.
+    /// `make_ready` does the same for a call that is an operation. A user of `hold` that makes no
+    /// other calls needs only `try_word`.
     ///
     /// If the word was free, the token has the right now, and keeps it until its transaction has
     /// committed or aborted. If not, the token remembers the word, and asks by it.

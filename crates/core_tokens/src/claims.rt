@@ -82,8 +82,8 @@ impl Claims {
         Ok(())
     }
 
-    /// Takes a step of the caller on a core. An operation is asked for by the right, or by the word
-    /// that was found.
+    /// Takes a step of the caller on a core. An operation is asked for by the right that the last
+    /// trial found, or else by the word that it found.
     #[inline(always)]
     pub(crate) fn step(&self, core: &mut Core, step: Step) -> Answer
         requires words { core.old.words ≡ true }
@@ -99,7 +99,8 @@ impl Claims {
         }
     }
 
-    /// Asks for an operation by the right, or by the word that was found.
+    /// Asks for an operation by the right that the last trial found, or else by the word that it
+    /// found.
     fn ask(&self, core: &mut Core, caller: u64, op: Op) -> Answer
         requires words { core.old.words ≡ true }
         requires stripes { core.old.limits.stripes ≡ self.now.stripes }
@@ -129,8 +130,8 @@ impl Claims {
     }
 }
 
-/// The answer itself, read part by part. A core writes an answer by single bytes; whoever reads two
-/// of them at once waits until both are written.
+/// The same answer, read part by part. A core writes the bytes of an answer one by one, and a read
+/// of two bytes at once would wait until both are written.
 #[inline(always)]
 fn in_parts(answer: Answer) -> Answer
     ensures { result ≡ answer }

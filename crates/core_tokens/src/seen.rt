@@ -181,7 +181,7 @@ fn packed(entry: Entry) -> SmallEntry
     SmallEntry::new(entry).unwrap()
 }
 
-/// The number of the last transaction after an entry.
+/// The number of the transaction that an entry begins, or `before` if the entry begins none.
 fn began_by(before: u64, entry: Entry) -> u64
     ensures { result ≡ began_by before entry }
 {

@@ -1,7 +1,8 @@
-//! The turns of a drive on the core. One function takes a step on the core, in the book, in the
-//! seen entries and in the drive, so that none of them misses it; `Caller::hold` tests the token
-//! before and after. Room for the entries of a turn is made before its first step: if that is
-//! refused, core, entries and drive are unchanged.
+//! The turns of a drive on the core. One function, `take`, takes a step on the core, adds its
+//! entries to `seen`, counts them in the book, and tells the drive the answer, so that none of the
+//! four misses a step; `Caller::hold` tests the token before and after. Room for the entries
+//! of a turn is made before its first step: if memory for the room is refused, core, entries and
+//! drive are unchanged.
 ghost use Rattle.std.specs.Prelude.{◌≡◌, ℕ, true, false, Some, List, [], is_some};
 ghost use Rattle.txn_words.specs.declared.entry.Entry.{Entry};
 ghost use Rattle.txn_words.specs.declared.refusal.Refusal.{Refusal};
@@ -116,8 +117,8 @@ fn take_two<L: Ledger>(
     true
 }
 
-/// Takes a step, for which there is room: on the core, in the book, in the seen entries, and in the
-/// drive.
+/// Takes a step, for which there is room, on the core. Adds the step's entries to `seen`, counts
+/// them in the book, and tells the drive the answer.
 #[inline(always)]
 #[tactic(auto, using(crate::proofs::Claiming::tried_step))]
 fn take<L: Ledger>(
@@ -146,7 +147,8 @@ fn take<L: Ledger>(
         book,
         none: _,
     } = booked;
-    // The history is legal before and after, with callers that a small entry can hold.
+    // The history is legal before and after the step, and each caller's number fits into a small
+    // entry.
     let _before = core.trace();
     let answer = claims.step(core, step);
     let _after = core.trace();

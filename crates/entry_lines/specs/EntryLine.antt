@@ -1,4 +1,5 @@
--- The entry that a line is: the array that a history file of the newest version has for it.
+-- The entry that a line is. The line has the array that a history file of the newest version has
+-- for the entry.
 use Rattle.std.specs.Prelude.{ℕ, ◌==◌, ◌||◌, Bool, nat_le, List, length, Option, Some, None, option_and_then, Result, Ok, Err, if◌then◌else◌}
 use Rattle.std.specs.List.{list_all}
 use Rattle.serde_json.specs.Data.{Data}

@@ -1,7 +1,7 @@
 //! A history as lines: each line of a text is an entry, written as the array that a history file
-//! has for it, such as `["asked",0,"put",1,10]`. A store can append such lines while it runs, with
-//! no bracket to close and no bound on their number, and what was written before a crash can be
-//! read as far as it goes.
+//! has for it, such as `["asked",0,"put",1,10]`. A store can append such lines while it runs: there
+//! is no bracket to close, and no bound on the number of lines. After a crash the whole lines that
+//! were written can be read.
 //!
 //! The model is two functions of bytes (`specs/`): `entry_on` is the entry that a line is, none if
 //! the line is blank, or its first fault; `history_of_lines` is the entries of all lines up to the

@@ -145,8 +145,8 @@ fn entry_in_text(text: &str, scratch: &mut Scratch<Global>) -> Result<Option<Ent
     }
 }
 
-/// The entry that a line is, given without its line feed: the array that a history file of the
-/// newest version has for it. A blank line is none.
+/// Reads the entry from a line, given without its line feed. The line has the array that a history
+/// file of the newest version has for the entry. Answers `Ok(None)` if the line is blank.
 ///
 /// # Errors
 ///

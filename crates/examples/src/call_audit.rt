@@ -17,8 +17,8 @@ fn say<R: Print + AllocGlobal>(rt: &R, what: &str, history: &[Entry]) -> io::Res
     }
 }
 
-/// Prints whether a history in which a caller gets what another put is legal, and whether it is
-/// still legal if that get has a different reply.
+/// Prints whether a history is legal in which caller 0 puts a value and caller 1 gets it. Then
+/// gives the get a different reply, and prints whether the history is still legal.
 pub(crate) fn show<R: Print + AllocGlobal>(rt: &R) -> io::Result<()> {
     let mut history = [
         Entry::Began(0, 1),

@@ -1,6 +1,6 @@
-//! Calls `bank`: caller 0 opens two accounts, and caller 1 moves a sum between them and then tries
-//! one that is too large. The accounts are printed at the end, and show that only the first sum was
-//! moved. `open` is an example of a work that states `Keeps`.
+//! Calls `bank`: caller 0 opens two accounts. Caller 1 moves a sum between them, and then tries to
+//! move a sum that is too large. The accounts are printed at the end, and show that only the first
+//! sum was moved. `open` is an example of a work that states `Keeps`.
 ghost use Rattle.owned_map.specs.Keeps.{Keeps};
 
 use anyhow::Result;
@@ -39,7 +39,8 @@ fn list<R: Print + AllocGlobal>(rt: &R, accounts: &OwnedMap) -> io::Result<()> {
     Ok(())
 }
 
-/// Opens two accounts, moves a sum, and then tries one that is too large.
+/// Opens two accounts, moves a sum, tries to move a sum that is too large, and prints the
+/// accounts.
 fn work<R: Print + AllocGlobal>(rt: &R, accounts: &mut OwnedMap) -> Result<()> {
     open_both(accounts)?;
     try_transfer(rt, accounts, 30)?;

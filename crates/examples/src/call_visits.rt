@@ -1,6 +1,7 @@
 //! Calls `visits`: four visitors put different values at the same key, all at once, and each gets
-//! the value that it put, as `visits` proves. The threads too are in that crate; here is the call.
-//! The answers are in the order of the visits, so the output is the same in each run.
+//! the value that it put, as `visits` proves. The crate `visits` also starts the threads; this
+//! module only calls it. The answers are in the order of the visits, so the output is the same in
+//! each run.
 use boost_core::Core;
 use std::io;
 use std::io::Print;

@@ -1,6 +1,6 @@
 //! A queue of jobs in one map, from which four threads take jobs. A key is a job, and its value is
-//! the job's state; only `DONE` is the key of a count. Each job is done once, and a caller that
-//! stops in the middle of a transaction leaves nothing behind.
+//! the job's state. The only other key is `DONE`, whose value counts the jobs that were done. Each
+//! job is done once, and a caller that stops in the middle of a transaction leaves nothing behind.
 ghost use Rattle.shared_transactions.specs.Keeps.{Keeps};
 
 use boost_core::Core;
@@ -91,7 +91,7 @@ fn commit<L: Ledger, R: Wait>(t: &mut Transaction<'_, L, R>, task: Task) -> Resu
     Ok(claimed)
 }
 
-/// Begins to finish every job at once.
+/// Begins a transaction that puts every job in the state `FINISHED`, and does not commit it.
 fn begin_to_finish<L: Ledger, R: Wait>(t: &mut Transaction<'_, L, R>) -> Result<(), Stop> {
     t.begin()?;
     for job in 0..JOBS {
@@ -100,8 +100,8 @@ fn begin_to_finish<L: Ledger, R: Wait>(t: &mut Transaction<'_, L, R>) -> Result<
     Ok(())
 }
 
-/// Fills the queue. Then begins to finish every job at once, and stops in the middle: all of it is
-/// taken back, since the transaction is dropped.
+/// Fills the queue. Then finishes every job in a second transaction, and drops this transaction
+/// before it commits, so its changes are taken back.
 #[derive(Clone, Copy)]
 struct Filler;
 

@@ -1,6 +1,6 @@
 //! Calls the libraries `bank`, `audit` and `visits`, has threads move sums between the accounts of
-//! one map and take jobs from another, and runs the files of the folder `examples`. Before the
-//! output of each it prints a line with its name, or with the words of the call.
+//! one map and take jobs from another map, and runs the files of the folder `examples`. The output
+//! of each example begins with a line: the example's name, or its command and its file.
 //!
 //! The gate compares the output with the file `stdout`, which was written by hand. So what the
 //! pages say of the examples stays true. Nothing is promised of this program.

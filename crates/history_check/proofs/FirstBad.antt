@@ -23,8 +23,8 @@ pub next_is : (o : Option ℕ) (P : Type 0) (v x : ℕ) → SomeIff o P v → o 
 next_is None P v x may is = absurd (cc is)
 next_is (Some y) P v x may is = let same : y ≡ x = cc is in sym same ∙ may.1
 
--- The first bad entry after one more entry, which has index `i` and breaks `rule`, if that is a
--- rule: an earlier bad entry stays the first one.
+-- The first bad entry when one more entry, with index `i`, is added: an earlier bad entry stays the
+-- first one. If there is none, the added entry is the first bad one if it breaks a rule (`rule`).
 abbrev then_bad : Option (ℕ × ℕ) → Option ℕ → ℕ → Option (ℕ × ℕ)
 then_bad (Some bad) rule i = Some bad
 then_bad None (Some rule) i = Some (i, rule)

@@ -40,7 +40,8 @@ pub record HasRoom (e : Entry) (caller : Caller) : Type 0 where
   pub change : is_did e ≡ true → vec_len caller.changes < vec_capacity caller.changes
   pub level : is_saved e ≡ true → 0 < caller.seat.room
 
--- The caller has the seat and the log that its entries give it, and says whether it has begun.
+-- The caller has the seat and the log that its entries give it, and its `has_begun` says whether it
+-- has begun a transaction.
 pub record Sits (h : List Entry) (c : ℕ) (caller : Caller) : Type 0 where
   pub seat : seat_after (own c h) ≡ Some (seat_of caller)
   pub log : log_of c h ≡ log_in caller

@@ -35,7 +35,8 @@ abbrev pub SaysLegal : Verdict → Type 0
 SaysLegal (Legal commits running) = Unit {0}
 SaysLegal (Illegal entry rule) = ⊥
 
--- The verdict on a history: that of the definitions, which says legal exactly if the history is.
+-- The outcome is the definitions' verdict on the history, and it says legal exactly if the history
+-- is legal.
 pub record IsVerdictOn (holder : Holder) (stripes : ℕ) (h : List Entry) (outcome : Verdict) :
     Type 0 where
   pub meaning : meaning_of outcome ≡ legal.verdict holder stripes h

@@ -1,6 +1,7 @@
-//! A caller as its entries so far leave it: its seat, whether it has begun, and the value before
-//! each of its standing changes. Going back drops the newest of these. Transactions are numbered in
-//! `callers.rt`, across all callers. Invariant: the seat counts as many changes as are noted.
+//! The state of a caller after its entries so far: its seat, whether it has begun a transaction,
+//! and the value before each of its standing changes. An Undone drops the newest change.
+//! Transactions are numbered in `callers.rt`, across all callers. Invariant: the number of standing
+//! changes in the seat is the number of changes that are noted.
 ghost use Rattle.std.specs.Prelude.{◌≡◌, ◌<◌, [], true, false, reverse, slice_get, vec_len, vec_capacity, is_some, OnOk};
 ghost use Rattle.txn_words.specs.Kinds.{is_began};
 ghost use Rattle.txn_words.specs.Shape.{closed_seat, row};

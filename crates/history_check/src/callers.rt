@@ -14,9 +14,9 @@ use txn_trace::{Entry, Phase, Reply};
 /// The 64 callers of a history: the seat of each, with the changes of its transaction that stand,
 /// and how many transactions began and committed.
 ///
-/// It is the judge of the rule of shape: it says whether an entry may follow, and is fed the
-/// entries that do. In a contract, `HaveEntered h callers` says that it was fed the entries `h`,
-/// and that they have the right shape.
+/// It is the judge of the rule of shape: `has_shape` says whether an entry may follow, and `enter`
+/// takes in an entry that may follow. In a contract, `HaveEntered h callers` says that it was fed
+/// the entries `h`, and that they have the right shape.
 #[derive(Drop)]
 pub struct Callers {
     /// How many transactions began.

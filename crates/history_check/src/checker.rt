@@ -67,8 +67,8 @@ impl Checker {
     ///
     /// Amortized time in proportion to the logarithm of the number of keys; for a Committed or an
     /// Aborted also to the stripes that it gives back and the changes that stood. Takes memory only
-    /// for a Did, even if it is no change, for an Undone and for a Saved. After the first bad entry
-    /// constant time, and no memory.
+    /// for a Did (also for a Did that changes nothing), an Undone or a Saved. After the first bad
+    /// entry constant time, and no memory.
     #[inline(always)]
     pub fn feed(&mut self, entry: &Entry) -> Result<(), AllocError>
         requires { caller_of entry.now < 64 }
@@ -106,8 +106,8 @@ impl Checker {
         }
     }
 
-    /// The callers after the entries so far, as long as none is bad: the phase of each says which
-    /// entries may follow.
+    /// The callers after the entries so far, as long as no entry is bad. A caller's phase says
+    /// which of its entries may follow.
     ///
     /// # Cost
     ///

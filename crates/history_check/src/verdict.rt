@@ -1,6 +1,7 @@
 //! The verdict on a history and the rule that an entry breaks, with the texts that `check` prints.
-//! Both judges, by locks and by the order of commits, answer these, so the module uses neither.
-//! Each text is proved to be the one that the specs give (`specs/Verdicts.antt`).
+//! The judge by locks and the judge by the order of commits both answer a `Verdict`, so this module
+//! uses neither judge. Each text is proved to be the one that the specs give
+//! (`specs/Verdicts.antt`).
 ghost use Rattle.std.specs.Prelude.{◌≡◌};
 ghost use Rattle.history_check.specs.Verdicts.{number_of};
 

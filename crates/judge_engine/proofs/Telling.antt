@@ -43,7 +43,7 @@ lines_push workers n (x ∷ os) o =
     moved : (n k : ℕ) → suc n + k ≡ n + suc k
     moved n k = omega arith
 
--- One line more.
+-- One more outcome adds its line behind the lines of the outcomes before it.
 pub lines_more : (workers : ℕ) (os : List Outcome) (i : ℕ) (d : Outcome) → i < length os → lines_from workers 0 (take (i + 1) os) ≡ lines_from workers 0 (take i os) ++ outcome_line workers i (get_or os i d)
 lines_more workers os i d within =
     let len = length-take-le i os (omega arith) in
@@ -51,7 +51,8 @@ lines_more workers os i d within =
     ap (lines_from workers 0) (take_more os i d within) ∙ lines_push workers 0 (take i os) (get_or os i d)
     ∙ ap (λ k. lines_from workers 0 (take i os) ++ outcome_line workers k (get_or os i d)) place
 
--- The text with one line more.
+-- A text is `start` and the lines of the first `i` outcomes. With the next outcome's line added,
+-- the text is `start` and the lines of the first `i + 1` outcomes.
 pub grown_lines : (new old start : List ℕ) (workers : ℕ) (os : List Outcome) (i : ℕ) (d : Outcome) → new ≡ old ++ outcome_line workers i (get_or os i d) → old ≡ start ++ lines_from workers 0 (take i os) → i < length os
     → new ≡ start ++ lines_from workers 0 (take (i + 1) os)
 grown_lines new old start workers os i d line before within =

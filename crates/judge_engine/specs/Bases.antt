@@ -23,7 +23,8 @@ abbrev pub IsLegalBy : Basis → List Entry → Type 0
 IsLegalBy (Locks stripes holder) h = IsLegal holder stripes h
 IsLegalBy Commits h = IsSerializable h
 
--- The verdict on a history: that of the definitions, which says legal exactly if the history is.
+-- The outcome is the definitions' verdict on the history by these rules, and it says legal exactly
+-- if the history is legal by them.
 abbrev pub IsVerdictBy : Basis → List Entry → Verdict → Type 0
 IsVerdictBy (Locks stripes holder) h outcome = locks_verdicts.IsVerdictOn holder stripes h outcome
 IsVerdictBy Commits h outcome = commits_verdicts.IsVerdictOn h outcome

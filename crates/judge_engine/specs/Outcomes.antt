@@ -101,8 +101,8 @@ abbrev pub IsWell : List (List Action) → List Outcome → Type 0
 IsWell scripts os = (n : ℕ) (script : List Action) → slice_get scripts n ≡ Some script
     → slice_get os n ≡ Some outcomes.GivenUp → has_abort script ≡ true
 
--- The text of the outcomes of a script file's scripts in a history file's history; `well` is
--- whether each script that is given up has an abort.
+-- The text has the outcomes that the scripts of a script file have in the history of a history
+-- file. `well` is whether each script that is given up has an abort.
 pub record IsReport (scripts history text : List ℕ) (well : Bool) : Type 0 where
   pub work : Work
   pub stripes : ℕ

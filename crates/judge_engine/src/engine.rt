@@ -91,8 +91,8 @@ pub fn check<R: Read + Drop, W: Write>(
     write_verdict(alloc, verdict, output)
 }
 
-/// Judges a history file as `check` does, and writes after the verdict's line, if it is illegal,
-/// lines that lead to the bad entry. The answer is whether the history is legal.
+/// Judges a history file as `check` does, and writes the verdict's line. If the history is illegal,
+/// lines that lead to the bad entry follow. The answer is whether the history is legal.
 ///
 /// If the file is refused, one line is written instead: the flaw that `bad_file` finds. The line
 /// says that the file is too long or no JSON. Or it has the JSON path of the first place at fault,
@@ -102,7 +102,7 @@ pub fn check<R: Read + Drop, W: Write>(
 /// # Errors
 ///
 /// - `Read` if a read fails.
-/// - `Input` if the file is refused, after that line.
+/// - `Input` if the file is refused; the line of the flaw was written.
 /// - `NoMemory` if memory is refused.
 /// - `Write` if a write fails or takes nothing.
 ///

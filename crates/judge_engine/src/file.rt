@@ -37,8 +37,8 @@ fn by_locks(
     history_check::check_packed(alloc, entries, stripes, holder)
 }
 
-/// The verdict on the history file that bytes are: by the order of commits, or by the locks of the
-/// file.
+/// The verdict on the history file with these bytes: by the order of commits, or by the locks of
+/// the file's stripes.
 ///
 /// # Errors
 ///
@@ -60,8 +60,8 @@ pub(crate) fn judge_file(alloc: Global, by_commits: bool, bytes: Vec<u8>) -> Res
     Ok(by_locks(alloc, entries, stripes, holder_in(version))?)
 }
 
-/// The verdict on the history file that bytes are, and the lines that lead to the bad entry; none
-/// for a verdict of legal.
+/// The verdict on the history file with these bytes, and the lines that lead to the bad entry.
+/// There are no lines if the history is legal.
 ///
 /// # Errors
 ///

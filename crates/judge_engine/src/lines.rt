@@ -47,7 +47,7 @@ fn word_of(fate: Fate) -> &'static str {
     }
 }
 
-/// Adds the line of an entry after its index.
+/// Adds a line that has the index of an entry and then the entry.
 fn put_entry(
     alloc: Global,
     text: &mut String,

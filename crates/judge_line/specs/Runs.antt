@@ -23,7 +23,8 @@ use Rattle.judge_line.specs.Words.{Asked, Asks, Check, Why, Watch, Outcomes, Hel
 abbrev pub Outcome : Type 0
 Outcome = Result Bool Failure
 
--- The bytes of the file of each name, if they are known, and of standard input by the name `-`.
+-- For each name, the bytes of the file with this name, if they are known. The file `-` is standard
+-- input.
 abbrev pub Files : Type 0
 Files = Text → Option (List ℕ)
 

@@ -38,7 +38,7 @@ asked_of (calls.Outcomes scripts history) = Outcomes scripts.now history.now
 asked_of calls.Help = Help
 asked_of calls.Version = Version
 
--- Entries are judged by one lock or more, unless by the order of commits.
+-- If the call judges entries by locks, there is at least one lock.
 abbrev pub IsReady : Asked → Type 0
 IsReady (Watch basis) = HasStripes basis
 IsReady asked = Unit {0}

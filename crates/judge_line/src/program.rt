@@ -25,14 +25,14 @@ const VERSION: &str = "judge 1.0.0";
 /// How a run of the program ended.
 #[derive(Clone, Copy, Debug, PartialEq, Eq)]
 pub struct Ending {
-    /// The exit status: 0 if all is well, 1 for an illegal history or a script without an `abort`
-    /// that was given up, else that of the failure.
+    /// The exit status: 0 if all is well; 1 if a history is illegal, or a script that has no
+    /// `abort` was given up; else that of the failure.
     pub status: u8,
     /// Whether standard error took the whole message; true if there is none.
     pub is_told: bool,
 }
 
-/// Writes a line. The answer is `true`, for all is well, if the write succeeds.
+/// Writes a line. Answers `true` (all is well) if the write succeeds.
 fn show<W: Write>(output: &mut W, text: &str) -> Result<bool, Failure>
     ensures { Ends (Shows text.now (W.contents output.old) (W.contents output.new))
         (λ fault. fault ≡ faults.Write) result }
@@ -130,8 +130,8 @@ fn outcomes_in<S: System, W: Write>(
     Ok(tell_outcomes(alloc, scripts, history, output)?)
 }
 
-/// Does what a call asks for. The answer is `false` if a history is illegal, or a script without an
-/// abort was given up; else it is `true`, for all is well.
+/// Does what a call asks for. Answers `false` if a history is illegal, or a script that has no
+/// `abort` was given up; else `true` (all is well).
 fn answer<S: System, W: Write>(
     alloc: Global,
     system: &S,
@@ -183,8 +183,8 @@ fn status_of(outcome: &Result<bool, Failure>) -> u8
 }
 
 /// Does all that the program does: reads the words of the call, does what they ask for, which
-/// writes to `output`, and writes the line of a failure, or the usage, to `errors`. A line that
-/// `errors` does not take changes nothing else.
+/// writes to `output`, and writes the line of a failure, or the usage, to `errors`. If that write
+/// fails, `is_told` is `false`, and the exit status stays the same.
 ///
 /// # Cost
 ///

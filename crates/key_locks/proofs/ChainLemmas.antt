@@ -35,8 +35,8 @@ caller_is : (caller : ℕ) (holder : Option ℕ) → is_caller caller holder ≡
 caller_is caller None is = cc
 caller_is caller (Some holder) is = ap (λ h. Some h) (eqb-true holder caller is)
 
--- After a write, an element has a property if it is the written one and that has the property, or
--- if it is another one and had the property before.
+-- After a write, the element at the index of the write has a property if the written value has it.
+-- The element at any other index has the property if it had the property before.
 get_or-set_is : (holders : Holders) (stripe other : ℕ) (holder : Option ℕ) → stripe < length holders → (P : Option ℕ → Type 0) → (other ≡ stripe → P holder) → (other ≢ stripe → P (get_or holders other None)) → P (get_or (set holders stripe holder) other None)
 get_or-set_is holders stripe other holder within P here elsewhere =
     elim (cases_eq other stripe) [
@@ -73,8 +73,8 @@ IsChain-taken holders older caller stripe first chain is free within within_olde
           (λ differs. ap (λ b. b || is_in chain other) (ne_eqb stripe other (λ same. differs (sym same))) ∙ is.held other);
     }
 
--- A stripe that is not in the caller's chain, and is not the caller's after the write, leaves the
--- chain unchanged.
+-- If a stripe is not the caller's before a write at the stripe, and not after it, the write leaves
+-- the caller's chain unchanged.
 IsChain-elsewhere : (holders older : Holders) (caller stripe : ℕ) (first next holder : Option ℕ) (chain : List ℕ) → IsChain holders older caller first chain → is_caller caller (get_or holders stripe None) ≡ false → is_caller caller holder ≡ false → stripe < length holders
     → IsChain (set holders stripe holder) (set older stripe next) caller first chain
 IsChain-elsewhere holders older caller stripe first next holder chain is not_before not_after within =
@@ -108,7 +108,7 @@ IsChain-freed holders older caller stripe rest is =
     }
 
 -- ---- holders
--- Only callers hold stripes, also after a write of a caller or of none.
+-- Only callers hold stripes. This stays true when a caller takes a stripe, or a stripe is freed.
 abbrev NoneElse : Holders → Type 0
 NoneElse holders = (stripe holder : ℕ) → get_or holders stripe None ≡ Some holder → holder < 64
 

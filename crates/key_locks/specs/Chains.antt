@@ -7,7 +7,8 @@ use Rattle.key_locks.specs.Locks.{holder_of, is_caller}
 abbrev pub is_in : List ℕ → ℕ → Bool
 is_in chain stripe = list_any (λ other. other == stripe) chain
 
--- This stripe and the older ones behind it are this chain, each once.
+-- The chain begins with the stripe `first`, and each stripe in it is followed by the stripe that
+-- `older` names for it; the chain ends if none is named. No stripe is in it twice.
 abbrev pub Leads : List (Option ℕ) → Option ℕ → List ℕ → Type 0
 Leads older first [] = first ≡ None
 Leads older first (stripe ∷ rest) =

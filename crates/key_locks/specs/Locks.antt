@@ -26,7 +26,7 @@ pub record Refuses (caller stripe holder : ℕ) (old new : List (Option ℕ)) : 
   pub by_another : holder ≢ caller
   pub same : new ≡ old
 
--- The answer to the caller, and the holders after it.
+-- The answer to a caller that asks for the stripe, and the holders afterwards.
 abbrev pub Locks : ℕ → ℕ → List (Option ℕ) → LockAnswer → List (Option ℕ) → Type 0
 Locks caller stripe old Granted new = Grants caller stripe old new
 Locks caller stripe old (Busy holder) new = Refuses caller stripe holder old new

@@ -1,6 +1,6 @@
 //! The holders of the stripes, for one owner: a byte for each stripe, and the stripes of each
-//! caller in a chain, so that `release_all` takes time only in proportion to these. Invariant: each
-//! chain has exactly the stripes that its caller holds.
+//! caller in a chain, so that `release_all` takes time only in proportion to the stripes that it
+//! frees. Invariant: each chain has exactly the stripes that its caller holds.
 ghost use Rattle.std.specs.Prelude.{◌≡◌, ℕ, ◌<◌, List, Option, None, length, replicate, IfOk};
 ghost use Rattle.key_locks.specs.Chains.{AreChained};
 
@@ -18,7 +18,7 @@ pub const CALLERS: usize = 64;
 pub struct KeyLocks {
     // The caller that holds the stripe.
     holders: Vec<Holder>,
-    // For a stripe that is held: the one that its holder took before it.
+    // For each held stripe, the stripe that its holder took just before it, if any.
     older: Vec<Link>,
     // The stripe that the caller took last.
     newest: Vec<Link>,
@@ -48,8 +48,8 @@ fn no_links(alloc: Global, count: usize) -> Result<Vec<Link>, AllocError>
 impl KeyLocks {
     ghost use Rattle.key_locks.specs.Locks.{Locks, Releases, holder_of};
 
-    /// This number of stripes, none of them held. It takes all the memory that the locks will ever
-    /// need.
+    /// Makes locks for this number of stripes, none of them held, and takes all the memory that
+    /// they will ever need.
     ///
     /// # Errors
     ///
@@ -71,7 +71,7 @@ impl KeyLocks {
         })
     }
 
-    /// The caller that holds the stripe, if one does: none if there is no such stripe.
+    /// The caller that holds the stripe; none if the stripe is free, or if there is no such stripe.
     pub fn holder(&self, stripe: usize) -> Option<usize>
         ensures { result ≡ holder_of self.now stripe }
     {

@@ -45,7 +45,7 @@ module _ (s : St) (o : IsOrderly s) (id : ℕ) (v w : View) (me : get_elem? s.vi
       (id, w, set_here s.views id w (within s.views id v me), t.3 ∙ ap (λ (n : ℕ). n + 1) (ap (λ (y : View). y.number) is ∙ sym same)))
       (λ ne. (t.0, t.1, set_else s.views id t.0 w ne ∙ t.2, t.3)))) n
 
-  -- If a stripe was taken (`WasTaken`) by the views before, it was taken by the views after.
+  -- If the old views say that a stripe was taken (`WasTaken`), the new views say so too.
   lifted : (stripe word : ℕ) → WasTaken s.views stripe word → WasTaken after stripe word
   lifted stripe word t = dite (ℕ_discrete t.0 id)
       (λ e. let is : t.1 ≡ v = some-injective t.1 v (sym t.2 ∙ subst (λ (k : ℕ). get_elem? s.views k ≡ some v) (sym e) me) in
@@ -105,7 +105,8 @@ unnamed s o number new k e = dite (dec_le (length s.words) k)
 pub none_in : {X : Type 0} (x : X) → Contains [] x → ⊥
 none_in x c = omega (arith, c.1)
 
--- A new seat keeps the rule, if its number is above all others and below the count.
+-- A new seat keeps the rule if its number is above the number of each other seat, and below the
+-- first view's count of seats (`made`).
 pub joined : (s : St) (o : IsOrderly s) (number : ℕ) → number < o.first.made → ((i : ℕ) (u : View) → get_elem? s.views i ≡ some u → u.number < number) → IsOrderly (board s.words s.homes (s.views ++ view number 0 [] [] ∷ []))
 joined s o number low new = let w = view number 0 [] [] in let vs = s.views ++ w ∷ [] in
     let at_new : get_elem? vs (length s.views) ≡ some w = at_last s.views w (length s.views) refl in

@@ -79,8 +79,8 @@ tries n id m i own said e lt s o wide me _ = let v : View = m.0 in let x : ℕ =
       ((λ z. absurd (ne z)), λ _. (refl, ((λ h. own_word v.number x (times i v.held) (o.held id v me i) h), λ q. omega (arith, o.held id v me i, once_yes v.number x q)))),
     ))
 
--- An act that takes out the slot of the stripe x, behind the slot of the first stripe k: the slot
--- of k goes home, then the slots of x and k are taken out, all in one step.
+-- An act that takes out the slot of the stripe x, and puts it right behind the slot of the first
+-- stripe k. In one step, the slot of k goes home, then the slot of x is taken out, then that of k.
 front_of : (hs : Slots) (c : List (ℕ × Option ℕ)) (x k : ℕ) (ks : List ℕ) → c ≡ (k, None) ∷ emptied ks → k ≢ x → x < length hs → k < length hs → get_elem? hs x ≡ some (some None)
     → Valid hs c (chain gives (chain (takes x None) (takes k None)))
     × (carried_after c (chain gives (chain (takes x None) (takes k None))) ≡ emptied (k ∷ x ∷ ks))

@@ -22,7 +22,7 @@ abbrev pub stripes_of : KeyWords → ℕ
 stripes_of words = words.table.shared.table_id.words
 
 -- A take of a stripe adds one note, of the word that it saw. Granted: the word was 0, and the seat
--- has the stripe and its right. Held: the word was not 0; it was the seat's own exactly if the seat
+-- has the stripe and its right. Held: the word was not 0; it named this seat exactly if the seat
 -- held the stripe before.
 abbrev pub Takes : ℕ → View → Taken → View → Type 0
 Takes stripe v (Granted right) w = (right ≡ stripe) × (w ≡ gained v stripe)

@@ -1,6 +1,7 @@
 //! The rule of the words, and a type for each of the steps that keep it. They are apart from the
-//! code of `words`, which names each step on a word, and each new seat, by its type. No value of
-//! these types is made, so the rule costs nothing when a program runs.
+//! code of `words`, which names the type when it takes the step: `Take`, `Bring` and `Free` on a
+//! word, `AddSeat` for a new seat. No value of these types is made, so the rule costs nothing when
+//! a program runs.
 ghost use Rattle.std.specs.Prelude.{[]};
 ghost use Rattle.key_words.specs.Rule.{IsOrderly, view};
 ghost use Rattle.key_words.specs.Steps.{brought, elder, freed, newborn, took};
@@ -21,7 +22,8 @@ impl TableRule<Slot, View, ()> for Order {
     ghost first = { λ _. view 0 1 [] [] };
 }
 
-/// A compare-exchange of the word from 0 to the seat's. If it was 0, the slot goes out to the seat.
+/// A compare-exchange of a stripe's word, from 0 to the word that names the seat. If the word was
+/// 0, the stripe's slot goes out to the seat.
 pub(crate) struct Take;
 
 impl Play<Slot, View> for Take {
@@ -35,7 +37,7 @@ impl Play<Slot, View> for Bring {
     ghost then = { brought };
 }
 
-/// A store of 0: the first slot goes home.
+/// A store of 0: the first of the seat's slots goes home.
 pub(crate) struct Free;
 
 impl Play<Slot, View> for Free {

@@ -1,6 +1,7 @@
-//! The answers to takes, for a caller that takes a single stripe and for one that keeps its rights:
-//! the right or its position, or the word that was seen. The word names the seat that held the
-//! stripe at the atomic step; that seat may have given it back since.
+//! The answers to takes: `Taken` for a caller that takes a single stripe, and `Tried` for a caller
+//! that keeps its rights. An answer has the stripe's right or the position of this right, or else
+//! the word that the take saw. That word names the seat that held the stripe at the atomic step;
+//! the seat may have given the stripe back since.
 use key_locks::StripeRight;
 
 /// The answer to a take of a single stripe.

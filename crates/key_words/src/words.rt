@@ -81,7 +81,8 @@ impl KeyWords {
         }
     }
 
-    /// Splits the other seats from the first, by rising number.
+    /// Splits all other seats from the first seat, and answers all of them by rising number, the
+    /// first seat too.
     fn make_seats(
         &self,
         mut first: Seat<Slot, View>,
@@ -105,10 +106,11 @@ impl KeyWords {
         all
     }
 
-    /// Takes a stripe in one try, which never waits: one compare-exchange of its word, which the
-    /// seat notes.
+    /// Takes a stripe in one try, which never waits: one compare-exchange of the stripe's word. The
+    /// seat notes the word that it saw.
     ///
-    /// Granted, with the stripe's right, exactly if the word was 0 then; else `Held` with the word.
+    /// The answer is `Granted`, with the stripe's right, exactly if that word was 0; else `Held`,
+    /// with that word.
     pub fn take(&self, seat: &mut KeySeat, stripe: usize) -> Taken
         requires seat { IsOf seat.old self.now }
         requires stripe { stripe < stripes_of self.now }

@@ -33,7 +33,7 @@ unmarked_from_not : (b : Bool) → not b ≡ true → b ≡ false
 unmarked_from_not true is = cc
 unmarked_from_not false is = refl
 
--- If the next node is at the noted place, its test is that of its stamp and its mark.
+-- If the next node is at the noted place, `is_next_noted` tests only the node's stamp and mark.
 pub next_noted : (n : NodeAt) (cur : Noted) → n.place ≡ cur.place → is_next_noted (Some n) (Some cur) ≡ (n.stamp == cur.stamp && not n.marked)
 next_noted n cur same = rw (same_test n.place cur.place same) refl
 

@@ -20,7 +20,7 @@ nodes_behind [] place = []
 nodes_behind (n ∷ rest) place = if n.place == place then rest else nodes_behind rest place
 
 -- The seek is at a node before the position sought, and has the place of the next node. A seek from
--- here on the list now has the same result as the whole seek on the old list.
+-- this node on the list `now` has the same result as the whole seek on the list `old`.
 pub record IsSeeking (old now : Listing) (from place : ℕ) (after : Option ℕ) (sort : SortKey) : Type 0 where
   pub sound : IsSound now
   pub pred : IsPred now.nodes place sort

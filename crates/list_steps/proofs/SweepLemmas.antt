@@ -32,7 +32,7 @@ not_marked : (b : Bool) → (b ≡ true → ⊥) → b ≡ false
 not_marked true never = absurd (never refl)
 not_marked false never = refl
 
--- A node is unmarked if it is not behind a node that precedes all marked ones.
+-- If a node precedes all marked nodes, each node that is not behind it is unmarked.
 unmarked_up_to : (n m : NodeAt) → IsNotBefore n.at m.at → (m.marked ≡ true → IsBefore n.at m.at) → m.marked ≡ false
 unmarked_up_to n m not_before before = not_marked m.marked (λ marked. before_not_before n.at m.at (before marked) not_before)
 
@@ -114,8 +114,8 @@ early_low bucket at before = elim (lower_from at (dummy_at bucket) before) [
 ]
 
 -- Let the split key of a bucket's dummy be at most the answer of `NodeList::marks_begin`. Then each
--- linked dummy up to this one precedes all marked nodes. So a sweep may start at the nearest stored
--- dummy of the answer's bucket.
+-- linked dummy up to this dummy precedes all marked nodes. So a sweep may begin at the dummy of the
+-- answer's bucket (`bucket_at`), or at the dummy of that bucket's nearest stored ancestor.
 pub before_marks : (l : Listing) (place bucket split : ℕ) (node : NodeAt) → IsSound l → node_of l.nodes place ≡ Some node → node.kind ≡ Dummy → IsNotBefore (dummy_at bucket) node.at → reversed bucket ≤ split → AreMarksFrom split l.nodes → IsBeforeMarks l.nodes place
 before_marks l place bucket split node sound is dummy not_behind order from =
     let at = found_at l.nodes place node is in

@@ -33,8 +33,8 @@ abbrev pub IsBeyond : Option NodeAt → SortKey → Type 0
 IsBeyond None at = Unit {0}
 IsBeyond (Some n) at = (n.marked ≡ false) × IsNotBelow n at
 
--- The cursor notes an unmarked node below its sort key and the node behind that, which is unmarked
--- and not below the sort key.
+-- The cursor notes an unmarked node below its sort key, and the node behind it or the end. The node
+-- behind it, if there is one, is unmarked and not below the sort key.
 pub record IsFound (l : Listing) (c : Cursor) : Type 0 where
   pub pred : NodeAt
   pub pred_is : node_of l.nodes (pred_of c) ≡ Some pred
@@ -50,8 +50,8 @@ abbrev pub is_noted : Option NodeAt → ℕ → Bool
 is_noted None stamp = false
 is_noted (Some n) stamp = n.stamp == stamp && not n.marked
 
--- The next node is the one that the cursor noted, and is unmarked; or there is none and none was
--- noted.
+-- The node is the one that the cursor noted as its second node, and is unmarked; or there is no
+-- node, and the cursor noted no second node.
 abbrev pub is_next_noted : Option NodeAt → Option Noted → Bool
 is_next_noted None None = true
 is_next_noted None (Some c) = false

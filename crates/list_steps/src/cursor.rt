@@ -72,8 +72,8 @@ impl Cursor {
     ghost use Rattle.list_steps.specs.Seek.{IsPred};
     ghost use Rattle.list_steps.specs.Found.{IsBeyond, IsFound, IsPlaced, behind, fits, is_next_noted, pred_of, at_of};
 
-    /// The cursor of a sort key whose position is between this node and the next one, if there is
-    /// one.
+    /// The cursor of a sort key whose position is between this node and the next node, or at the
+    /// end if there is no next node.
     pub(crate) fn between(
         list: &NodeList,
         place: NodeRef,
@@ -99,15 +99,16 @@ impl Cursor {
         }
     }
 
-    /// The node behind which the sort key belongs, if the cursor fits and no node has it.
+    /// If the cursor fits and no node has the sort key sought, the node behind which a node with
+    /// this sort key belongs.
     pub fn pred(&self) -> NodeRef
         ensures { result ≡ pred_of self.now }
     {
         self.pred.place
     }
 
-    /// Whether the node behind the cursor's first one is the noted one and unmarked, or there is
-    /// none and none was noted.
+    /// Whether the node behind the cursor's first node is the noted second node, and is unmarked.
+    /// If the cursor notes no second node, whether the first node is still the last of the list.
     fn is_next_fitting(&self, list: &NodeList) -> bool
         requires { IsLinked list.now.nodes (pred_of self.now) }
         ensures { result ≡ is_next_noted (behind list.now self.now) self.now.cur }

@@ -21,7 +21,7 @@ use Rattle.undo_log.specs.Sides.{IsSameSide}
 use Rattle.core_tokens.specs.Suits.{may_refuse}
 use Rattle.core_tokens.specs.Tokens.{Token, IsSameCaller, IsSameSeen}
 
--- A side value that follows an end also follows it from an equal value.
+-- If `a` and `b` are equal side values, an end that takes `b` to `c` also takes `a` to `c`.
 follows_on : {S : Type 0} (words : S → List ℕ) (outcome : End) (a b c : Leveled S) → IsSameSide a b → Follows words outcome b c → Follows words outcome a c
 follows_on words (ends.Answered (answers.Began t)) a b c same on = record { value = cc; levels = cc; changes = cc; kept = cc }
 follows_on words outcome a b c same on = record { value = cc; levels = cc; changes = cc; kept = cc }

@@ -366,9 +366,9 @@ impl<L: Ledger> SharedMap<L> {
     ///
     /// # Cost
     ///
-    /// One hold of the lock to double; for each bucket on the way, except bucket 0, one if it is
-    /// initialised, and else three, and at most two more for each time that its position no longer
-    /// fits; may take memory.
+    /// One hold of the lock to double. Then, for the key's bucket and each of its ancestors except
+    /// bucket 0: one hold if the bucket is initialised; if not, three holds, and at most two more
+    /// for each time that its position no longer fits. May take memory.
     #[tactic(auto, using(crate::proofs::Refusing::help_bad_key))]
     pub fn help<S: Side, R: Wait>(
         &self,

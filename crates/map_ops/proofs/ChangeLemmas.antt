@@ -83,7 +83,8 @@ module _ (old new : Listing) (key : ℕ) (sound : IsSound old) (after : IsSound 
         last = swaps.becomes.last;
       }
 
-  -- A node that is linked where the key has room is linked behind a linked node (`LinksNode`).
+  -- If a node is linked where the key has room (`HasRoom`), it is linked behind a linked node
+  -- (`LinksNode`).
   pub links_node : (pred : ℕ) (x node : NodeAt) → HasRoom old key pred → x ≡ node → Links old new pred x → LinksNode old new node
   links_node pred x node room is links = record {
     before = pred;

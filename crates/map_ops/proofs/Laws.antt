@@ -97,7 +97,7 @@ set_at-after m (PutIf k expected v) spare job is = go (option_eq nat_eq (get m k
     go true same = put_set_at m k v job (get m k) refl same
     go false same = absurd (some-none (sym same))
 
--- An operation that puts and has no job leaves the map unchanged.
+-- If a put had no job, it would leave the map unchanged; but `unput` always gives a job.
 put_no_job : (m : Map) (k v : ℕ) (o : Option ℕ) → unput k o ≡ None → insert m k v ≡ m
 put_no_job m k v None none = absurd (some-none none)
 put_no_job m k v (Some old) none = absurd (some-none none)

@@ -71,7 +71,7 @@ module _ (l : Listing) (c : Cursor) (key : ℕ) (sound : IsSound l) (belong : Be
         value = get-there at.node at.there;
       }
 
--- The same for the result of a look, if it is not `Again`.
+-- If a look at the cursor answers `Ok`, `Stands` holds of the value in the `Ok`.
 pub found : (l : Listing) (c : Cursor) (key : ℕ) → IsSound l → Belong l.nodes → IsPlaced l c → at_of c ≡ regular_at key
     → (result : Result (Option ℕ) Again) → fits l c ≡ is_ok result → IfOk result (Finds l c) → IfOk result (Stands l key (pred_of c))
 found l c key sound belong placed same (Ok there) fitting finds = stands l c key sound belong placed fitting same there finds
@@ -82,7 +82,8 @@ pub occupied : (l : Listing) (key pred : ℕ) (there : Option ℕ) → Stands l 
 occupied l key pred None room some = absurd (false≢true (sym (ap is_some room.none) ∙ some))
 occupied l key pred (Some place) has some = has
 
--- If the key has no value, the key's node belongs right behind the node at that place.
+-- If the key has no value, the key's node belongs right behind the node at the place that
+-- `place_in` answers.
 pub vacant : (l : Listing) (key pred : ℕ) (there : Option ℕ) → Stands l key pred there → get (map_of (pairs l.nodes)) key ≡ None → HasRoom l key (place_in pred there)
 vacant l key pred None room none = room
 vacant l key pred (Some place) has none = absurd (some-none (sym has.value ∙ none))

@@ -1,4 +1,4 @@
--- The effects of the parts of the table's calls.
+-- The effects of the functions in `src/change.rt`, from which the table's calls are built.
 use Rattle.std.specs.Prelude.{◌≡◌, ℕ, ◌<◌, ◌-◌, ◌^◌, Option, Some, None}
 use Rattle.node_list.specs.Nodes.{Listing, NodeAt}
 use Rattle.node_list.specs.Order.{IsVacant}
@@ -45,8 +45,8 @@ IsLacking t StampsUsedUp = last_of t ≡ 2 ^ 64 - 2
 IsLacking t NoMemory = last_of t < 2 ^ 64 - 2
 IsLacking t refusal = ⊥
 
--- The key now has this value, or no value if this is none. Every other key, the buckets, the linked
--- dummies and the last stamp are unchanged.
+-- The key now has this value; if `value` is `None`, the key now has no value. Every other key, the
+-- buckets, the linked dummies and the last stamp are unchanged.
 pub record Sets (old new : TableAt) (key : ℕ) (value : Option ℕ) : Type 0 where
   pub content_is : content new ≡ set_at (content old) key value
   pub buckets : KeepsBuckets old new

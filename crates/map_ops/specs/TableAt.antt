@@ -88,8 +88,8 @@ pub record KeepsBuckets (old new : TableAt) : Type 0 where
 abbrev pub KeepsList : TableAt → TableAt → Type 0
 KeepsList old new = new.list ≡ old.list
 
--- The nodes, the buckets and the change number are unchanged. Spares may be given out or back, and
--- stamps be given.
+-- The nodes, the buckets and the change number are unchanged. Spares may be given out or taken
+-- back, and new stamps may be given.
 pub record KeepsNodes (old new : TableAt) : Type 0 where
   pub all : nodes_of new ≡ nodes_of old
   pub regular : regular new ≡ regular old
@@ -147,8 +147,8 @@ pub record IsPlaced (t : TableAt) (cursor : Cursor) (key : ℕ) : Type 0 where
   pub held : table_changes t ≡ cursor_changes cursor → table_changes t < 2 ^ 64 - 1
       → fits t cursor ≡ true
 
--- The place is that of the dummy of the key's bucket if the bucket is initialised, else that of the
--- dummy of the bucket's nearest initialised ancestor.
+-- A seek of the key starts from the dummy at this place: the dummy of the key's bucket if the
+-- bucket is initialised, else the dummy of the bucket's nearest initialised ancestor.
 abbrev pub IsStart : TableAt → ℕ → ℕ → Type 0
 IsStart t key place = IsNearest t.buckets (key % size_of t) place
 
@@ -161,8 +161,8 @@ nodes_sought t place key = sought t.list.nodes place (regular_at key)
 abbrev pub IsClean : TableAt → Type 0
 IsClean t = AllByRecursion (λ n. n.marked ≡ false) (nodes_of t)
 
--- The first marked node is unlinked and the spares are unchanged, or none is marked and nothing has
--- changed.
+-- If the outcome is `Swept`, the first marked node is unlinked and the spares are unchanged. If it
+-- is `Clean`, nothing has changed.
 abbrev pub SweepsNodes : TableAt → TableAt → SweepOutcome → Type 0
 SweepsNodes old new outcome = steps.Sweeps old.list new.list outcome
 

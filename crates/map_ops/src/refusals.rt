@@ -1,6 +1,6 @@
 //! The refusals of calls on buckets, converted to those of steps: `bucket_table` does not use
-//! `txn_words`, and this crate uses both. Each refusal becomes the one of its name, so no two
-//! become one; an outcome that is no refusal stays unchanged.
+//! `txn_words`, and this crate uses both. Each refusal becomes the refusal of the same name, so
+//! different refusals stay different; an outcome that is no refusal stays unchanged.
 ghost use Rattle.std.specs.Prelude.{◌≡◌};
 ghost use Rattle.map_ops.specs.Buckets.{answer_for, refusal_for};
 

@@ -73,11 +73,11 @@ impl Table {
         Table::with_capacity(alloc, max, callers, 0, false)
     }
 
-    /// A table as `new` makes it, with memory for this many nodes taken at once, so that the list
-    /// need not grow before it has more. Each linked node counts, also a marked one and a dummy,
-    /// and so does each spare that is out. If `is_written`, that memory is also written at once, so
-    /// that no later node is the first to touch a page of it; and memory for the entries of the
-    /// same number of buckets is taken too.
+    /// A table as `new` makes it, with memory for this number of nodes taken at once, so that the
+    /// list need not grow before it has more nodes. Each linked node counts, also a marked one and
+    /// a dummy, and so does each spare that is out. If `is_written`, the memory for the nodes is
+    /// also written at once, so that no later node is the first to touch a page of it; and memory
+    /// for the entries of as many buckets, at most `max`, is taken too.
     ///
     /// # Errors
     ///
@@ -85,8 +85,8 @@ impl Table {
     ///
     /// # Cost
     ///
-    /// That of `new`, and 40 bytes of memory for each node; if it is written, time in proportion to
-    /// it, and 4 bytes more for each of up to `max` nodes.
+    /// That of `new`, and 40 bytes of memory for each node. If `is_written`, also time in
+    /// proportion to that memory, and 4 bytes for each bucket's entry, in whole segments.
     pub fn with_capacity(
         alloc: Global,
         max: u32,
@@ -455,7 +455,7 @@ impl Table {
 
     /// Doubles the size. No node moves.
     ///
-    /// Three tests are made first, in this order: the size is not the one seen (`Moved`); the size
+    /// Three tests are made first, in this order: the size is not `seen` (`Moved`); the size
     /// is the largest (`AtLimit`); there are at most twice as many keys as buckets (`Light`). If
     /// one of them holds, the answer names it, and nothing changes.
     pub fn double(&mut self, seen: u64) -> Double

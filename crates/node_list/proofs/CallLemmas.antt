@@ -129,7 +129,8 @@ module _ (old : Slab SlotAt) (head changes last count marked : ℕ) (is : IsKept
       let same = some-injective (sym there ∙ regular.is) in
       (ap (λ (v : NodeAt). v.kind) same ∙ regular.regular, ap (λ (v : NodeAt). v.marked) same ∙ regular.unmarked)
 
-  -- The node in that slot is the node that the list has at the place, and it is unmarked.
+  -- If the list has an unmarked regular node at a place, the node in the slot is the one that the
+  -- list has there, and the node in the slot is unmarked.
   pub regular_found : (place : ℕ) (node : Node) → IsRegularAt (nodes_in old head) place → get old place ≡ Some (Linked node) → (node_of (nodes_in old head) place ≡ Some (seen place node)) × (node.marked ≡ false)
   regular_found place node regular is_node =
       let linked = found_linked (nodes_in old head) place regular.node regular.is in
@@ -177,7 +178,7 @@ module _ (old : Slab SlotAt) (head changes last count marked : ℕ) (is : IsKept
       let place_is = next_is (get old) (nodes_in old head) pred before is.laid_out.chain linked is_before ∙ next in
       linked_node (get old) (nodes_in old head) place is.laid_out.chain (linked_more _ _ (next_linked (nodes_in old head) pred place place_is).1)
 
-  -- A marked node behind another has the sort key that the node in its slot has.
+  -- The marked node behind `pred` has the sort key of the node in its slot, which is at `place`.
   pub behind_at : (pred place : ℕ) (before node : Node) (behind : IsBeforeMarked (nodes_in old head) pred) → get old pred ≡ Some (Linked before) → before.next ≡ Some place → get old place ≡ Some (Linked node) → behind.node.at ≡ node.at
   behind_at pred place before node behind is_before next is_node =
       let nodes = nodes_in old head in

@@ -9,7 +9,8 @@ use Rattle.node_list.specs.Order.{AbsentFrom, IsSpread, IsVacant}
 use Rattle.node_list.specs.Follow.{IsSameNode}
 use Rattle.node_list.proofs.OrderLemmas.{some-injective, some-none}
 
--- A spare that is filled as the dummy of bucket 0 is equal to `unfilled` of its place and stamp.
+-- If a spare, once filled, is the dummy of bucket 0, it is equal to `unfilled` of its place and
+-- stamp.
 pub unfilled_is : (s : SpareAt) → filled s ≡ first_dummy s.place s.stamp → unfilled s.place s.stamp ≡ s
 unfilled_is s is =
     let with : SortKey → Kind → ℕ → SpareAt = λ at kind value. record { place = s.place; stamp = s.stamp; at = at; kind = kind; value = value } in

@@ -42,7 +42,8 @@ each_found P (m ∷ rest) place n each is = elim (eqb_tells m.place place) [
   | inr apart ↦ each_found P rest place n each.1 (rw apart.0 at is)
 ]
 
--- Each change keeps a statement about each node.
+-- A statement that holds of each node, and of the new or changed node, still holds of each node
+-- after a link, an unlink or a change.
 pub each_linked : (P : NodeAt → Type 0) (nodes : List NodeAt) (pred : ℕ) (x : NodeAt) → P x → AllByRecursion P nodes → AllByRecursion P (linked_after nodes pred x)
 unfolding linked_after
 each_linked P [] pred x it each = tt

@@ -93,8 +93,7 @@ gain_near region n some = elim (eqb_tells (region_of n.at.split) region) [
     none true other = rw other refl
     none false other = refl
 
--- If one of the nodes behind a node is marked in a region, the node's split key is below the
--- region's end.
+-- If a node behind `n` is marked in a region, the split key of `n` is below the region's end.
 before_near : (region : ℕ) (n : NodeAt) (rest : List NodeAt) → AllByRecursion (IsNodeBefore n) rest → count_where (is_marked_in region) rest ≢ 0 → n.at.split < (region + 1) * 2 ^ 52
 unfolding count_where
 before_near region n [] behind some = absurd (some refl)

@@ -10,7 +10,7 @@ use Rattle.node_list.proofs.RunLemmas.{count_in_run, run_of_zeros, run_elsewhere
 pub region_within : (split : ℕ) → split < 2 ^ 64 → region_of split < 64 * 64
 region_within split fits = omega arith
 
--- A list of zeros counts nothing.
+-- Each count in a list of zeros is 0, also past the end of the list.
 pub zero_at : (many place : ℕ) → get_or {A = ℕ} (replicate many 0) place 0 ≡ 0
 zero_at many place = elim (cases_lt place many) [
   | inl less ↦ get_or-replicate many place 0 0 less

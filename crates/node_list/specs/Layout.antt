@@ -24,8 +24,8 @@ stored n next = record {
   next = next;
 }
 
--- The linked node in a slot, followed by the nodes from its next place on. There are none if the
--- slot has no linked node.
+-- The linked node in a slot, followed by the nodes that `rest` gives from the place of the next
+-- node on. If the slot has no linked node, the list is empty.
 abbrev pub step : ℕ → Option SlotAt → (Option ℕ → List NodeAt) → List NodeAt
 step place None rest = []
 step place (Some (Out stamp)) rest = []
@@ -103,7 +103,7 @@ pub record IsKept (slab : Slab SlotAt) (head last count marked : ℕ) : Type 0 w
   pub counted : count ≡ live_count (nodes_in slab head)
   pub marks : marked ≡ marked_count (nodes_in slab head)
 
--- The fields of a list meet their invariant, also the counts of marked nodes of the regions.
+-- The fields of a list meet their invariant, and each region has the right count of marked nodes.
 pub record IsWhole (slab : Slab SlotAt) (head last count : ℕ) (marks : TallyAt) : Type 0 where
   pub kept : IsKept slab head last count marks.total
   pub tallied : IsTallied marks (nodes_in slab head)

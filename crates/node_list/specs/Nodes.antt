@@ -179,7 +179,7 @@ unfoldable pub changes_after : ℕ → ℕ → ℕ
 changes_after changes zero = changes
 changes_after changes (suc more) = one_more (changes_after changes more)
 
--- The nodes are these after one change, and the same spares are out.
+-- One change was made: the nodes are now `after`, and the same spares are out.
 pub record Becomes (old new : Listing) (after : List NodeAt) : Type 0 where
   pub nodes : new.nodes ≡ after
   pub head : new.head ≡ old.head
@@ -187,7 +187,7 @@ pub record Becomes (old new : Listing) (after : List NodeAt) : Type 0 where
   pub last : new.last ≡ old.last
   pub out : (place : ℕ) → out_at new place ≡ out_at old place
 
--- The nodes are these after one change, and the spare at the place is no longer out.
+-- One change was made: the nodes are now `after`, and the spare at the place is no longer out.
 pub record Takes (old new : Listing) (after : List NodeAt) (place : ℕ) : Type 0 where
   pub nodes : new.nodes ≡ after
   pub head : new.head ≡ old.head

@@ -1,6 +1,7 @@
 //! The list: a slab of nodes that are chained by their places, and the counts of them. `slots.rt`
 //! changes single slots; a method here makes a whole change of the list, and keeps the invariant:
-//! the nodes are in strict order of their sort keys, and each counter is the number of its nodes.
+//! the nodes are in strict order of their sort keys, and each counter has the number of the nodes
+//! that it counts.
 ghost use Rattle.std.specs.Prelude.{◌≡◌, ℕ, ◌+◌, ◌-◌, ◌<◌, ◌^◌, ◌↔◌, Some, None, Err, [], ◌∷◌, IfOk, OnErr, IfSome, IfNone, IsSomeAnd, false};
 ghost use Rattle.std.specs.List.{AllByRecursion};
 ghost use Rattle.node_list.specs.Follow.{Follows};
@@ -182,7 +183,7 @@ impl NodeList {
         let node = spare.into_node(next);
         let weight = node.kind.weight();
         set_slot(&mut self.slab, place.place(), Slot::of_linked(node));
-        // The counted nodes are no more than the places in use, so the counts fit.
+        // There are at most as many counted nodes as places in use, so no counter overflows.
         let _places = self.slab.len();
         self.count += weight;
         advance(&mut self.changes);
@@ -213,7 +214,7 @@ impl NodeList {
     {
         let split = node_at(&self.slab, node.place()).at.split();
         mark(&mut self.slab, node.place());
-        // The counted nodes are no more than the places in use, so the counts fit.
+        // There are at most as many counted nodes as places in use, so no counter overflows.
         let _places = self.slab.len();
         self.count -= 1;
         self.marks.add(split);

@@ -20,7 +20,7 @@ pub enum Kind {
 }
 
 impl Kind {
-    /// What a new node of this kind adds to the list's count: 1 if it is regular, else 0.
+    /// The number that a new node of this kind adds to the list's count: 1 if regular, else 0.
     pub(crate) fn weight(self) -> u64
         ensures { result ≡ (if is_regular self then 1 else 0) }
     {

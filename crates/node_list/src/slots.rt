@@ -14,8 +14,8 @@ use std::alloc::{AllocError, Global};
 use std::marker::Model;
 use std::mem::size_of;
 
-/// A linked node, or the stamp of a spare whose place is kept. The node says which, in a byte
-/// beside its mark; an enum would take one more word for each slot.
+/// A linked node, or the stamp of a spare whose place is kept. The node's flag `is_linked`, a byte
+/// beside its mark, tells the two apart; an enum would take one more word for each slot.
 #[derive(Drop)]
 pub struct Slot {
     node: Node,
@@ -94,8 +94,8 @@ impl Slot {
     }
 }
 
-/// An empty slab with room for this many slots. If the room is to be written, it is filled once, so
-/// that no later slot is the first to touch a page of it.
+/// An empty slab with room for this many slots. If `is_written`, the slab is filled and emptied
+/// once, so that no later slot is the first to touch a page of its memory.
 ///
 /// # Errors
 ///

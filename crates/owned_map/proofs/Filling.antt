@@ -90,7 +90,7 @@ lacks_ask state op refusals.NoMemory lack = tt
 lacks_ask state op refusals.StampsUsedUp lack = tt
 lacks_ask state op _ lack = absurd lack
 
--- A step that no test refuses is refused only if memory or stamps are missing.
+-- A step that passes every test is refused only if memory or stamps are missing.
 lacked : (state : State) (step : Step) (refusal : Refusal) → refusal_of state step ≡ None → IsAllowed state step (answers.Refused refusal) → MayLack state step refusal
 lacked state step refusal free (inl is) = absurd (let both : None ≡ Some refusal = sym free ∙ is in cc)
 lacked state step refusal free (inr is) = is.1
@@ -179,7 +179,7 @@ only_commits old new (answers.Refused refusal) filling not_committed move = neve
     never (inr is) = is.1
 only_commits old new _ filling not_committed move = absurd move.allowed.1
 
--- A key that was listed is one that the limits take.
+-- The limits take the key of each pair that was listed.
 rest_none : (b : Bool) (v : ℕ) (rest : Option ℕ) → cond b (Some v) rest ≡ None → rest ≡ None
 rest_none true v rest none = absurd (cc none)
 rest_none false v rest none = none

@@ -111,7 +111,7 @@ reached_at c n m h seat seat_is leaving shaped =
     tested true s there = refl
     tested false s there = absurd (false≢true there)
 
--- If no test refuses a step, neither do the tests after those of readiness.
+-- If `unready` is `None`, so is `rest`: the step also passes the tests after those of readiness.
 pub past : (s : State) (c : ℕ) (rest : Option Refusal) → unready s c rest ≡ None → rest ≡ None
 past s c rest free =
     let q : Phase = (seat_in s.history c).phase in

@@ -220,7 +220,8 @@ one_back old between new c base stands seek act =
     let some : nat_lt 0 sought.seat.standing ≡ true = subst (λ q. has_job (record (sought.seat) { phase = q }) ≡ true) sought.phase_is job in
     to_state c base LeavingToEnd _ new act.state (undone_now between.limits c base between.history sought (ltb-true 0 sought.seat.standing some))
 
--- After the moves that take all changes back, only the moves of these steps are left.
+-- Once the moves of `undoing` have taken `changes` changes back, the caller is still leaving to the
+-- end, and the moves of `steps` are left.
 backwards : (old new : State) (c : ℕ) (base : Map) (changes : ℕ) (steps : List Step) (others : List Answer) → IsAt c base LeavingToEnd old → Moves old (undoing changes c steps) (undone changes others) new
     → (between : State) × IsAt c base LeavingToEnd between × Moves between steps others new
 backwards old new c base zero steps others stands moves = (old, stands, moves)

@@ -32,7 +32,7 @@ use Rattle.boost_core.proofs.Refused.{first_none}
 abbrev pub IsWell : State → Type 0
 IsWell s = asks_well s.limits.half s.history ≡ true
 
--- If two histories ask for no refused key, neither does one followed by the other.
+-- If two histories ask for no refused key, the first followed by the second asks for none.
 both : (half : Bool) (g h : List Entry) → asks_well half g ≡ true → asks_well half h ≡ true → asks_well half (g ++ h) ≡ true
 both half [] h first second = second
 both half (e ∷ g) h first second =
@@ -95,7 +95,8 @@ returned old new c n (answers.Returned m) (reached, between, event, ends) well =
 returned old new c n answers.Leaving none well = absurd none
 returned old new c n answer event well = moved old new (Back c n) answer event.move well
 
--- The entries of a transaction ask for no other keys than the history.
+-- `keys_of`: whether a key is not refused. If a history asks only for such keys, so do the entries
+-- of each of its transactions.
 abbrev keys_of : Bool → ℕ → Bool
 keys_of half k = not (is_bad_key half k)
 

@@ -73,7 +73,7 @@ filled pairs h is =
     ap (λ g. g ++ Committed 0 (how_many is_commit g + 1) ∷ []) is
     ∙ ap (λ n. (Began 0 1 ∷ flat_map put_new pairs) ++ Committed 0 (n + 1) ∷ []) (none_committed pairs)
 
--- The keys of the pairs rise, so a key is not among the pairs before its own.
+-- Since the keys of the pairs rise, no pair before the pair of a key has this key.
 below_at : (k j v : ℕ) (front back : List (ℕ × ℕ)) → T (below_all split_cmp j (front ++ (k, v) ∷ back)) → k ≢ j
 below_at k j v [] back below = λ same. subst (λ o. T (is_lt o)) (ap (split_cmp j) same ∙ tied_itself split_cmp_total j) (pair_parts (is_lt (split_cmp j k)) (below_all split_cmp j back) below).0
 below_at k j v (pair ∷ front) back below = below_at k j v front back (pair_parts (is_lt (split_cmp j pair.0)) (below_all split_cmp j (front ++ (k, v) ∷ back)) below).1
@@ -125,7 +125,8 @@ put_one k v front h g before fresh noted put = record {
 pub sorted_listed : (m : Map) (pairs front back : List (ℕ × ℕ)) → pairs ≡ ordered m → front ++ back ≡ pairs → IsSortedBySplit (front ++ back)
 sorted_listed m pairs front back is parts = subst IsSortedBySplit (sym (parts ∙ is)) (sorted-ordered m)
 
--- The next listed pair has a key that the map lacks, and is then put.
+-- `fresh_at`: the new map lacks the key of the next listed pair. `put_at`: after the put of this
+-- pair, `HasPut` holds of one more listed pair.
 plus_one : (i : ℕ) → i + 1 ≡ suc i
 plus_one i = omega arith
 

@@ -5,8 +5,8 @@ use Rattle.txn_words.specs.declared.entry.Entry.TheVariants.{Asked}
 use Rattle.txn_words.specs.Map.{Map, key_of, get}
 use Rattle.txn_words.specs.Sizes.{is_bad_key}
 
--- Whether an entry asks for no key that is refused; the argument says whether only half keys are
--- taken.
+-- `false` exactly if an entry asks for a key that is refused. If `half`, the keys from 2^63 on are
+-- refused; if not, no key is.
 abbrev pub is_well : Bool → Entry → Bool
 is_well half (Asked c op) = not (is_bad_key half (key_of op))
 is_well half e = true

@@ -21,7 +21,7 @@ use map_answers::Stop;
 use std::alloc::Global;
 use txn_trace::{Answer, Limits, Op, Refusal, Reply, Step};
 
-/// A table with up to this number of initialised buckets has one for every two keys, so that
+/// Up to this number of initialised buckets, a table has one bucket for every two keys, so that
 /// operations on a small table walk past few nodes.
 const FEW_BUCKETS: u64 = 4096;
 

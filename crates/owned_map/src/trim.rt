@@ -37,8 +37,8 @@ impl OwnedMap {
     /// # Cost
     ///
     /// That of `new` and of a list of the pairs, and a put for each pair. Beside the core that is
-    /// handed out, memory for a core with the same pairs and a history of two entries a pair, and
-    /// for the list while it runs.
+    /// handed out, it takes memory for a core with the same pairs and a history of two entries a
+    /// pair, and, until it returns, for the list of the pairs.
     pub fn trim(&mut self, alloc: Global) -> Result<Core, Refusal>
         ensures old { IfOk result (λ core. core ≡ self.old.core) }
         ensures trimmed { OnOk result (IsTrimmed self.old.core self.new.core) }

@@ -3,8 +3,9 @@
 //!
 //! `Box::into_raw` and `Box::from_raw` state in separation logic what changes hands: the block of
 //! memory, with its value, and the right to free it. A caller of them needs a proof by hand. An
-//! `OwnedPointer` owns exactly that besides its address, so its two functions are plain calls with
-//! plain contracts, and the proof by hand is made once, for every type.
+//! `OwnedPointer` has the address, and owns the block and the right to free it. So its two
+//! functions are plain calls with plain contracts, and the proof by hand is made once, for every
+//! type.
 //!
 //! ```text
 //!   Box<T>  --from_box-->  OwnedPointer<T>  --into_box-->  Box<T>

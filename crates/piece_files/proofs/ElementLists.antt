@@ -28,7 +28,7 @@ pub nothing_before : (r : Option (Items × List Token)) → r ≡ parse_map (bef
 nothing_before None = refl
 nothing_before (Some p) = refl
 
--- ---- which are kept
+-- ---- lists with an element that is not plain, or with too many elements
 
 and_false : (b : Bool) {x : Bool} → x ≡ false → b && x ≡ false
 and_false true e = e

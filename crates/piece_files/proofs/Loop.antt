@@ -75,7 +75,7 @@ none_kept most count pieces all p le counted kept =
     let here : most ≤ length all = omega (arith, le, counted) in
     kept ∙ sym (take-append-le most all (p ∷ []) here)
 
--- ---- by whether all are pieces so far and by what was read
+-- ---- one more element: a piece (kept, or only counted), an element after a fault, or no piece
 
 pub keep_piece : {P : Type 0} (of : List Data → Option P) (part : Part) (most m : ℕ) (b : Bool) (pieces kept : List P) (count next : ℕ) (ds : List Data) (d : Data) (p : P) (o : Option P)
     → m ≡ most → b ≡ true → count < m → kept ≡ pieces ++ p ∷ [] → next ≡ count + 1 → o ≡ Some p → o ≡ option_and_then of (elements_of d) → IsRead of part most b pieces count ds → IsRead of part most b kept next (ds ++ d ∷ [])

@@ -1,5 +1,5 @@
--- The elements that `number_at` and the other functions of `Elements.antt` take are plain, so a
--- list with another element, or with too many, is not taken.
+-- The elements that `number_at` and the other functions of `Elements.antt` take are plain. So these
+-- functions take no list with an element that is not plain, or with too many elements.
 use Rattle.std.proofs.Common.{◌≡◌, ℕ, zero, suc, List, [], ◌∷◌, length, Bool, true, false, ◌==◌, ◌&&◌, Option, Some, None, option_map, if◌then◌else◌, refl, ap, arith}
 use Rattle.std.specs.Prelude.{⊤}
 use Rattle.serde_json.specs.Data.{unsigned, negative, float, Data, null, boolean, number, string, array, object}
@@ -8,7 +8,7 @@ use Rattle.piece_files.specs.Elements.{◌>>=◌, number_of, number_at, word_at,
 use Rattle.piece_files.specs.Tokens.{is_plain, are_plain}
 use Rattle.piece_files.proofs.ValueKinds.{never}
 
--- ---- what is behind an answer
+-- ---- the parts of an answer that is `Some`
 
 pub bound : {A B : Type 0} (o : Option A) (f : A → Option B) (b : B) → (o >>= f) ≡ Some b → (a : A) × (o ≡ Some a) × (f a ≡ Some b)
 bound None f b e = absurd (grind (arith, e))

@@ -8,7 +8,7 @@ use Rattle.json.proofs.Grammar.{items_end, items_fail, items_more, members_end, 
 use Rattle.serde_json.specs.Data.{Data, array, object, no_items, item, Members, no_members, put}
 use Rattle.serde_json.specs.Read.{of_json, of_items, of_members, converted}
 
--- ---- what is converted
+-- ---- results that are converted
 
 -- A value, if there is one, paired with the tokens that are left.
 abbrev with_rest : {B : Type 0} → List Token → Option B → Option (B × List Token)

@@ -72,7 +72,7 @@ pub too_deep_object : (n : ℕ) (ts : List Token) → n ≡ 0 → value_at n (To
 unfolding value
 too_deep_object n ts none = rw none refl
 
--- ---- elements, with a function that puts the elements read before in front of them
+-- ---- functions that put the elements read so far in front of the next ones
 
 pub none_before : (r : Option (Items × List Token)) → r ≡ parse_map (λ ds. ds) r
 none_before None = refl

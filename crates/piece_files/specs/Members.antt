@@ -51,7 +51,7 @@ kind_named names of is_old part most = record {
   most = most;
 }
 
--- The findings are those of the last members of the kind's names.
+-- For each name of the kind, the finding is that of the last member with this name.
 pub record AreFound {P : Type 0} (kind : FileKind P) (n : Option ℕ) (numbers : List (Option ℕ))
     (pieces : Option (Pieces P)) (ms : Members) : Type 0 where
   pub the_version : n ≡ last_number ms version
@@ -59,8 +59,8 @@ pub record AreFound {P : Type 0} (kind : FileKind P) (n : Option ℕ) (numbers :
   pub the_pieces :
       ArePiecesIn kind.of kind.is_old kind.part kind.most pieces (get_member kind.pieces ms)
 
--- By the finding in the member of pieces, `old` has the pieces as version 1 has them, and `new` as
--- version 2 has them.
+-- For this finding in the member of pieces, `old` is the result in version 1, and `new` the result
+-- in version 2. Without a finding both are the fault `Member`.
 abbrev pub FindsIn : {P : Type 0} → Part → ℕ → Option (Pieces P)
     → Result (List P) FileFault → Result (List P) FileFault → Type 0
 FindsIn part most None old new = (old ≡ Err Member) × (new ≡ Err Member)

@@ -50,8 +50,8 @@ OpensObject bytes rest = lex between bytes ≡ token begin_object ∷ lex betwee
 
 -- ---- values and keys
 
--- Wherever a value may begin, the bytes are this value, and then the rest, if the rest may follow a
--- value.
+-- If the rest may follow a value, the bytes are this value and then the rest, wherever a value may
+-- begin.
 abbrev pub IsValue : ℕ → List ℕ → Data → List ℕ → Type 0
 IsValue depth bytes d rest =
     EndsValue rest → (place : Place) → may_begin place ≡ true
@@ -83,7 +83,7 @@ pub record Follow (depth : ℕ) (bytes : List ℕ) (ds : List Data) (others : Li
   pub ends : EndsValue bytes
   pub left : AreLeft depth (tokens_at after_value bytes) ds others
 
--- From `start` on the bytes are these elements, and then those of the rest.
+-- The bytes `start` are the elements `ds`, and then the elements that the bytes `rest` are.
 abbrev pub AreTaken : ℕ → List ℕ → List Data → List ℕ → Type 0
 AreTaken depth start ds rest =
     (es : List Data) (others : List Token)
@@ -96,7 +96,7 @@ AreMembers ts old all =
     (n : ℕ) → length ts ≤ n
     → converted (λ ms. of_members ms old) (members (value 126) n ts) ≡ Some (all, [])
 
--- The text is an object: these members, and then those of the rest.
+-- The text is an object with the members `old`, and then the members that the bytes `rest` are.
 abbrev pub AreMembersTaken : List ℕ → Members → List ℕ → Type 0
 AreMembersTaken text old rest =
     (all : Members)

@@ -89,7 +89,7 @@ fn contents_found<K: PieceKind, const N: usize>(
 /// member `version`, a number in each member of `numbers`, and an array of pieces in the member
 /// `pieces`.
 ///
-/// Other members of the object are passed over, and of a member that is given twice the last
+/// Other members of the object are passed over. If a member is given more than once, the last one
 /// counts. A number is written without a sign, a fraction or an exponent, and is below 2^64.
 ///
 /// # Errors
@@ -97,8 +97,8 @@ fn contents_found<K: PieceKind, const N: usize>(
 /// The first of these, in this order:
 ///
 /// - `Limit` if there are more than 16,777,216 bytes.
-/// - `NotJson` if they are not UTF-8, or no JSON in which arrays and objects nest no deeper than
-///   127 and each number is in range of a float.
+/// - `NotJson` if they are not UTF-8 or not JSON, if arrays and objects nest deeper than 127, or if
+///   a number is too large for a float.
 /// - `Member` if the value is no object, or a member is missing or of the wrong kind.
 /// - `Piece` for the first element of `pieces` that is no piece or, if the version is 1, no piece
 ///   of version 1.

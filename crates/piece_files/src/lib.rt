@@ -4,9 +4,10 @@
 //! of the pieces that version 2 has: in a file of version 1 these are wrong. This crate knows
 //! nothing of steps, scripts and entries but the words by which a fault names them (`Part`).
 //!
-//! The model is a function of the bytes, `contents` of `specs/Files.antt`: the value that they are
-//! (`json_of`), the numbers in its members, and the pieces of an array or the first that is wrong
-//! (`pieces_from`). Inside, the model of a reader is the tokens that are left, and
+//! The model is a function of the bytes, `contents` of `specs/Files.antt`. It reads the bytes as a
+//! value of JSON (`json_of`), and gives the version, the numbers and the pieces in the value's
+//! members, or the first fault; `pieces_from` gives the pieces of an array, or the first element
+//! that is no piece. Inside, the model of a reader is the tokens that are left, and
 //! `specs/Tokens.antt` says what they begin with. `json` and `serde_json` define what bytes, tokens
 //! and numbers mean as JSON.
 //!

@@ -122,7 +122,7 @@ pub(crate) fn place_of(names: &[&str], key: &str) -> Option<usize>
     names.iter().position(|name| *name == key)
 }
 
-/// Takes a further member of this key: the value that begins with this token, which was taken.
+/// Takes one more member: its key is `key`, and its value begins with this token, which was taken.
 fn take_member<K: PieceKind, const N: usize>(
     found: &mut Found<K::Piece, N>,
     names: Names<'_>,

@@ -15,8 +15,8 @@ use json::{Invalid, Reader, Token};
 ///
 /// # Errors
 ///
-/// `Invalid` if this is no value of JSON in which arrays and objects nest no deeper than `depth`,
-/// or a number is too large for a float. The reader is then anywhere in the text.
+/// `Invalid` if this is no value of JSON, if arrays and objects in it nest deeper than `depth`, or
+/// if a number is too large for a float. The reader is then anywhere in the text.
 ///
 /// # Cost
 ///

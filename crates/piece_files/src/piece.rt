@@ -64,9 +64,10 @@ pub trait PieceKind {
     ///
     /// # Errors
     ///
-    /// `NotJson` if the tokens are not the rest of an array in which arrays and objects nest no
-    /// deeper than `depth`, or a number is too large for a float; `NoMemory` if memory is refused,
-    /// and only of a kind that `takes_memory`. The reader is then anywhere in the text.
+    /// `NotJson` if the tokens are not the rest of an array, if arrays and objects in it nest
+    /// deeper than `depth`, or if a number is too large for a float. `NoMemory` if memory is
+    /// refused, which happens only if the kind `takes_memory`. The reader is then anywhere in the
+    /// text.
     ///
     /// # Cost
     ///
@@ -90,7 +91,7 @@ pub trait PieceKind {
     ///
     /// # Errors
     ///
-    /// `AllocError` if memory is refused, and only of a kind that `takes_memory`.
+    /// `AllocError` if memory is refused, which happens only if the kind `takes_memory`.
     ///
     /// # Cost
     ///
@@ -123,7 +124,7 @@ pub struct Pieces<P> {
     pub first_new: Option<usize>,
 }
 
-/// The piece that begins with this token, which was taken, or none if it is no piece.
+/// The piece that begins with this token, which was taken. Answers `None` if the value is no piece.
 fn piece_in<K: PieceKind>(
     alloc: Global,
     token: Token<'_>,
@@ -173,9 +174,9 @@ fn next_count(count: usize) -> Result<usize, Stop>
 ///
 /// # Errors
 ///
-/// `NotJson` if the tokens are not the rest of an array in which arrays and objects nest no deeper
-/// than `depth`, or a number is too large for a float; `NoMemory` if memory is refused. The reader
-/// is then anywhere in the text.
+/// `NotJson` if the tokens are not the rest of an array, if arrays and objects in it nest deeper
+/// than `depth`, or if a number is too large for a float; `NoMemory` if memory is refused. The
+/// reader is then anywhere in the text.
 ///
 /// # Cost
 ///

@@ -80,8 +80,8 @@ pub(crate) fn plain_value<'a>(
 ///
 /// # Errors
 ///
-/// `Invalid` if the tokens are not the rest of an array in which arrays and objects nest no deeper
-/// than `depth`, or a number is too large for a float. The reader is then anywhere in the text.
+/// `Invalid` if the tokens are not the rest of an array, if arrays and objects in it nest deeper
+/// than `depth`, or if a number is too large for a float. The reader is then anywhere in the text.
 ///
 /// # Cost
 ///

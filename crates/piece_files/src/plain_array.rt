@@ -48,9 +48,9 @@ pub fn elements_at<'a, const MOST: usize>(
     None
 }
 
-/// Takes the elements of an array that is all of a text into `elements`, in place of what is there,
-/// if the array has plain form and 1 to `MOST` elements, and no white space is before its opening
-/// bracket. Answers whether that is so.
+/// Takes the elements of a text that is one array into `elements`, in place of what is there.
+/// Answers `true` if the text is an array in plain form with 1 to `MOST` elements, and no white
+/// space is before its opening bracket. Else answers `false`, and may have changed `elements`.
 ///
 /// # Cost
 ///

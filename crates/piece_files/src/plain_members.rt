@@ -1,6 +1,6 @@
-//! The members of a file in plain form, taken one after the other. It finds what `members` finds,
-//! but by bytes and not by tokens, and names no fault: a text in another form, or with a piece that
-//! is wrong, is left to the reader of JSON, from its start.
+//! Reads the members of a file in plain form, one after the other. This module finds what `members`
+//! finds, but reads bytes instead of tokens, and names no fault: if the text has another form, or a
+//! wrong piece, the reader of JSON reads the whole text from its start.
 ghost use Rattle.std.specs.Prelude.{◌≡◌, ◌∷◌, ◌<◌, ◌≤◌, true, length, drop, Some, IfOk, IfSome};
 ghost use Rattle.serde_json.specs.Data.{Data, Members, object, put};
 ghost use Rattle.serde_json.specs.Read.{read};

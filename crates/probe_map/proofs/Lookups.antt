@@ -1,4 +1,4 @@
--- The value that the pairs of the slots have at a key, if at most one slot has it.
+-- The value that the pairs of the slots have at a key, if at most one slot has the key.
 use Rattle.std.proofs.Common.{◌≡◌, ◌≢◌, ℕ, zero, suc, ◌+◌, ◌<◌, false, cond, List, [], ◌∷◌, length, Option, None, Some, count_by, sym, refl, ◌∙◌, ap, nat_eq, arith, eq-eqb, ne_eqb, set, get_or, drop, replicate, ◌≤◌}
 use Rattle.std.specs.List.{AllByRecursion, IsDistinct}
 use Rattle.std.specs.Map.{keys_of, lookup}
@@ -17,7 +17,7 @@ some_apart a b other same = other cc
 apart_some : (a b : ℕ) → Some a ≢ Some b → a ≢ b
 apart_some a b other same = other (ap Some same)
 
--- A slot with another key is not found.
+-- A slot that does not have the key, in front of other slots, does not change the key's value.
 found_behind : (slot : Slot) (slots : List Slot) (key : ℕ) → key_in slot ≢ Some key → found (slot ∷ slots) key ≡ found slots key
 found_behind Empty slots key other = refl
 found_behind (Removed k) slots key other = refl
@@ -75,7 +75,7 @@ distinct (Full k v ∷ slots) one = (
   distinct slots (λ key i j li lj a b. let e = one key (suc i) (suc j) (omega arith) (omega arith) a b in omega arith),
 )
 
--- The pairs from one place on are those of its slot and those behind it.
+-- The pairs of the slots from a place on are those of the slot there and of the slots behind it.
 pub pairs_of-drop : (slots : List Slot) (i : ℕ) (d : Slot) → i < length slots → pairs_of (drop i slots) ≡ pairs_of (get_or slots i d ∷ drop (i + 1) slots)
 pairs_of-drop slots i d lt = ap pairs_of (drop_more slots i d lt)
 
@@ -90,7 +90,8 @@ pub pairs_of-replicate : (n : ℕ) → pairs_of (replicate n Empty) ≡ []
 pairs_of-replicate zero = refl
 pairs_of-replicate (suc n) = pairs_of-replicate n
 
--- The pairs from `left` on, and the pair of the full slot before `left`, are at most all pairs.
+-- If the slot before `left` is full, the slots from `left` on have at least one pair fewer than all
+-- slots.
 pub pairs_more : (slots : List Slot) (i left : ℕ) (d : Slot) (k v : ℕ) → i + 1 ≡ left → left ≤ length slots → get_or slots i d ≡ Full k v
     → length (pairs_of (drop left slots)) + 1 ≤ length (pairs_of slots)
 pairs_more slots i left d k v next within is =

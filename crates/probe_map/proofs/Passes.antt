@@ -7,7 +7,8 @@ use Rattle.probe_map.specs.declared.slot.Slot.TheVariants.{Empty}
 use Rattle.probe_map.specs.Probes.{LeadsTo, stops}
 use Rattle.probe_map.specs.Slots.{StopsAt, key_at, key_in}
 
--- `passes`: the probe for `key` goes on over slot `j`. `passes_below`: over each slot below `n`.
+-- `passes`: the probe for `key` does not stop at slot `j`. `passes_below`: the probe does not stop
+-- at any slot below `n`.
 abbrev passes : List Slot → ℕ → ℕ → Type 0
 passes slots key j = stops (key_at slots j) key ≡ false
 

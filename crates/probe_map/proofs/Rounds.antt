@@ -1,6 +1,6 @@
--- Consequences of each key being where its probe stops. A key is at no more than one place, and at
--- none if its probe stops at an empty place. If a key is put where its probe stops, each other key
--- is still where its own probe stops.
+-- If each key is where its probe stops, a key is at no more than one place, and at no place if its
+-- probe stops at an empty one. If a key is then put where its probe stops, each other key is still
+-- where its own probe stops.
 use Rattle.std.proofs.Common.{◌≡◌, ◌≢◌, ℕ, ◌<◌, ◌≤◌, ◌⊎◌, true, false, Option, Some, None, inl, inr, ⊎_elim, arith, refl, sym, ap, subst, ◌∙◌, eq-eqb}
 use Rattle.std.proofs.lemmas.Bool.{cases_eq, cases_lt, eqb-true, false≢true}
 use Rattle.probe_map.specs.Probes.{IsBefore, IsProbed, LeadsTo, stops}

@@ -87,8 +87,8 @@ content_set slots room len shift key place slot table at is = set_lookups (pairs
     was q ne there = ⊎_elim (λ (none : key_at slots place ≡ None). let both : None ≡ Some q = sym none ∙ there in absurd (cc))
         (λ (same : key_at slots place ≡ Some key). ne (ap num (sym same ∙ there))) (stopped (key_at slots place) key at.stops)
 
--- After the write the slots are still sound, if the new numbers of usable slots and of values,
--- `fewer` and `more`, count the new slot instead of the old one.
+-- After the write the slots are sound with `fewer` as the number of usable slots and `more` as the
+-- number of values, if these numbers count the new slot instead of the old one.
 pub table_set : (slots : List Slot) (room len shift key place : ℕ) (slot : Slot) (fewer more : ℕ) → IsTable slots room len shift → StopsAt slots (begins slots shift key) key place
     → key_in slot ≡ Some key → fewer + tally (is_empty (slot_at slots place)) ≤ room
     → more + tally (is_full (slot_at slots place)) ≡ len + tally (is_full slot)
@@ -148,7 +148,7 @@ all_empty slots room shift none few full = record {
   len_is = sym full;
 }
 
--- The slot that is read at a place.
+-- The slot that the code reads at a place is the slot at this place.
 read_is : (slots : List Slot) (place : ℕ) (slot : Slot) → place < length slots → slot ≡ get_or slots place slot → slot ≡ slot_at slots place
 read_is slots place slot lt read = read ∙ get_or_default slots place slot Empty lt
 

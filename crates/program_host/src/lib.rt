@@ -1,10 +1,11 @@
 //! The system that a program runs on; all programs share it, below their command lines.
 //!
-//! `System` is what a program needs of it, the words of the call and files, so that a program can
-//! be tried on a system in memory; `Host` is the system behind a runtime. `specs/Words.antt` has
-//! three definitions for a command line that `clap` reads: that a command is an application of
-//! `clap`, the word that names a file, and which words are numerals. `proofs/` has the lemmas that
-//! both command lines cite, about these definitions and about the result of a parse.
+//! `System` has the services that a program needs: the words of its call, and files. So a program
+//! can also be tried on a system in memory. `Host` is the system behind a runtime.
+//! `specs/Words.antt` has three definitions for a command line that `clap` reads: that a command is
+//! an application of `clap`, the word that names a file, and which words are numerals. `proofs/`
+//! has the lemmas that both command lines cite, about these definitions and about the result of a
+//! parse.
 #![tactic(auto)]
 
 mod system;

@@ -1,5 +1,5 @@
 //! Tests of the engines of the four commands. Here are the parts that they share: `run_on`, which
-//! ends a command as the program does, and `Files`, a row of similar files with one output. The one
+//! runs a command as the program does, and `Files`, a row of similar files with one output. The one
 //! test here goes over the rows of the modules `replays`, `checks`, `mixes` and `runs`.
 
 mod checks;

@@ -194,8 +194,8 @@ fn compare_grown(rt: &impl Abort, alloc: Global, row: Grown) -> Result<(), Fail>
     Ok(())
 }
 
-/// A file one byte longer than the largest step file is too long. Without that byte these spaces
-/// are no JSON.
+/// The spaces are one byte more than a step file may have, so the file is too long. With one space
+/// fewer the file is not too long, but it is not JSON.
 fn compare_spaces(rt: &impl Abort, alloc: Global, spaces: &[u8]) {
     let too_long = fault_of(alloc, Kind::Steps, spaces);
     same_fault(rt, too_long, Some(FileFault::Limit), "too long");
@@ -267,7 +267,7 @@ const OF_EACH_KIND: [(Kind, &str); 3] = [
     ),
 ];
 
-/// Memory may be refused anywhere: then that is the answer, and no other fault.
+/// Memory may be refused anywhere. If it is, the fault is `NoMemory` and no other.
 #[test]
 fn memory_refused(rt: HostRuntime) {
     for (kind, text) in OF_EACH_KIND {

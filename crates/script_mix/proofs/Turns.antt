@@ -1,4 +1,4 @@
--- A worker's step is a move of the core that adds only its entries.
+-- A worker's step is a move of the core that adds only entries of this worker.
 use Rattle.std.proofs.Common.{◌≡◌, ◌≢◌, ℕ, ◌<◌, ◌==◌, cond, List, [], ◌∷◌, ◌++◌, length, get_or, set, Option, Some, None, refl, sym, ap, subst, ◌∙◌, arith, inl, inr, eq-eqb, ne_eqb, append-nil, length-append, length-set, get_or-set_same, get_or-set_other}
 use Rattle.std.specs.List.{AllByRecursion}
 use Rattle.std.proofs.lemmas.Bool.{cases_eq, cases_lt}
@@ -143,7 +143,7 @@ module _ (scripts : List (List Action)) (tries : ℕ) where
       (sized_keeps size scripts tries before (own before.number old.history) keeps) takes.steps in
       record { limits = goes.limits; number = goes.number; same = goes.same; others = goes.others; keeps = goes.keeps }
 
--- One member moves on, and the others are unchanged.
+-- After a member has taken a turn, the workers are still a crew: the other members are unchanged.
 pub crew_goes : (scripts : List (List Action)) (tries count w : ℕ) (old new : State) (crew : List Worker) (before after : Worker) → w < length crew → before ≡ get_or crew w before
     → IsCrew scripts tries count old.history crew → Goes scripts tries old new before after → IsReady after → IsCrew scripts tries count new.history (set crew w after)
 crew_goes scripts tries count w old new crew before after within at is goes ready = record {
@@ -185,7 +185,7 @@ member_keeps scripts tries count w h crew worker within at is =
     let member : IsMember scripts tries count h w worker = rw at (is.each w worker within) in
     subst (λ n. Keeps scripts tries worker (own n h)) (sym member.number) member.keeps
 
--- One more member.
+-- If one more member is added, each worker is a member.
 pub crew_more : (scripts : List (List Action)) (tries count : ℕ) (crew : List Worker) (worker : Worker) → IsMember scripts tries count [] (length crew) worker
     → ((w : ℕ) (other : Worker) → w < length crew → IsMember scripts tries count [] w (get_or crew w other))
     → (w : ℕ) (other : Worker) → w < length (crew ++ worker ∷ []) → IsMember scripts tries count [] w (get_or (crew ++ worker ∷ []) w other)

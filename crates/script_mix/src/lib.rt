@@ -13,7 +13,7 @@
 //! 2^64 - 1 turns, which no run lives to see. Each of these turns takes a step. `draw` is the
 //! generator's next word modulo the number of live workers. Memory is taken for the core and the
 //! workers at the beginning, and then only by the core's steps. The numbers of the live workers are
-//! a list, so that a turn costs a look at one worker, and its steps.
+//! kept in a list, so a turn costs only its steps and a look at one worker.
 #![tactic(auto)]
 
 mod crew;

@@ -81,8 +81,8 @@ read_written os number x n o within there = elim (cases_order n number) [
   | inr (inr more) ↦ inr (sym (get-set_other os number n x (λ same. omega (arith, same, more))) ∙ there)
 ]
 
--- An outcome that an entry of this index writes, at a script that the worker's position has not
--- passed.
+-- The entry with index `fed` writes the outcome of script `number`: a commit, and the script is not
+-- before the worker's position `next`; or an abort, and the script is not before `turn`.
 abbrev pub IsNew : ℕ → ℕ → ℕ → ℕ → Outcome → Type 0
 IsNew next turn fed number (Committed place entry) = (next ≤ number) × (entry ≡ fed)
 IsNew next turn fed number (Aborted entry) = (turn ≤ number) × (entry ≡ fed)
@@ -254,7 +254,7 @@ module _ (w : ℕ) (scripts : List (List Action)) (h : List Entry) (c fed : ℕ)
     commit_play place ends play =
         subst (PlayInOrder w scripts c old.next) (taken_in old.part.items mine ∙ ap (λ b. cond b (grown old.part.items e ∷ committed_from c (grown old.part.items e) (drop (fed + 1) h)) (committed_from c (grown old.part.items e) (drop (fed + 1) h))) (ap is_commit ends)) play
 
-    -- The first script that is played is no later than any other that is played.
+    -- The script `number` is not after the script that the transaction plays by `play`.
     no_later : (number : ℕ) → IsFirstPlayed w scripts new.part.items old.next number → (parts : List (List Entry)) → (play : PlayInOrder w scripts c old.next (grown old.part.items e ∷ parts)) → number ≤ play.0
     no_later number first parts play = elim (cases_lt play.0 number) [
       | inl early ↦ absurd (first.passed play.0 play.1 play.2 early (play.3.mine ∙ sym f.next) play.3.there (subst (IsPlayed play.1) (sym grows) play.4))

@@ -1,4 +1,5 @@
--- The committed transactions of a caller, each as its entries, are those that are counted.
+-- If a caller's committed transactions play its scripts in order, each of these transactions is
+-- counted for a script.
 use Rattle.std.proofs.Common.{◌≡◌, ℕ, ◌<◌, ◌==◌, ◌&&◌, Bool, true, false, cond, List, [], ◌∷◌, ◌++◌, length, map, not, Some, None, if◌then◌else◌, refl, sym, ap, subst, ◌∙◌}
 use Prim.Native.Nat.{suc}
 use Rattle.std.specs.List.{AllByRecursion, cons_option, fold}

@@ -21,8 +21,8 @@ grown part e = if is_began e then e ∷ [] else if is_undone e then part else pa
 abbrev pub last_of : ℕ → List Entry → List Entry
 last_of c h = fold grown [] (own c h)
 
--- The entry of this index commits a transaction of the caller, at this place, that plays the
--- script.
+-- The entry of this index is a Committed of the caller with this commit number (`place`), and its
+-- transaction plays the script.
 pub record Commits (c : ℕ) (script : List Action) (place entry : ℕ) (h : List Entry) : Type 0 where
   pub at : slice_get h entry ≡ Some (entries.Committed c place)
   pub plays : IsPlayed script (last_of c (take (entry + 1) h))

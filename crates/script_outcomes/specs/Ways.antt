@@ -45,8 +45,8 @@ pub record IsFirstPlayed (workers : ℕ) (scripts : List (List Action)) (part : 
   pub plays : (script : List Action) → slice_get scripts number ≡ Some script
       → IsPlayed script part
 
--- The number is one of `low`, `low + workers` and so on. If the transaction has reached an abort,
--- this is the abort of the script with the number.
+-- The number is one of `low`, `low + workers` and so on. If `reached` is true, the transaction
+-- reached the abort of the script with this number.
 pub record IsFirstLeft (workers : ℕ) (scripts : List (List Action)) (part : List Entry)
     (low number : ℕ) (reached : Bool) : Type 0 where
   pub from : low ≤ number
@@ -72,8 +72,8 @@ pub record GoesOn (workers : ℕ) (old new : Way) : Type 0 where
   pub next_mine : new.next % workers ≡ old.next % workers
   pub turn_mine : new.turn % workers ≡ old.turn % workers
 
--- The transaction is counted for the script of this number, and the worker goes on to a position
--- `low` after it.
+-- The transaction is counted for the script of this number, and the worker goes on to the position
+-- `low`, which is greater than this number.
 pub record Counts (scripts : List (List Action)) (outcome : Outcome) (number low : ℕ)
     (outcomes outcomes' : List Outcome) : Type 0 where
   pub within : number < length scripts

@@ -36,14 +36,14 @@ fn none_yet(alloc: Global, scripts: usize) -> Result<Vec<Outcome>, AllocError>
 /// worker `i` modulo the callers of the scripts' limits, and worker `w` is caller `w` of the
 /// history.
 ///
-/// A committed transaction is counted for the first script that it plays among its caller's scripts
-/// after the last one that a commit was counted for. If it plays none of these, neither it nor a
-/// later commit of the caller is counted. An abort is counted for a script whose actions the
-/// transaction did up to the script's own abort, or for none. If there are several such scripts,
-/// the caller's earlier entries decide for which of them the abort is counted. So each transaction
-/// is counted for at most one script. A caller's commits are in the order of its scripts, and so
-/// are its aborts. If the caller's commits play its scripts in order, each of them is counted, so
-/// none is missed.
+/// A commit is counted for one of the caller's scripts that follow the script of the caller's last
+/// counted commit: the first of these that the transaction plays. If it plays none of them, neither
+/// this nor a later commit of the caller is counted. An abort is counted for a script whose actions
+/// the transaction did up to the script's own abort, or for none. If there are several such
+/// scripts, the caller's earlier entries decide for which of them the abort is counted. So each
+/// transaction is counted for at most one script. A caller's commits are in the order of its
+/// scripts, and so are its aborts. If the caller's commits play its scripts in order, each of them
+/// is counted, so none is missed.
 ///
 /// The history is not judged.
 ///

@@ -83,8 +83,9 @@ impl Way {
         number
     }
 
-    /// The worker's first script from `turn` on at which the transaction was an attempt, or the
-    /// worker's first number past the scripts; and whether it reached the script's abort.
+    /// The worker's first script from `turn` on that the aborted transaction follows (`compare`),
+    /// or the worker's first number past the scripts. Also answers whether the transaction reached
+    /// that script's own abort.
     fn first_left(&self, work: &Work<'_>) -> (usize, bool)
         requires { 0 < work.now.workers }
         ensures { IsFirstLeft work.now.workers work.now.scripts.now self.now.part.items
@@ -131,9 +132,9 @@ impl Way {
         }
     }
 
-    /// The transaction was aborted after a Leave to its end. The first script from `turn` on at
-    /// which it was an attempt is over. If the transaction reached this script's abort, it is
-    /// counted for the script.
+    /// The transaction was aborted after a Leave without a level. The first script from `turn` on
+    /// that the transaction follows is over. If the transaction reached this script's own abort,
+    /// it is counted for the script.
     fn leave(&mut self, work: &Work<'_>, entry: u64, outcomes: &mut [Outcome])
         requires may { MayCount work.now.workers work.now.scripts.now self.old outcomes.old }
         ensures { Aborts work.now.workers work.now.scripts.now entry self.old self.new
@@ -167,7 +168,7 @@ impl Way {
         }
     }
 
-    /// Whether the transaction was aborted after a Leave to its end, and not after a Busy.
+    /// Whether the transaction was aborted after a Leave without a level, and not after a Busy.
     fn has_left(&self) -> bool {
         matches!(
             self.part.as_slice(),

@@ -7,7 +7,8 @@ use Rattle.script_worker.specs.Accounts.{Outcome, Told, is_busy, reply_in, repli
 pub how_many-append : (test : Entry → Bool) (xs ys : List Entry) → how_many test (xs ++ ys) ≡ how_many test xs + how_many test ys
 how_many-append test xs ys = ap length (filter-append test xs ys) ∙ length-append (filter test xs) (filter test ys)
 
--- The attempts that found a stripe held: none yet, one more, and fewer.
+-- `AreBusy` holds for no attempt and no entries, after one more attempt that found a stripe held,
+-- and for a smaller number of attempts.
 pub busy_none : AreBusy 0 []
 busy_none = record { nothing = refl; enough = omega arith }
 

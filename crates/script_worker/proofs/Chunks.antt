@@ -174,7 +174,7 @@ after_call c tries script heard chunk added end p made silent so_far is =
     rw (so_far.whole, append_assoc, ← is)
     (told_at c tries script heard so_far.before so_far.part so_far.busy heard.attempt.stage end added made silent so_far.at)
 
--- An attempt continues only if it is not out of step.
+-- Another call follows only a call that did not end out of step.
 pub goes_quiet : (script : List Action) (tries : ℕ) (attempt next : Attempt) (end : End) (added : List Entry)
     → progress_of script tries attempt end ≡ Next next → IsQuiet end added
 goes_quiet script tries attempt next (ends.Refused OutOfStep) added is = absurd (cc is)

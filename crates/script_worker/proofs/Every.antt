@@ -27,7 +27,8 @@ every-hit n some (y ∷ xs) x zero (suc k) at =
     ap (λ ys. y ∷ ys) (every-hit n some xs x (n - 1) k (omega (arith, suc-mul k n)))
 every-hit n some (y ∷ xs) x (suc after) k at = let one : suc (length xs) ≡ suc after + k * n = at in every-hit n some xs x after k (omega arith)
 
--- If its position is no such number, the list of every n-th is unchanged.
+-- An element is appended to the list. If its position is `after + k * n` for no `k`, the list of
+-- every n-th is unchanged.
 pub every-miss : {X : Type 0} (n : ℕ) → 0 < n → (xs : List X) (x : X) (after : ℕ) → ((k : ℕ) → length xs ≡ after + k * n → ⊥) → every n after (xs ++ x ∷ []) ≡ every n after xs
 every-miss n some [] x zero never = absurd (never 0 (omega arith))
 every-miss n some [] x (suc after) never = refl

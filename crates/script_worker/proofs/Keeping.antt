@@ -53,8 +53,8 @@ module _ (tries workers : ℕ) (half : Bool) (scripts : List (List Action)) (w :
       }
       at false is = (outcomes, told)
 
-  -- A task gets another attempt and another drive. It keeps to its scripts if the entries of its
-  -- present script are a chunk, which may have grown, and then those of the new drive.
+  -- A task that gets another attempt and another drive keeps to its scripts if the entries of its
+  -- present script are a chunk of the new attempt, followed by the entries of the new drive.
   moved_to : (task : Task) (attempt : Attempt) (drive : Drive) (txn : ℕ) (replies : List (Option ℕ)) (chunk seen later : List Entry)
       → (at : KeepsTask tries workers scripts w task seen) → drive.caller ≡ w → drive.call ≡ call_at at.script attempt.stage
       → later ≡ at.earlier ++ (chunk ++ made drive) → IsChunk w at.script (heard_at attempt txn replies) chunk

@@ -47,7 +47,7 @@ module _ (c : ℕ) (script : List Action) (txn place : ℕ) (inner : List Entry)
   pub part_commits : filter is_commit (Began c txn ∷ rest) ≡ Committed c place ∷ []
   part_commits = filter-append is_commit inner (Committed c place ∷ []) ∙ ap (λ es. es ++ Committed c place ∷ []) inner_commits
 
--- The first entries of a list that has rows have rows.
+-- If all entries of a list have rows, those of a beginning of the list have rows too.
 abbrev seat_step : Option Seat → Entry → Option Seat
 seat_step seat e = option_and_then (λ s. row s s.phase e) seat
 

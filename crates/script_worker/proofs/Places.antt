@@ -6,7 +6,7 @@ use Rattle.std.proofs.Math.Seq.{get_or-append_seam}
 pub get_empty : {X : Type 0} (k : ℕ) → slice_get {X = X} [] k ≡ None
 get_empty k = slice_get_past [] k (omega arith)
 
--- If a list has no element at a place, it ends before it.
+-- If a list has no element at a place, the list's length is at most the place.
 pub get_none : {X : Type 0} (xs : List X) (k : ℕ) → slice_get xs k ≡ None → length xs ≤ k
 get_none xs k none = elim ((slice_get_cases xs k).1) [
   | inl is ↦ absurd (cc (none, is.2))

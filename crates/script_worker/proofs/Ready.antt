@@ -35,7 +35,8 @@ pub steps_ended : (o : Option Step) (drive : Drive) → step_of drive ≡ o → 
 steps_ended None drive is some = absurd (cc some)
 steps_ended (Some step) drive is some = goes_on drive step is
 
--- A task after a call: its drive has a step to take, or is new.
+-- The task's drive is new, and its call is that of the stage of the task's attempt. After a call, a
+-- task has such a drive or one with a step to take (`IsCalledIfAny`).
 record IsCalled (scripts : List (List Action)) (task : Task) : Type 0 where
   half : Bool
   caller : ℕ

@@ -52,7 +52,7 @@ commits_told c tries (told ∷ tolds) es (here, later, es_is, account, rest) =
     rw (es_is, filter-append, account_commits c tries told.script told.outcome here account, commits_told c tries tolds later rest)
     (sym (cons_append (accounts.commit_in c told.outcome) [] (filter_map (λ told. accounts.commit_in c told.outcome) tolds)))
 
--- The Busy entries.
+-- For each account with the outcome Busy, the entries have at least `tries + 1` Busy entries.
 busy_told : (c tries : ℕ) (tolds : List Told) (es : List Entry) → AreAccounts c tries tolds es
     → length (filter (λ told. accounts.is_busy_outcome told.outcome) tolds) * (tries + 1) ≤ how_many accounts.is_busy es
 busy_told c tries [] es none = omega arith

@@ -15,7 +15,7 @@ use Rattle.script_worker.specs.declared.attempt.Finish.TheVariants as finishes
 use Rattle.script_worker.specs.declared.attempt.Progress.{Progress}
 use Rattle.script_worker.specs.declared.attempt.Progress.TheVariants.{Next, Over}
 
--- The attempt at a stage, after this number of attempts.
+-- The attempt that is at this stage and has this number of attempts before it.
 abbrev pub attempt_at : ℕ → Stage → Attempt
 attempt_at again stage = record { again = again; stage = stage }
 

@@ -19,8 +19,8 @@ use Rattle.script_worker.specs.declared.attempt.Progress.TheVariants.{Next, Over
 use Rattle.script_worker.specs.declared.task.Task.{Task}
 use Rattle.script_worker.specs.Attempts.{first_attempt, call_at, progress_of}
 
--- A worker as contracts see it: its number, the limits of the map, which has as many workers as
--- callers, and the script that it is at, if one is left.
+-- A worker as contracts see it: its number, the limits of the map, and the script that it is at, if
+-- one is left. The map's callers are the workers.
 pub record Standing : Type 0 where
   pub number : ℕ
   pub limits : Sizes
@@ -50,8 +50,8 @@ followed scripts w limits task script (Next attempt) =
 followed scripts w limits task script (Over finish) =
     started limits.half scripts w (task.script + limits.callers)
 
--- The task of a worker after the call of this task has had this end; None if there is no script of
--- the task's number.
+-- The worker's task after the call of this task has ended with `outcome`: `None` if no script is
+-- left, or if the task's number is that of no script.
 abbrev pub progressed : List (List Action) → ℕ → ℕ → Sizes → Task → End → Option Task
 progressed scripts tries w limits task outcome =
     option_and_then (λ script. followed scripts w limits task script

@@ -39,8 +39,8 @@ pub enum Finish {
     Aborted,
     /// Each attempt found a stripe held by another, and is aborted.
     Busy,
-    /// A call was refused with this. Its transaction is aborted, or did not begin; but after
-    /// `OutOfStep`, or if a commit or an abort was refused, it may still be open.
+    /// A call was refused with this refusal. The script's transaction is aborted, or did not begin;
+    /// but after `OutOfStep`, or if a commit or an abort was refused, it may still be open.
     Refused(Refusal),
 }
 

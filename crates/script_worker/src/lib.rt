@@ -9,9 +9,9 @@
 //! `take_turn` does so for a whole turn, with a closure that takes the steps. A worker takes no
 //! step and no memory itself, so that its owner decides how the steps of several workers mix.
 //!
-//! A contract sees a worker as its number, the limits of the map, which has as many workers as
-//! callers, and the script that it is at, with the attempt and the call's drive. The functions of
-//! `specs/Attempts.antt` and `specs/Workers.antt` define its reaction to each answer.
+//! A contract sees a worker as its number, the limits of the map, and the script that it is at,
+//! with the attempt and the call's drive. The map's callers are the workers. The functions of
+//! `specs/Attempts.antt` and `specs/Workers.antt` define the worker's reaction to each answer.
 //! Proved: the code follows these, and the worker keeps to its scripts (`specs/Keeps.antt`): the
 //! entries that it added to the history are the accounts of its scripts, one after the other
 //! (`specs/Accounts.antt`), and then those of the present script so far. The account of a committed

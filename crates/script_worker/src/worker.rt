@@ -26,7 +26,7 @@ use txn_trace::{Answer, Limits, Script, Step};
 pub struct Worker {
     /// The worker's number, from 0, which is its caller's too.
     number: usize,
-    /// The limits of the map: as many workers as callers.
+    /// The limits of the map; its callers are the workers.
     limits: Limits,
     /// The script that it is at, or `None` if no script is left.
     task: Option<Task>,
@@ -53,8 +53,8 @@ impl Model for Worker {
 }
 
 impl Worker {
-    /// The worker of this number before its first step, on a map of these limits, which has as many
-    /// workers as callers.
+    /// The worker of this number before its first step, on a map of these limits. The map's callers
+    /// are the workers.
     pub fn new(number: usize, limits: Limits, scripts: &[Script]) -> Worker
         requires { number < limits.callers }
         ensures worker { result ≡ new_worker scripts.now number limits }
@@ -147,8 +147,8 @@ impl Worker {
     /// that found a stripe held is attempted again up to `tries` times. Answers how the worker's
     /// script is over, if this answer ended it.
     ///
-    /// If the answer ended the worker's call, `told` moves the worker on to its next call, of the
-    /// same script or of its next one; or no script is left.
+    /// If the answer ended the worker's call, `told` moves the worker on to the next call of the
+    /// same script, or to the first call of the worker's next script, if there is one.
     ///
     /// # Cost
     ///

@@ -40,8 +40,9 @@ pub record Keeps (h : List Entry) (commits : Commits) : Type 0 where
 abbrev pub Stays : Commits → Commits → Type 0
 Stays old new = (h : List Entry) → Keeps h old → Keeps h new
 
--- The answer after a history says whether the entry is right: it commits no transaction, or one
--- with right replies. If it is right, the new commits keep the history with this entry.
+-- `right` says whether the entry may follow the history by the rule of replies: whether it commits
+-- no transaction, or a transaction with right replies. If so, the new commits keep the history with
+-- this entry added.
 pub record JudgesAt (h : List Entry) (e : Entry) (right : Bool) (new : Commits) : Type 0 where
   pub right_is : commits_right h e ≡ right
   pub keeps : right ≡ true → Keeps (h ++ e ∷ []) new

@@ -1,6 +1,7 @@
-//! The checker by the order of commits. It adds to the state the number of entries and the first
-//! bad one, after which the verdict no longer changes. Replies are judged at the Committed; before
-//! it, `misread` and `is_torn` tell if an open transaction could commit, and change nothing.
+//! The checker that judges a history by the order of its commits. To the state it adds the number
+//! of entries and the first bad entry, after which the verdict no longer changes. A transaction's
+//! replies are judged at its Committed entry; before that entry, `misread` and `is_torn` tell
+//! whether the transaction could commit, and change nothing.
 ghost use Rattle.std.specs.Prelude.{◌≡◌, ℕ, ◌<◌, ◌++◌, [], ◌∷◌, List, IfOk, OnOk, OnErr, IfSome, IsNone, Some, true, false};
 ghost use Rattle.txn_words.specs.Kinds.{caller_of};
 ghost use Rattle.serial_check.specs.Verdicts.{IsVerdictOn};
@@ -127,9 +128,9 @@ impl Checker {
     }
 
     /// A key at which the open transaction of a caller read a value that is not the committed one.
-    /// If the transaction's Committed were next, of the right shape, it would be bad for this
-    /// reason. The caller is below 64; nothing is said if an entry is bad, or if the caller has no
-    /// open transaction.
+    /// If the next entry were this transaction's Committed, of the right shape, that entry would be
+    /// bad for this reason. The caller is below 64; nothing is said if an entry is bad, or if the
+    /// caller has no open transaction.
     ///
     /// Answers `None` if the transaction could commit, or if its replies contradict one another, so
     /// that it could commit on no map.
@@ -148,8 +149,8 @@ impl Checker {
     }
 
     /// Whether the replies of the open transaction of a caller contradict one another. If so, no
-    /// map gives it all of them, and it may only abort. The caller is below 64; nothing is said if
-    /// an entry is bad, or if the caller has no open transaction.
+    /// map gives the transaction all its replies, and it may only abort. The caller is below 64;
+    /// nothing is said if an entry is bad, or if the caller has no open transaction.
     ///
     /// # Cost
     ///

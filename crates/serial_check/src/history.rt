@@ -1,6 +1,6 @@
 //! The check of a whole history in memory, by the order of its commits: a `Checker` is fed all
-//! entries. A checker needs no list of them, so the check is apart from it. Unlike the check of
-//! `history_check` it takes no stripes and no `Holder`, since there is no rule of locks.
+//! entries. Only this module takes lists of entries, since a `Checker` needs none. Unlike the check
+//! of `history_check` it takes no stripes and no `Holder`, since there is no rule of locks.
 ghost use Rattle.std.specs.Prelude.{◌<◌, IfOk};
 ghost use Rattle.std.specs.List.{All};
 ghost use Rattle.txn_words.specs.Kinds.{caller_of};

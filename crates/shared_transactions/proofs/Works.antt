@@ -1,5 +1,5 @@
--- A closed map has no entries but those of the callers that worked on it, and the works of threads
--- are done with their outcomes.
+-- A closed map has only entries of the callers that worked on it, and `AreDone` holds of the works
+-- of threads and their outcomes.
 use Rattle.std.proofs.Common.{◌≡◌, ℕ, ◌+◌, ◌<◌, ◌≤◌, zero, suc, cond, List, [], ◌∷◌, ◌++◌, length, length-append, map, Option, Some, None, refl, sym, ap, subst, ◌∙◌, inl, inr, arith}
 use Rattle.std.specs.Prelude.{All, slice_get}
 use Rattle.std.specs.List.{sum_by}

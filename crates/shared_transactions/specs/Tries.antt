@@ -1,6 +1,6 @@
--- Tries of one work, one after another, each in its own transaction. `work` relates the value that
--- holds the token before the work, the work's answer, and that value after it; `me` gives the token
--- that such a value holds.
+-- Tries of one work, one after another, each in its own transaction. The work runs on a value that
+-- holds the caller's token. `work` relates this value before a run, the run's answer, and the value
+-- after the run; `me` gives the token that a value holds.
 use Rattle.std.specs.Prelude.{ℕ, ◌≡◌, ◌≤◌, ◌⊎◌, zero, suc, Bool, true, false, Result, Ok, Err}
 use Rattle.map_answers.specs.declared.stop.Stop.{Stop}
 use Rattle.map_answers.specs.declared.stop.Stop.TheVariants.{Busy, Refused}
@@ -18,7 +18,7 @@ abbrev pub is_busy : {T : Type 0} → Result T Stop → Bool
 is_busy (Ok value) = false
 is_busy (Err stop) = is_busy_stop stop
 
--- Why a try failed after its begin: the work failed, or the commit was refused, which is never
+-- Why a try failed after its begin: the work failed, or the commit was refused. A commit is never
 -- busy.
 abbrev pub IsWhy : {S T : Type 0} → Result T Stop → Stop → Token S → Token S → Type 0
 IsWhy (Err found) stop done new = stop ≡ found

@@ -98,9 +98,9 @@ pub record IsCommitted {S : Type 0} (txn place : ℕ) (k l : Token S) : Type 0 w
   pub over : IsOver l
   pub claims : l.claims ≡ given_back k.claims
 
--- From `base` a token began transaction `txn`, and was then `begun`. The work in the transaction
--- committed nothing and left the token as `done`. Then it committed, with the commit number
--- `place`. It has no transaction now, and holds no stripe.
+-- The token `base` began transaction `txn` and became `begun`. The work in the transaction
+-- committed nothing, and the token became `done`. Then the token committed, with the commit number
+-- `place`, and became `l`, which has no transaction and holds no stripe.
 pub record IsRun {S : Type 0} (base begun done l : Token S) (txn place : ℕ) : Type 0 where
   pub began : IsBegun base txn begun
   pub goes_on : GoesOn begun done

@@ -49,15 +49,17 @@
 //! - Each work in a thread keeps its promise (`Work::promises`), about a token with exactly the
 //!   entries that its caller has in the history of the closed map. Work `i` has caller `i`. The
 //!   history is legal, and has no entries but those of these callers (`AreDone`).
-//! - Two things are not promised of a broken token: that no transaction is open; and that nothing
-//!   was committed, if one of its entries has no row.
+//! - Two things are not promised of a broken token: that no transaction is open; and, if the rule
+//!   of shape (`row` of `txn_words`) has no row for one of the token's entries, that nothing was
+//!   committed.
 //!
 //! What a map holds is known when it is closed, as `locked_map` says, and not after a call, since
 //! other callers may take steps at once. No clause is about time: none says that a call returns, or
 //! how long it waits.
 //!
-//! A work states what every call keeps by one definition, `Keeps`. A work's proof joins its calls
-//! by `keeps_stay` and `keeps_on` of `proofs/Within.antt`. The side value is `NoSide`.
+//! The contract of a work states by one definition, `Keeps`, what every call of a transaction
+//! keeps; the work's proof joins its calls by `keeps_stay` and `keeps_on` of `proofs/Within.antt`.
+//! The side value is `NoSide`.
 //!
 //! A transaction costs what its calls cost. Transactions that are taken back and run again are
 //! those of Herlihy and Koskinen, "Transactional Boosting" (PPoPP 2008), section 2.

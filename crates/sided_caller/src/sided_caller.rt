@@ -23,7 +23,7 @@ use undo_log::{Side, SideJob, SideValue};
 /// time.
 ///
 /// If it is dropped in a transaction, the map's changes are taken back and the stripes given back,
-/// as those of a `Caller`; the side value is dropped as it is.
+/// as for a `Caller`. The side value is dropped too, and no change of it is taken back.
 #[derive(Drop)]
 pub struct SidedCaller<S: Side> {
     caller: Caller,

@@ -106,8 +106,8 @@ ancestor_before_key ancestor key exponent small is =
     let low : ancestor ≡ key % 2 ^ twice.0 = is.reached ∙ lowest.2 ∙ twice.2 in
     rw low (lowest_before_key twice.0 key (omega (arith, twice.1)))
 
--- If a bucket is the lowest bits of a word, its dummy and those of its ancestors are not behind the
--- split key that is the word in reverse.
+-- If a bucket is the lowest bits of a word, the split keys of the dummies of the bucket and of its
+-- ancestors are at most the reversal of the word.
 pub ancestor_not_behind : (ancestor word exponent : ℕ) → exponent ≤ 32 → word < 2 ^ 64 → IsAncestor ancestor (word % 2 ^ exponent) → reversed ancestor ≤ reversed word
 ancestor_not_behind ancestor word exponent small fits is =
     let within = mod_below word (2 ^ exponent) (pow_pos exponent) in

@@ -52,8 +52,8 @@ pub key_in_regular : (split : ℕ) (is_upper : Bool) → split % 2 ≡ 1
 unfolding key_in
 key_in_regular split is_upper odd = rw (ne_eqb (split % 2) 0 (λ even. omega arith)) refl
 
--- If `is_upper` is false for a dummy's split key, the key is in the upper half exactly if
--- `is_upper`.
+-- `key_in` is in the upper half of the keys exactly if `is_upper`, provided that `is_upper` is true
+-- only for a regular node's split key.
 pub upper_is : (split : ℕ) (is_upper : Bool) → (is_upper ≡ true → split % 2 ≡ 1)
     → nat_le (2 ^ 63) (key_in split is_upper) ≡ is_upper
 upper_is split true odd =

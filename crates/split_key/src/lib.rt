@@ -39,9 +39,9 @@
 //! A contract sees a key as its number; the definitions are in `specs/Split.antt` and
 //! `specs/Sort.antt`. Proved: each call answers what its definition says; two keys share a split
 //! key exactly if they agree below the top bit; different keys have different sort keys, and
-//! different buckets different split keys; the dummies of a bucket's ancestors other than itself
-//! precede its own, and all of these precede each of the bucket's keys; and a `BadKey` prints its
-//! text. Each call takes constant time and no memory.
+//! different buckets different split keys; a bucket's dummy precedes each of the bucket's keys; the
+//! dummy of each ancestor of a bucket, other than the bucket itself, precedes the bucket's dummy;
+//! and a `BadKey` prints its text. Each call takes constant time and no memory.
 #![tactic(auto)]
 
 mod bucket;

@@ -44,8 +44,8 @@ impl CountedMap {
         }
     }
 
-    /// An empty map with no change to take back, with room for this number of keys and one more, as
-    /// `apply` needs before each change.
+    /// An empty map with no change to take back, and with room for one key more than `keys`: before
+    /// a change `apply` reserves room for its key, and for one key to take the change back.
     pub(crate) fn with_capacity(alloc: Global, keys: usize) -> Result<CountedMap, AllocError>
         ensures { IfOk result (λ map. map ≡ nothing) }
     {

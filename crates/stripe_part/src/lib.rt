@@ -1,8 +1,8 @@
 //! The map of one stripe of a striped map. It can take changes back.
 //!
-//! Only the holder of a stripe uses its `Part`, as plain memory. So a part needs no cursors, no
-//! marked nodes and no buckets in split order, as a map does whose callers act step by step. Inside
-//! is a `ProbeMap`.
+//! Only the holder of a stripe uses its `Part`, as plain memory. So, unlike a map whose callers act
+//! step by step, a part needs no cursors, no marked nodes and no buckets in split order. Inside is
+//! a `ProbeMap`.
 //!
 //! A contract sees a part as a `PartAt`: its `content`, a finite map, and how many changes of the
 //! open transaction are `owed`, that is, can be taken back without memory. The user of the part
@@ -11,16 +11,17 @@
 //!
 //! - `apply` does an operation, with the reply and the effect that it has on that map; if it is a
 //!   change, one more is owed. A refusal leaves the part unchanged; a get is never refused.
-//! - `take_back` gives the key of a change the value before it: the inverses of boosting (Herlihy
-//!   and Koskinen, "Transactional Boosting", PPoPP 2008, rule 3), which are run newest first. It
-//!   takes no memory.
+//! - `take_back` gives the key of a change the value that the key had before the change. It is the
+//!   inverse of boosting (Herlihy and Koskinen, "Transactional Boosting", PPoPP 2008, rule 3); the
+//!   inverses are run newest first. It takes no memory.
 //! - `settle` keeps all changes. It takes no memory either.
 //! - `len`, `changes` and `pairs` read the part.
 //!
 //! A part is one word. The map and its count of changes are in a box that is made at the first
-//! change. So a part takes no memory before, unless it is made with room (`with_capacity`). The
-//! invariant: the map has room for as many keys as changes are owed. So a key that was taken out
-//! can be put back without memory: each change first reserves that room, and a place for a new key.
+//! change. So a part takes no memory before its first change, unless it is made with room
+//! (`with_capacity`). The invariant: for each change that is owed the map has room for one more
+//! key. So a key that was taken out can be put back without memory. Each change first reserves this
+//! room, and room for one new key.
 //!
 //! A part grows by itself. `apply` and `take_back` take amortized constant time, except for keys
 //! whose hashes collide; `settle`, `len` and `changes` take constant time; `pairs` takes the time

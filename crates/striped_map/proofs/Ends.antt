@@ -56,7 +56,7 @@ moved_busy map a b c op holder x y = moved_then map a b c (λ k. Busy k op holde
     (subst (λ (jobs : List (ℕ × Option ℕ)). Moves map b (Busy (known b.seat).number op holder ∷ undoing (known b.seat).number jobs (Aborted (known b.seat).number)) c)
     (due_same (known a.seat) (known b.seat) x.number_is (own_same (stripes_of map) (known a.seat).number (known a.seat).seen (known b.seat).seen x.goes)) y)
 
--- A hand whose seat has the same view made the same step.
+-- A step to a hand is also a step to any other hand whose seat has the same view.
 pub moved_known : (map : StripedMap) (a b : Hand) (es : List Entry) → Moves map a es b → (c : Hand) → known c.seat ≡ known b.seat → Moves map a es c
 moved_known map a b es x c same = record {
   number_is = ap (λ (v : View). v.number) same ∙ x.number_is;

@@ -93,7 +93,8 @@ pub with_push : (f : ℕ → PartAt) (ks : List ℕ) (k : ℕ) → map (with_par
 with_push f [] k = refl
 with_push f (x ∷ ks) k = ap (λ (l : List Held). with_part f x ∷ l) (with_push f ks k)
 
--- Stripes with their parts, if all parts are the same, and if only the part of one stripe differs.
+-- If `f` and `g` give all stripes of `ks` the same parts, the lists of stripes with their parts are
+-- equal. If they give only the stripe `k` another part, the lists differ only at its place `j`.
 pub with_same : (f g : ℕ → PartAt) (ks : List ℕ) → ((i k : ℕ) → slice_get ks i ≡ Some k → g k ≡ f k) → map (with_part g) ks ≡ map (with_part f) ks
 with_same f g [] same = refl
 with_same f g (x ∷ ks) same = ap (λ (p : PartAt). (record { stripe = x; part = p }) ∷ map (with_part g) ks) (same 0 x refl) ∙ ap (λ (l : List Held). with_part f x ∷ l) (with_same f g ks (λ i k at. same (suc i) k at))
@@ -114,7 +115,7 @@ pub not_held : (n : ℕ) (v : View) (held : List Held) (m : Map) → AreHeld n v
 not_held n v held m s k none hold = let h : 0 < times k (reverse (stripes_in held)) = subst (λ (ks : List ℕ). 0 < times k ks) s.kept hold in
     let at = at_times (stripes_in held) k (omega (arith, times_reverse k (stripes_in held))) in none at.0 at.1
 
--- The parts still fit after the map has changed, if it is the same in the stripes that are held.
+-- Parts that fit a map also fit any map with the same values in the stripes that are held.
 pub parts_on : (n : ℕ) (v w : View) (held : List Held) (m k : Map) → AreHeld n v held m → w.held ≡ v.held → ((key : ℕ) → Holds v (stripe_of n key) → get k key ≡ get m key) → AreHeld n w held k
 parts_on n v w held m k s same have = record {
   kept = same ∙ s.kept;

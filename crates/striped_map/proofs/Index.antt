@@ -44,7 +44,8 @@ none_other ks index is stripe place k found there ne other at =
     let same : other ≡ place = same_Some other place (sym (is other stripe at) ∙ found) in
     ne (same_Some k stripe (sym there ∙ ap (slice_get ks) (sym same) ∙ at))
 
--- The index is still right after it got longer, if there are no stripes, and with one stripe more.
+-- The index is right if there are no stripes. It stays right when it gets longer, and when a stripe
+-- is appended and its place is put into the index.
 pub indexed_longer : (ks index later : List ℕ) → ((stripe place : ℕ) → slice_get index stripe ≡ Some place → slice_get later stripe ≡ Some place) → IsIndexed ks index → IsIndexed ks later
 indexed_longer ks index later keeps is place stripe at = keeps stripe place (is place stripe at)
 

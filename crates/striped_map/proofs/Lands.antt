@@ -43,7 +43,7 @@ own-append d es fs = filter-append (λ e. caller_of e == d) es fs
 pub own-none : (d : ℕ) (es fs : List Entry) → own d es ≡ [] → own d fs ≡ [] → own d (es ++ fs) ≡ []
 own-none d es fs a b = own-append d es fs ∙ ap (λ (l : List Entry). l ++ own d fs) a ∙ b
 
--- One entry.
+-- `Grows` for one entry that may follow (`Next`).
 grows_one : (n : ℕ) (P : ℕ → Type 0) (g : List Entry) (e : Entry) (seat : Seat) (jobs : List Job) (serial current : Map) (held : ℕ → Option ℕ)
     → Next Begun n g e seat jobs serial current held
     → ((k d : ℕ) → held k ≡ Some d → (holder_of n k g ≡ Some d) ⊎ ((d ≡ caller_of e) × P k))
@@ -57,7 +57,7 @@ grows_one n P g e seat jobs serial current held next from still = record {
   still = λ q apart. ap (λ (m : Map). get m q) next.now_is ∙ still q apart;
 }
 
--- Entries after entries.
+-- `Grows` for two lists of entries, one after the other.
 grows_both : (n c : ℕ) (P : ℕ → Type 0) (m k : ℕ) (g es fs : List Entry) → Grows n c P m g es → Grows n c P k (g ++ es) fs → Grows n c P (m + k) g (es ++ fs)
 grows_both n c P m k g es fs a b = let is : (g ++ es) ++ fs ≡ g ++ (es ++ fs) = append_assoc g es fs in record {
   legal = subst (IsLegal Begun n) is b.legal;
@@ -67,7 +67,7 @@ grows_both n c P m k g es fs a b = let is : (g ++ es) ++ fs ≡ g ++ (es ++ fs) 
   still = λ q apart. ap (λ (l : List Entry). get (now l) q) (sym is) ∙ b.still q apart ∙ a.still q apart;
 }
 
--- No entries.
+-- `Grows` for no entries.
 pub grows_none : (n c : ℕ) (P : ℕ → Type 0) (g : List Entry) → IsLegal Begun n g → Grows n c P 0 g []
 grows_none n c P g legal = let is : g ++ [] ≡ g = append-nil g in record {
   legal = subst (IsLegal Begun n) (sym is) legal;
@@ -77,7 +77,7 @@ grows_none n c P g legal = let is : g ++ [] ≡ g = append-nil g in record {
   still = λ q apart. ap (λ (l : List Entry). get (now l) q) is;
 }
 
--- One entry, and what it leaves.
+-- `Lands` for one entry that may follow (`Next`).
 lands_one : (n : ℕ) (P : ℕ → Type 0) (g : List Entry) (e : Entry) (seat : Seat) (jobs : List Job) (serial current : Map) (held : ℕ → Option ℕ)
     → Next Begun n g e seat jobs serial current held
     → ((k d : ℕ) → held k ≡ Some d → (holder_of n k g ≡ Some d) ⊎ ((d ≡ caller_of e) × P k))

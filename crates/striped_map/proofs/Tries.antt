@@ -9,7 +9,8 @@ use Rattle.striped_map.specs.Attempts.{Fails, FailsBusy, IsWhy}
 use Rattle.striped_map.specs.Callers.{number, IsSince, IsStep, IsTakenBack, IsWithin}
 use Rattle.striped_map.proofs.Within.{by_cases, since_began, since_then, within_taken_back}
 
--- A caller that is in a transaction after a number of busy attempts is unchanged: the number is 0.
+-- If a caller is in a transaction after `n` attempts that were busy, `n` is 0, so the caller is
+-- unchanged.
 pub still : {T : Type 0} (work : Caller → Result T Stop → Caller → Type 0) (n : ℕ) (a b : Caller)
     → FailsBusy work n a b → b.is_open ≡ true → b ≡ a
 still work zero a b same is = same
@@ -22,7 +23,7 @@ since_failed work me a b stop since opened fails = by_cases a.is_open
     (λ is. subst (IsSince me) (sym (opened is).1) since)
     (λ is. since_then me a b since (fails is).since)
 
--- A failure with an equal cause.
+-- An attempt that fails with a cause fails with every equal cause.
 pub fails_as : {T : Type 0} {work : Caller → Result T Stop → Caller → Type 0} (a b : Caller) (stop other : Stop)
     → stop ≡ other → Fails work a b stop → Fails work a b other
 fails_as {T} {work} a b stop other same fails = subst (Fails work a b) same fails

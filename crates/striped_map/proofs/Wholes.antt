@@ -52,8 +52,8 @@ sub_less n a b same less = lt_of_not-le (λ (le : b / n ≤ a / n).
 sub_same : (n a b : ℕ) → stripe_of n a ≡ stripe_of n b → a / n ≡ b / n → a ≡ b
 sub_same n a b same is = sym (div-add-mod' a n) ∙ ap (λ (x : ℕ). x * n + a % n) is ∙ ap (λ (x : ℕ). b / n * n + x) same ∙ div-add-mod' b n
 
--- The rows of a stripe rise, since the map's rows do; and under a key's sub-key they have the value
--- that the map's rows have under the key.
+-- The rows of a stripe are sorted if the map's rows are. A sub-key has the same value in the rows
+-- of its stripe as its key has in the map's rows.
 below_sub : (n k key : ℕ) → stripe_of n key ≡ k → (rows : List Pair) → T (below_all nat_cmp key rows) → T (below_all nat_cmp (key / n) (sub_rows n k rows))
 below_sub n k key in_k [] below = tt
 below_sub n k key in_k (row ∷ rows) below =

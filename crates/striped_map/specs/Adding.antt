@@ -14,7 +14,8 @@ use Rattle.striped_map.specs.Rule.{Holds, HasSeen}
 use Rattle.striped_map.specs.Steps.{Standing}
 
 -- A history goes on with entries of caller c only, and is legal with them. `commits_more` of them
--- are commits. Only a stripe that P names may get c as a new holder, or have a key changed.
+-- are commits. Only a stripe that P names may get c as its new holder, and only the keys of such a
+-- stripe may change.
 pub record Grows (stripes c : ℕ) (P : ℕ → Type 0) (commits_more : ℕ) (log es : List Entry) : Type 0
   where
     pub legal : IsLegal Begun stripes (log ++ es)

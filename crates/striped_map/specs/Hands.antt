@@ -37,10 +37,10 @@ IsStopped map a op b (Refused refusal) =
 abbrev pub IsCut : StripedMap → Hand → Hand → Stop → Type 0
 IsCut map a b stop = (key : ℕ) × IsStopped map a (Get key) b stop
 
--- A transaction was begun to read the pairs. While Began was the transaction's only entry, the hand
--- was `left`, and had seen a legal history. In this history each caller that was taken in has
--- exactly the entries that its calls added, and all other entries are of seats that were made. The
--- pairs are the map of this history, and the history that the hand has seen since begins with it.
+-- A transaction was begun to read the pairs. After Began, and before its next entry, the hand was
+-- `left`, and had seen a legal history. In this history each caller that was taken in has exactly
+-- the entries that its calls added, and only seats that were made have entries. The pairs are those
+-- of this history's map. What the hand `c` has seen begins with this history.
 pub record AreLeft (map : StripedMap) (a c : Hand) (pairs : List (ℕ × ℕ)) : Type 0 where
   pub txn : ℕ
   pub during : Hand

@@ -1,4 +1,4 @@
--- The facts about a host that contracts name.
+-- The facts that contracts name about a host.
 use Rattle.std.specs.Prelude.{ℕ, ◌≡◌, ◌+◌, ◌<◌, Bool, ◌&&◌, nat_le, true, false, List, length}
 use Rattle.std.specs.List.{HoldsAt}
 use Rattle.txn_words.specs.declared.refusal.Refusal.{Refusal}

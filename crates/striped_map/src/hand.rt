@@ -1,7 +1,7 @@
 //! A caller's hand: its seat, and the stripes, changes and levels of its transaction.
 //!
-//! The parts of the stripes that it holds stay in their slots, where an operation works on them as
-//! plain memory. Its user calls it only in the right phase.
+//! The parts of the stripes that the hand holds stay in their slots, where an operation works on
+//! them as plain memory. A method may be called only in the right phase; the hand does not test it.
 ghost use Rattle.std.specs.Prelude.{◌≡◌, ◌≢◌, ℕ, ◌+◌, ◌-◌, ◌/◌, ◌<◌, ◌≤◌, ◌%◌, ◌^◌, [], ◌∷◌, IfOk, IfErr, IfSome, OnOk, OnErr, None, Some, true, slice_get, slice_index, length, take, drop, vec_len, vec_capacity};
 ghost use mathlib.Core.List.{IsPrefix};
 ghost use Rattle.txn_words.specs.declared.entry.Entry.TheVariants.{Began, Asked, Did, Saved, Leave, Returned, Committed};

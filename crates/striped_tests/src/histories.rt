@@ -203,7 +203,8 @@ fn note_commits(commits: &mut Vec<(u64, u64)>, one: &Recorder) -> Result<(), All
     Ok(())
 }
 
-/// Sorts commits by their places, and raises each stamp to the latest before it.
+/// Sorts commits by their places. The stamp of each commit becomes the latest stamp of this commit
+/// and of the commits before it.
 fn raise_stamps(commits: &mut Vec<(u64, u64)>) {
     commits.sort_unstable_by_key(|commit| commit.0);
     let mut latest = 0u64;
@@ -254,8 +255,8 @@ impl Merge {
         Ok(())
     }
 
-    /// Puts the entry `first`, an Undone for each change that stands except the oldest `left`, and
-    /// the entry `last`.
+    /// Puts the entry `first`, an Undone for each standing change except the `left` oldest changes,
+    /// and the entry `last`.
     fn put_undone(
         &mut self,
         stamp: u64,

@@ -47,7 +47,8 @@ fn stripes_and_callers(rt: HostRuntime) -> Result<(), Fail> {
     Ok(())
 }
 
-/// Why no map is opened with these numbers of stripes and callers and room for these keys.
+/// Opens a map with these numbers of stripes and callers, and room for this number of keys. Answers
+/// the refusal, or `None` if the map is opened.
 fn why_not(alloc: Global, stripes: usize, callers: usize, keys: usize) -> Option<Refusal> {
     open_map_with_capacity(alloc, stripes, callers, keys).err()
 }
@@ -138,7 +139,7 @@ fn a_roomy_map(rt: HostRuntime) -> Result<(), Fail> {
     Ok(())
 }
 
-/// The last of 4,096 callers has that number.
+/// The last of 4,096 callers has the number 4,096.
 static LAST_CALLER: Worked<'static> = Worked {
     stripes: 4096,
     callers: 4096,

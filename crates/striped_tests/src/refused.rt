@@ -8,8 +8,8 @@ use std::test::Fail;
 use striped_map::{Caller, Host, Stop, open_map_with_capacity};
 use txn_words::{Op, Refusal};
 
-/// A map of one stripe and one caller with room for these keys, asked for once more if memory is
-/// refused.
+/// Opens a map of one stripe and one caller with room for this number of keys, and tries once more
+/// if memory is refused.
 fn open_again(alloc: Global, keys: usize) -> Result<Home, Refusal> {
     for _ in 0..2u64 {
         match open_map_with_capacity(alloc, 1, 1, keys) {
@@ -70,7 +70,7 @@ const CALLS: &[Row] = &[
     (0, Ask::Commit, Told::Number(1)),
 ];
 
-/// Puts twenty keys, for which a part without room grows, and takes half of them.
+/// Puts twenty keys, and takes half of them. A part that has no room at first grows meanwhile.
 const GROWS: &[Row] = &[
     (0, Ask::Begin, Told::Done),
     (0, Ask::Do(Op::Put(10, 10)), NEW),

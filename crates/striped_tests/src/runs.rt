@@ -4,7 +4,7 @@
 use crate::calls::{Ask, NEW, Told, Worked, play_worked};
 use txn_words::{Op, Refusal};
 
-/// A key that had 10.
+/// The reply to an operation on a key that had the value 10.
 const TEN: Told = Told::Replied(Some(10));
 
 /// A put of a key, commit, and what is left.
@@ -91,9 +91,9 @@ static KEYS_OF_64_BITS: Worked<'static> = Worked {
     ],
 };
 
-/// Stripes come back at the end of a transaction and not before: keys 1, 9 and 17 have one stripe.
-/// A savepoint and a return to it leave caller 1 its stripe; an abort, a commit and a busy stripe
-/// give all back.
+/// A transaction gives its stripes back at its end and not before. Keys 1, 9 and 17 are of one
+/// stripe, which caller 1 still holds after a savepoint and a return to it. An abort, a commit and
+/// a busy stripe each give all stripes of the caller back.
 static RIGHTS_COME_BACK: Worked<'static> = Worked {
     stripes: 8,
     callers: 2,

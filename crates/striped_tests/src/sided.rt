@@ -216,13 +216,14 @@ fn play_worked<R: Abort>(rt: &R, alloc: Global, run: &Worked) {
     play_in(rt, &mut open_sided(rt, alloc, 4, run.callers), run);
 }
 
-/// A key that had 10, and one that had 11.
+/// The replies to an operation on a key that had the value 10, and on a key that had 11.
 const TEN: Told = Told::Replied(Some(10));
 
 const ELEVEN: Told = Told::Replied(Some(11));
 
-/// Returns to savepoints and to the beginning, a commit, an abort, and a change outside of a
-/// transaction, which stays.
+/// Savepoints and returns to them, a return to the beginning, a commit and an abort. Then the side
+/// value is changed outside of a transaction, and the next transaction does not take this change
+/// back.
 static EACH_CALL: Worked<'static> = Worked {
     callers: 1,
     rows: &[
@@ -262,8 +263,8 @@ static EACH_CALL: Worked<'static> = Worked {
     left: &[(2, 20)],
 };
 
-/// The refusals of a caller without a transaction and within one. They leave the side value
-/// unchanged, also one that a change outside of a transaction has set.
+/// The refusals of a caller without a transaction and within one. No refusal changes the side
+/// value, whether it was set within a transaction or outside of one.
 static REFUSALS: Worked<'static> = Worked {
     callers: 1,
     rows: &[
@@ -357,7 +358,7 @@ fn play_busy<R: Abort>(rt: &R, home: &mut SidedHome) {
     has_left(rt, &mut home.host, &[]);
 }
 
-/// A busy operation, whichever it is, takes the side value back to the beginning.
+/// A busy operation of any kind takes the side value back to its value before the transaction.
 #[test]
 fn busy(rt: HostRuntime) {
     play_busy(&rt, &mut open_sided(&rt, rt.alloc(), 4, 2));

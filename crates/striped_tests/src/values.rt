@@ -1,6 +1,7 @@
-//! Tests of `Transaction`: each call, each way to end one, and a drop after any number of calls.
-//! `Call` names its calls, since `Ask` lacks four: `contains_key`, `swap`, `is_empty` and `pairs`.
-//! The first three are also tested on a caller. The values of each row were worked out by hand.
+//! Tests of `Transaction`: each call, each way to end a transaction, and a drop after any number of
+//! calls. `Call` names the calls of a transaction, since `Ask` lacks four of them: `contains_key`,
+//! `swap`, `is_empty` and `pairs`. The first three of the four are also tested on a caller. The
+//! values of each row were worked out by hand.
 use crate::calls::{Ask, Home, NEW, Row, Told, leaves, must, open, play};
 use std::process::Abort;
 use striped_map::{Caller, Stop, Transaction};
@@ -60,7 +61,7 @@ fn make_call(t: &mut Transaction<'_>, what: Call) -> Result<Answer, Stop> {
 /// A call, and what it must answer.
 type Line = (Call, Answer);
 
-/// A key that was not there.
+/// The answer to an operation on a key that was not there.
 const NONE: Answer = Answer::Replied(None);
 
 /// Each kind of call, on a map that has the pair (1, 5). `Empty`, `Len` and `Pairs` take every
@@ -209,8 +210,8 @@ fn committed(rt: HostRuntime) {
     play_committed(&rt, &mut open(&rt, rt.alloc(), 4, 2));
 }
 
-/// Caller 1 finds the stripe of key 1 held: its transaction is over, and all that is left is to end
-/// the value.
+/// Caller 1 finds the stripe of key 1 held, so its transaction is over: the `Transaction` refuses
+/// the next call, and can only be ended.
 const BUSY: &[Line] = &[
     (Call::Do(Op::Put(2, 20)), NONE),
     (Call::Has(1), Answer::Stopped(Stop::Busy { holder: 2 })),
@@ -242,10 +243,10 @@ const BEGINS: &[Row] = &[
     (0, Ask::Do(Op::Put(1, 5)), NEW),
 ];
 
-/// Caller 1 goes on, since no transaction was begun as a value.
+/// Caller 1 commits the transaction of `BEGINS`.
 const GOES_ON: &[Row] = &[(0, Ask::Commit, Told::Number(1))];
 
-/// A transaction is begun by the caller itself, so none is begun as a value.
+/// `Transaction::begin` is refused, since the caller has an open transaction, which goes on.
 fn play_begun<R: Abort>(rt: &R, home: &mut Home) {
     let already_open = Err(Stop::Refused(Refusal::AlreadyOpen));
     play(rt, home, BEGINS);

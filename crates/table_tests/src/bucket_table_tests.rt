@@ -54,13 +54,13 @@ fn has_put_all(rt: &impl Abort, home: &mut Home, numbers: &[u64]) -> bool {
     true
 }
 
-/// The calls with fewer than five keys, up to the link.
+/// The calls of `help_few_keys` before its link.
 const FEW_KEYS: [(Call, Answer); 2] = [
     (Call::Double(2), Answer::Double(Double::Light)),
     (Call::Seek(0, 1), Answer::Seek(Ok(InitSeek::Placed))),
 ];
 
-/// The calls after the link.
+/// The calls of `help_few_keys` after its first link, if that link is not refused memory.
 const STORED: [(Call, Answer); 2] = [
     (Call::Store(0), Answer::Store(Ok(()))),
     (Call::Seek(0, 1), Answer::Seek(Ok(InitSeek::Ready))),

@@ -3,8 +3,8 @@
 //!
 //! They test what no contract says: that each call succeeds while there is memory, the state after
 //! a refused allocation, and worked runs with their values. They are one crate for all of these,
-//! since each crate with tests is proved twice. A device is a function without a clause that makes
-//! the calls of a library and returns their answers, so that its callers have little to prove.
+//! since each crate with tests is proved twice. Many calls of a library are made by functions
+//! without clauses, which return the answers. So the tests that call them have little to prove.
 #![tactic(auto)]
 
 #[cfg(test)]

@@ -337,7 +337,8 @@ fn look_or_sweep(list: &mut NodeList, call: Call) -> Answer {
 
 const HALF: u64 = 1 << 63;
 
-/// Runs of calls, with the answer to each, and where the marked nodes begin after it.
+/// Runs of calls. Each row has a call, its answer, and the split key at which the marked nodes
+/// begin after the call, or `None` if no node is marked.
 ///
 /// The split keys of 3, 2, 5 and 2^52 begin with 0xc, 0x4, 0xa and 0x0. Each key is sought from the
 /// head, so the seek of key 5 unlinks the node of key 2. Two keys that differ by 2^63 share their
@@ -481,8 +482,8 @@ enum Plain {
 /// The keys below 8 in the order of the list. The dummy of bucket 1 is before the fifth.
 const ORDER: [u64; 8] = [0, 4, 2, 6, 1, 5, 3, 7];
 
-/// Unlinks the nodes that a seek of the key at a rank unlinks: the marked nodes up to the first
-/// unmarked one that is not below the key.
+/// Unlinks the nodes that a seek of the key at a rank unlinks: the marked nodes before the first
+/// unmarked node that is not below the key. That node may be the dummy of bucket 1.
 fn seek_plainly(plain: &mut [Plain; 8], rank: usize) {
     for (at, state) in plain.iter_mut().enumerate() {
         if (at >= rank && *state == Plain::Live) || (at == 4 && rank < 4) {
@@ -542,7 +543,8 @@ fn dummy_of_1(list: &mut NodeList) -> Result<NodeRef, Fail> {
     link_here(list, &cursor, spare)
 }
 
-/// Sweeps from a dummy if no marked node may be before it, and else from the head.
+/// Sweeps from a dummy if there are marked nodes and none of them can be before the dummy.
+/// Otherwise sweeps from the head.
 fn sweep_from_dummy(list: &mut NodeList, dummy: NodeRef) -> SweepOutcome {
     if let Some(split) = list.marks_begin() {
         let bucket = bucket_at(split, 8);

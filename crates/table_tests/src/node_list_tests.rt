@@ -7,8 +7,8 @@ use std::alloc::{AllocError, Global};
 use std::process::Abort;
 use std::test::Fail;
 
-/// A list whose first node has this stamp modulo 2^64 - 1, since `NodeList::new` requires a stamp
-/// below that. Asked for once more if memory is refused.
+/// A list whose first node has this stamp, taken modulo 2^64 - 1: `NodeList::new` requires a stamp
+/// below 2^64 - 1. Tries once more if memory is refused.
 fn list_again(alloc: Global, first_stamp: u64) -> Result<NodeList, AllocError> {
     let first_stamp = first_stamp % u64::MAX;
     match NodeList::new(alloc, first_stamp) {
@@ -177,7 +177,7 @@ fn make(list: &mut NodeList, call: Call) -> Result<(), Fail> {
     }
 }
 
-/// The node of key 3, as it is linked.
+/// The node of key 3 after it was linked.
 const LINKED: Entry = Entry {
     key: 3,
     value: 30,

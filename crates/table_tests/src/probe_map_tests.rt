@@ -259,8 +259,8 @@ fn put_and_remove(rt: &impl Abort, map: &mut ProbeMap) -> Result<(), Fail> {
     Ok(())
 }
 
-/// Keys that are removed take no room for good: of 100,000 keys at most eleven are there at a time.
-/// The largest allocation is that of 64 slots, which docs/tests/refused.py looks at.
+/// The room of removed keys is used again: of 100,000 keys at most eleven are in the map at a time.
+/// docs/tests/refused.py checks that the largest allocation is that of 64 slots.
 #[test]
 fn removed_keys(rt: HostRuntime) -> Result<(), Fail> {
     put_and_remove(&rt, &mut ProbeMap::new(rt.alloc()))
@@ -280,8 +280,8 @@ fn put_rising(rt: &impl Abort, map: &mut ProbeMap) -> Result<(), Fail> {
     Ok(())
 }
 
-/// The time of a test is enough for a million rising keys only if the map grows, and keys in a row
-/// have homes apart.
+/// With a million rising keys, the test ends within a test's time only if the map grows and the
+/// homes of consecutive keys are apart.
 #[test]
 fn rising_keys(rt: HostRuntime) -> Result<(), Fail> {
     put_rising(&rt, &mut ProbeMap::new(rt.alloc()))

@@ -72,7 +72,7 @@ fn do_plain(plain: &mut Plain, op: Op) -> Result<Reply, Fail> {
     Ok(was)
 }
 
-/// A drawn operation on a key below a limit, or on one that is higher by 2^63.
+/// A drawn operation. Its key is below `keys`, or is higher by 2^63 than a key below `keys`.
 fn draw_op(draws: &mut Draws, keys: u64) -> Op {
     let high = draw(draws, 2) << 63;
     let key = high | draw(draws, keys);
@@ -103,8 +103,8 @@ fn try_again(rt: &impl Abort, alloc: Global, part: &mut Part, op: Op) -> Result<
     }
 }
 
-/// Does an operation by `try_again`, and notes its change. The place in the log is made first, and
-/// asked for once more if memory is refused.
+/// Does an operation by `try_again`, and logs its change. Reserves the place in the log first, and
+/// tries that once more if memory is refused.
 fn apply_again(rt: &impl Abort, alloc: Global, one: &mut Logged, op: Op) -> Result<Reply, Fail> {
     if one.log.reserve(1).is_err() {
         one.log.reserve(1)?;
@@ -321,7 +321,7 @@ fn rise_and_fall(rt: &impl Abort, alloc: Global, one: &mut Logged) -> Result<(),
 }
 
 /// A part that has grown by rising keys has all of them: each is taken, and then these takes are
-/// taken back. The time of a test is enough only if the part grows.
+/// taken back. The test ends within a test's time only if the part grows.
 #[test]
 fn rising_keys(rt: HostRuntime) -> Result<(), Fail> {
     rise_and_fall(&rt, rt.alloc(), &mut fresh(rt.alloc()))

@@ -59,8 +59,8 @@ fn save(rt: &impl Abort, log: &mut UndoLog<Raised>) -> Option<usize> {
     log.save().ok()
 }
 
-/// Takes out the newest job above a level and runs it on its count, which goes back by one. Answers
-/// `None` if there is no such job, or if the job's number is not this count.
+/// Takes out the newest job above a level and runs it on `count`, which lowers the count by one.
+/// Answers `None` if there is no such job, or if the job's number is not `count`.
 fn run_newest(log: &mut UndoLog<Raised>, level: usize, count: u64) -> Option<u64> {
     if level > log.level() {
         return None;
@@ -83,7 +83,8 @@ fn newest_above(log: &UndoLog<Raised>, level: usize) -> Option<u64> {
     }
 }
 
-/// Drops the savepoints above a level, above which no job may be left.
+/// Drops the savepoints above a level. Fails if there is no such level, or if a job is left above
+/// it.
 fn cut(log: &mut UndoLog<Raised>, level: usize) -> Result<(), Fail> {
     if level > log.level() || log.len() > log.kept(level) {
         return Err("jobs are left".into());
@@ -138,12 +139,12 @@ fn eight_jobs(alloc: Global) -> UndoLog<Raised>
     log
 }
 
-/// Eight jobs, without the clauses about them.
+/// The log of `eight_jobs`, without the clauses of `eight_jobs`.
 fn log_of_eight(alloc: Global) -> UndoLog<Raised> {
     eight_jobs(alloc)
 }
 
-/// Also run with allocations refused; the first one is that of the ninth job.
+/// Also run with allocations refused. The first allocation is that of the ninth job.
 #[test]
 fn nine_undone_newest_first(rt: HostRuntime) -> Result<(), Fail> {
     undo_nine(&rt, rt.alloc(), &mut log_of_eight(rt.alloc()))
@@ -163,7 +164,8 @@ fn empty_log(alloc: Global) -> UndoLog<Raised> {
     UndoLog::new(alloc)
 }
 
-/// How many of two savepoints are made, with the numbers 1 and 2. Each raises the level by one.
+/// Makes savepoints 1 and 2, if memory is not refused. Each raises the level by one. Answers the
+/// number of savepoints that were made.
 fn savepoints(rt: &impl Abort, alloc: Global, log: &mut UndoLog<Raised>) -> usize {
     for (before, number) in [(0, 1), (1, 2)] {
         match save(rt, log) {
@@ -178,7 +180,7 @@ fn savepoints(rt: &impl Abort, alloc: Global, log: &mut UndoLog<Raised>) -> usiz
     2
 }
 
-/// Returns from level 2, with a job below the savepoints and one above them, to level 1.
+/// Returns from level 2 to level 1. The log has one job below the savepoints and one above them.
 fn return_to_1(rt: &impl Abort, log: &mut UndoLog<Raised>) -> Result<(), Fail> {
     assert!(rt; figures(log) == (2, 2, false));
     assert!(rt; [kept(log, 0), kept(log, 1), kept(log, 2)] == [Some(0), Some(1), Some(1)]);

@@ -1,4 +1,4 @@
--- The entries that a call of a shared map adds, by its end.
+-- For each end of a call of a shared map, the entries that the call adds.
 use Rattle.std.proofs.Common.{◌≡◌, ℕ, List, [], refl, sym, ap, ◌∙◌, inl, inr, append-nil}
 use Rattle.thread_runs.proofs.Vocabulary.{Entry, Refusal, OutOfStep, Call, End, IsMade, Ended, Failed, Token, IsSameCaller}
 use Rattle.txn_words.specs.declared.answer.Answer.TheVariants as answers
@@ -29,7 +29,8 @@ adds_of {S} words k call (ends.Refused refusal) l ended = elim ended [
 ]
 adds_of words k call outcome l ran = (record { added = ran.added; entries = ran.entries; made = ran.made; quiet = λ whole. tt }, ran.whose)
 
--- Only an operation has a reply.
+-- If there is room for the reply of a call, there is room for the reply of its end: only an
+-- operation has a reply.
 pub room_at : (c : ℕ) (call : Call) (outcome : End) (added : List Entry) (room : ℕ) → IsMade c call outcome added → HasRoomFor call room → HasRoomAt outcome room
 room_at c (calls.Op op) (ends.Answered (answers.Done reply)) added room made has = has
 room_at c call (ends.Answered (answers.Done reply)) added room made has = absurd made

@@ -20,7 +20,7 @@ use Rattle.thread_runs.specs.Possible.{has_bad_key, is_back, is_abort, MayBeRefu
 use Rattle.thread_runs.specs.Runs.{HasPhase, IsIn, HasEnded, phase_at}
 use Rattle.thread_runs.proofs.Seating.{is_refusal, phase_after, phase_by, made_landed}
 
--- An action of the script that passes a test.
+-- If the action at position `i` passes a test, some action of the script passes it.
 pub any_at : (test : Action → Bool) (script : List Action) (i : ℕ) (action : Action) → slice_get script i ≡ Some action → test action ≡ true → IsTrue (list_any test script)
 any_at test [] i action is passes = absurd (cc (get_empty i, is))
 any_at test (first ∷ script) zero action is passes =
@@ -44,8 +44,8 @@ abbrev pub Stands : Bool → List Action → Bool → List Entry → Progress �
 Stands half script broken seen (Next attempt) = IsIn (phase_at attempt.stage) broken seen × MayLeave half script attempt.stage
 Stands half script broken seen (Over over) = IsIn Closed broken seen × MayBeOver half script over
 
--- A refusal of this action that the script may have. The abort has none, and neither has the
--- commit, for which the action is None.
+-- The script may have this refusal of this action. An abort has no refusal, and neither has the
+-- commit, for which the action is `None`.
 abbrev pub IsGood : Bool → List Action → Refusal → Option Action → Type 0
 IsGood half script refusal None = ⊥
 IsGood half script refusal (Some actions.Abort) = ⊥
@@ -95,7 +95,8 @@ module _ (half : Bool) (script : List Action) (tries again : ℕ) (broken : Bool
   refused_stands OutOfStep stage plain at good = absurd (false≢true (sym plain))
   refused_stands refusal stage plain at good = leaves refusal stage at good
 
--- The refusals of a token that is not broken.
+-- The refusals of a token that is not broken. If a refusal that has a condition is given, the
+-- condition holds (`if_bad`, `or_bad`).
 pub if_bad : (b : Bool) (why refusal : Refusal) → (if b then Some why else None) ≡ Some refusal → (b ≡ true) × (why ≡ refusal)
 if_bad true why refusal is = (refl, cc is)
 if_bad false why refusal is = absurd (cc is)

@@ -19,7 +19,8 @@ sound_if_free : (half b : Bool) (seat : Option Seat) (call : Call) → refused_a
 sound_if_free half false seat call free = refl
 sound_if_free half true seat call free = absurd (cc free)
 
--- Help that did not fall out of step.
+-- Help that did not fall out of step changes neither the entries that the token has seen nor
+-- whether the token is broken.
 helped_at : {S : Type 0} (words : S → List ℕ) (k : Token S) (key : ℕ) (outcome : End) (l : Token S) → is_out outcome ≡ false → Ended words k (calls.Help key) outcome l → (l.seen ≡ k.seen) × (l.broken ≡ k.broken)
 helped_at words k key ends.Helped l on ran =
     (ran.entries ∙ ap (λ es. k.seen ++ es) ran.made ∙ append-nil k.seen, ran.sound ∙ sym (sound_if_free k.limits.half k.broken (seat_after k.seen) (calls.Help key) ran.free))
@@ -86,7 +87,7 @@ fell_by {S} words k key l rows ended = elim ended [
   | inr later ↦ let fell : FellOut k (calls.Help key) l = later.1 in record { broken = fell.broken; added = fell.added; entries = fell.entries; quiet = fell.quiet }
 ]
 
--- Only an operation has a reply, and it commits nothing.
+-- Only an operation has a reply, and an operation commits nothing.
 done_quiet : (c : ℕ) (call : Call) (reply : Option ℕ) (added : List Entry) → IsMade c call (ends.Answered (answers.Done reply)) added → CommitNothing added
 done_quiet c (calls.Op op) reply added made = rw made
 done_quiet c call reply added made = absurd made

@@ -3,8 +3,8 @@ use Rattle.std.proofs.Common.{◌≡◌, ℕ, ◌⊎◌, zero, suc, List, [], �
 use Rattle.thread_runs.proofs.Vocabulary.{slice_get_within, slice_get-map, get_or_from_slice_get, get_empty}
 use Rattle.thread_runs.specs.Each.{Each}
 
--- If an element is appended to a list, each element of the result is one of the list or the new
--- one.
+-- Each element of `xs` with `y` appended is the element of `xs` at the same position, or is `y` at
+-- the last position.
 pub get_push : {X : Type 0} (xs : List X) (y : X) (i : ℕ) (x : X) → slice_get (xs ++ y ∷ []) i ≡ Some x → (slice_get xs i ≡ Some x) ⊎ ((i ≡ length xs) × (y ≡ x))
 get_push [] y zero x is = inr (refl, cc is)
 get_push [] y (suc i) x is = absurd (cc is)
@@ -29,7 +29,7 @@ get_map f (r ∷ rs) (suc k) x is = get_map f rs k x is
 pub map_get : {R X : Type 0} (f : R → X) (rs : List R) (xs : List X) → xs ≡ map f rs → (k : ℕ) (r : R) → slice_get rs k ≡ Some r → slice_get xs k ≡ Some (f r)
 map_get f rs xs are k r is = ap (λ ys. slice_get ys k) are ∙ slice_get-map f rs k ∙ ap (option_map f) is
 
--- A statement that holds of each element of a mapped list holds of each element's image.
+-- A statement that holds of all elements of `map f rs` holds of the image of each element of `rs`.
 pub all_at : {R K : Type 0} (P : K → Type 0) (f : R → K) (rs : List R) (ks : List K) → ks ≡ map f rs → All P ks → (i : ℕ) (r : R) → slice_get rs i ≡ Some r → P (f r)
 all_at P f rs ks are all i r is =
     let here = map_get f rs ks are i r is in

@@ -14,8 +14,8 @@ pub record IsLeft {R X : Type 0} (items : R → List X) (n : ℕ) (rows left : L
   pub as_many : length left ≡ length rows
   pub each : Each (HasLeft items n left out) rows
 
--- Each row has as many elements as `ys` has at the row's positions, which are those with the row's
--- number as their remainder modulo `n`.
+-- The positions of a row are those whose remainder modulo `n` is the row's number. Each row has as
+-- many elements as `ys` has at the row's positions.
 abbrev pub AreWholeRows : {R X Y : Type 0} → (R → List X) → ℕ → List R → List Y → Type 0
 AreWholeRows items n rows ys = Each (λ c row. length (items row) ≡ length (every n c ys)) rows
 

@@ -66,8 +66,8 @@ module _ {L W : Type 0} (items : W → List codes.Outcome) (half : Bool) (worker
         (get-every workers some (map told_of outcomes) c k ∙ ap (slice_get (map told_of outcomes)) (sym at) ∙ js)
         (rw (own_outcomes c r here) (each c r here).ran.may)
 
--- The result of a run, from its reports, the callers and rows that these are divided into, and the
--- history of the map.
+-- The outcomes and the history of a run are as `HasRunScripts` says. This follows from the reports,
+-- from the callers and the rows into which the reports are divided, and from the map's history.
 pub run_true : {L W : Type 0} (items : W → List codes.Outcome) (limits sizes : Sizes) (workers tries : ℕ) (scripts : List (List Action)) (reports : List (WorkerReport L)) (callers : List _) (rows : List W) (outcomes : List codes.Outcome) (trace h : List Entry)
     → 0 < workers → length reports ≡ workers → Each (HasReported limits.half workers tries scripts) reports → callers ≡ map (λ r. r.caller) reports → map items rows ≡ map (λ r. reverse r.outcomes.items) reports → length outcomes ≡ length scripts
     → Each (λ c row. every (length rows) c outcomes ≡ reverse (items row)) rows → trace ≡ h → sizes ≡ limits → workers ≡ limits.callers → IsLegal Begun sizes.stripes h → All (λ e. caller_of e < sizes.callers) h → All (λ k. IsOwn h k) callers

@@ -42,7 +42,7 @@ landed e (Some s) w h = at e s.phase refl w h
     at (Aborted x) LeavingToEnd is w h = if_some (s.standing == 0) closed_seat Closed refl h
     at f q is w h = absurd (cc)
 
--- The last of the added entries is one that ends a call's work.
+-- If the last of the added entries ends a call's work, the caller's phase is `lands` of this entry.
 added_landed : (seen seen' front : List Entry) (e : Entry) → ends_work e ≡ true → seen' ≡ seen ++ (front ++ e ∷ []) → is_some (seat_after seen') ≡ true → HasPhase (lands e) (seat_after seen')
 added_landed seen seen' front e w is some =
     let pushed = ap seat_after (is ∙ sym (append_assoc seen front (e ∷ []))) ∙ seat_after-push (seen ++ front) e in

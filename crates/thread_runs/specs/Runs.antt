@@ -61,9 +61,9 @@ pub record Adds (c : ℕ) (call : Call) (outcome : End) (seen seen' : List Entry
   pub made : IsMade c call outcome added
   pub quiet : is_some (seat_after seen') ≡ true → IsQuiet outcome added
 
--- The caller after a call with this end, once the worker may have helped the table to grow. Its
--- entries are unchanged if it is still in step; if not, the call was answered without a value, and
--- a call for help fell out of step.
+-- The caller after a call with this end, and after the help that may have followed. If the caller
+-- is still in step, its entries are unchanged. If not, the call was answered without a value, and
+-- the help that followed fell out of step.
 abbrev pub Grows : {S : Type 0} → Token S → End → Bool → Token S → Type 0
 Grows k outcome true l = (l.seen ≡ k.seen) × (l.broken ≡ k.broken)
 Grows {S} k outcome false l =
@@ -115,7 +115,7 @@ pub record HasRunAll (half : Bool) (workers tries c : ℕ) (scripts : List (List
   pub may : MayAllCome half (every workers c scripts) outcomes
   pub all : length outcomes ≡ length (every workers c scripts)
 
--- The worker of a number returns its caller, and has run each of its scripts.
+-- The worker with the number `c` reports its caller, and has run each of its scripts.
 pub record HasReported {L : Type 0} (half : Bool) (workers tries : ℕ)
     (scripts : List (List Action)) (c : ℕ) (report : WorkerReport L) : Type 0 where
   pub number_is : report.caller.number ≡ c

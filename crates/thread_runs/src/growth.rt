@@ -81,8 +81,8 @@ fn is_out(end: End) -> bool
     matches!(end, End::Refused(Refusal::OutOfStep))
 }
 
-/// The key of a put or a put-if, if it had no value before. A put-if that expected a value has then
-/// put nothing, and its key counts too.
+/// The key of a put or a put-if that found no value at the key. The key of a put-if that expected a
+/// value counts too, although the put-if has put nothing.
 fn new_key(call: Call, end: End) -> Option<u64>
     ensures { IfSome result (λ key. end ≡ End.Answered (Answer.Done None)) }
 {

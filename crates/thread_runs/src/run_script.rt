@@ -75,8 +75,8 @@ impl Heard {
         }
     }
 
-    /// Moves on to the next attempt, or the next stage of this one, after a call with this end, for
-    /// whose reply there is room.
+    /// Moves on to `next`, the next attempt or the next stage of this one, and notes what the end
+    /// of the call says. There is room for the call's reply, if it has one.
     fn go_on(&mut self, next: Attempt, end: End)
         requires { HasRoomAt end (vec_capacity self.old.replies - vec_len self.old.replies) }
         ensures { heard_of self.new ≡ heard_then (heard_of self.old) end next }

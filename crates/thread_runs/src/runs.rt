@@ -1,5 +1,5 @@
 //! A run of scripts, from a new map to the outcomes in the scripts' order; its parts are in the
-//! modules beside. It picks the names of ledger and terms itself, so that its callers need none.
+//! other modules. It chooses the types of its ledger and its terms, so its callers name neither.
 //! Before a thread starts, the map takes room for what the scripts add, so that history, table and
 //! logs need not grow under its lock; if that room is refused, or many attempts are repeated, they
 //! grow as they are used.
@@ -116,7 +116,7 @@ fn run_under<L: Ledger + Send + Sync, T: Terms + Send + Sync, G: Gate, R: Thread
     Ok(Ran { outcomes, trace })
 }
 
-/// For each worker, the most changes of one of its scripts.
+/// For each worker, the largest number of changes that one of its scripts may make.
 fn most_changes(alloc: Global, scripts: &[Script], workers: usize) -> Result<Vec<usize>, AllocError>
     requires { 0 < workers }
 {
@@ -129,12 +129,16 @@ fn most_changes(alloc: Global, scripts: &[Script], workers: usize) -> Result<Vec
     Ok(most)
 }
 
-/// Room for what scripts add if no change is taken back. Entries: two for each action but a help,
-/// and a begin and an end for each script. Nodes: one for each put, as many again for the dummies
-/// of buckets, but at most the largest number of buckets, and for each worker as many spares as one
-/// of its scripts has changes at most. Each worker's log has room for as many changes. With several
-/// workers the room is written before they start, and has half as many entries more, for attempts
-/// that are repeated.
+/// Room for what scripts add if no change is taken back. `changes` has for each worker the largest
+/// number of changes that one of its scripts may make.
+///
+/// - Entries: two for each action but a help, and a begin and an end for each script; with several
+///   workers, half as many more for attempts that are repeated.
+/// - Nodes: one for each put or put-if; as many again for the dummies of buckets, but at most the
+///   largest number of buckets; and for each worker as many spares as `changes` has for it.
+/// - Logs: each worker's log has room for as many changes as `changes` has for the worker.
+///
+/// With several workers the room is written before they start.
 fn room_for<'a>(scripts: &[Script], limits: Limits, changes: &'a [usize]) -> Room<'a> {
     let mut room = Room {
         entries: 0,

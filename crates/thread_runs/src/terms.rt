@@ -4,8 +4,9 @@
 //! time.
 use std::marker::Brand;
 
-/// The number of workers of a run, how often each tries a script again, and the scripts. Contracts
-/// name them by a type, since they go to threads and back. Each run picks its own type.
+/// The number of workers of a run, how often each tries a script again, and the scripts. A type
+/// names them, so that the promises of the run's threads are about the same values as the run's
+/// contract. Each run picks its own type.
 pub(crate) trait Terms {
     ghost use Rattle.std.specs.Prelude.{ℕ, List};
     ghost use Rattle.txn_words.specs.declared.action.Action.{Action};

@@ -76,8 +76,8 @@ pub(crate) fn play_with<P: Play, R: Wait + Abort>(
     Err("no memory for a map".into())
 }
 
-/// Runs the test on such a map, for which it asks once more if memory is refused. If it is refused
-/// again, there is nothing to run on.
+/// Runs the test on such a map. If memory for the map is refused, asks for it once more. If it is
+/// refused again, the test does not run.
 pub(crate) fn play_where_made<P: Play, R: Wait + Abort>(
     rt: &R,
     alloc: Global,
@@ -260,8 +260,8 @@ fn operate<L: Ledger, R: Wait>(
     }
 }
 
-/// A map that was not closed, and the callers that were passed in, if a caller is missing or was
-/// passed in twice; `None` if the map was not closed for another reason.
+/// The error of `close_or_miss`: the map and the callers that were passed in, if a caller is
+/// missing or was passed in twice; `None` if there is another reason.
 pub(crate) type Missing<L, S> = Option<(Shared<L>, Vec<Caller<L, S>>)>;
 
 /// Closes a map.
@@ -340,8 +340,9 @@ pub(crate) fn is_settled(
 }
 
 /// Whether a closed core has this number of keys, and a history that is legal with no transaction
-/// open. A key that it has must be 1, with the value 10. If the list or the history is refused
-/// memory twice, it is not compared.
+/// open. If it has a key, the key must be 1, with the value 10. If the judge is refused memory
+/// twice, only the number of keys is compared. If the list is refused memory twice, the key and its
+/// value are not compared.
 pub(crate) fn has_left<R: Abort>(rt: &R, alloc: Global, core: &Core, keys: u64) -> bool {
     let trace = core.trace();
     let Ok(settled) = is_settled(alloc, trace, 8).or_else(|_| is_settled(alloc, trace, 8)) else {

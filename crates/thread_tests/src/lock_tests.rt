@@ -50,7 +50,7 @@ fn is_answered(stripes: &mut Stripes, caller: usize, turn: Turn) -> bool {
     }
 }
 
-/// Takes turns, each of the caller of this number, on this number of free stripes.
+/// Takes turns on `count` free stripes. Each turn is listed with the number of its caller.
 fn take_turns<R: Abort>(
     rt: &R,
     alloc: Global,

@@ -339,8 +339,8 @@ fn is_refused_memory(outcome: &Outcome) -> bool {
     matches!(outcome, Outcome::Refused(Refusal::NoMemory))
 }
 
-/// Whether both scripts are committed; if not, they were refused memory, and no caller is left in a
-/// transaction.
+/// Whether both scripts are committed. A script that is not committed must have been refused
+/// memory, and no caller may be left in a transaction.
 fn is_whole<R: Abort>(rt: &R, alloc: Global, ran: &Ran) -> bool {
     let outcomes = ran.outcomes.as_slice();
     assert_eq!(rt; outcomes.len(), 2);
@@ -358,8 +358,8 @@ fn is_whole<R: Abort>(rt: &R, alloc: Global, ran: &Ran) -> bool {
 }
 
 /// The state after a run that is refused memory, by `docs/tests/refused.sh`. One worker plays the
-/// scripts, until both are committed. Eight refusals in a row end at most eight runs; if the ninth
-/// does not commit both either, memory is refused for good.
+/// scripts, until both are committed. Eight refusals in a row keep at most eight runs from
+/// committing both scripts. So if the ninth run does not do so either, memory is refused for good.
 #[test]
 fn refused_memory_for_crossing_scripts(rt: HostRuntime) {
     for _ in 0..9 {

@@ -161,7 +161,8 @@ fn give(seated: &mut Seated) -> bool {
     }
 }
 
-/// Seat 0 takes stripe 1. Until seat 0 gives the stripe back, both seats find its word, 1, there.
+/// Seat 0 takes stripe 1. Until seat 0 gives the stripe back, both seats find the word of seat 0,
+/// which is 1, at stripe 1.
 #[test]
 fn words_of_stripes(rt: HostRuntime) -> Result<(), Fail> {
     let mut seats = seats_of(rt.alloc(), 8, 2)?;
@@ -192,8 +193,8 @@ enum Turn {
     GiveBack,
 }
 
-/// Plays a turn. Answers whether a take had the answer that it must have, and whether the right at
-/// the position in that answer is the stripe's.
+/// Plays a turn, and answers whether it went well. A take must get the answer in the turn, and the
+/// right at the position in this answer must be that of the stripe.
 fn is_answered(caller: &mut Keeping, turn: Turn) -> Result<bool, AllocError> {
     let Turn::Take(stripe, wanted) = turn else {
         caller.rights.give_back(&*caller.words);

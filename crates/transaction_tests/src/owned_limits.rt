@@ -1,6 +1,6 @@
 //! Tests of transactions on the map with one owner at the limits of keys, values and savepoints. By
-//! contract a call at a limit may give up; here none may. The tables are those of `lines`. The
-//! functions that are given a transaction have a clause, which the closure of `transact` needs.
+//! contract a call at a limit may give up; here none may. The tables are those of `lines`. Each
+//! function that is given a transaction ensures `Keeps`, because the closure of `transact` must.
 ghost use Rattle.std.specs.Prelude.{◌≡◌};
 ghost use Rattle.owned_map.specs.Keeps.{Keeps};
 

@@ -48,7 +48,7 @@ fn begins_with_one(rt: &impl Abort, core: &Core, caller: u64, end: usize) {
     assert!(rt; trace[end].entry() == Entry::Committed(caller, 1));
 }
 
-/// Checks that a new core has the pairs of an old one, and that memory was refused to no work.
+/// Checks that a new core has the pairs of an old one, and that no work was refused memory.
 fn is_made(rt: &impl Abort, alloc: Global, old: &Core, finished: Finished<bool>) -> Core {
     have_same_pairs(rt, alloc, old, &finished.core);
     for seen in finished.outcomes {

@@ -88,7 +88,7 @@ module _ {X : Type 0} (may : X → Step → Type 0) (takes : X → Step → Answ
   none_taken x y step answer None not taken = (answer, taken)
   none_taken x y step answer (Some then) not taken = (answer, y, taken, none_second y then answer not)
 
-  -- After a step that was answered otherwise, no step is left of the turn.
+  -- If the answer to a step was not `placed`, no step of the turn is left.
   pub after_other : (start : X) (turn : Turn) (x y : X) (next second other : Option Step) (step : Step) (answer : Answer)
       → next ≡ Some step → (answer ≡ Placed → ⊥) → takes x step answer y
       → Rest start turn x next second → Rest start turn y None other

@@ -176,8 +176,8 @@ refused_help NoMemory = Refused NoMemory
 refused_help StampsUsedUp = Refused StampsUsedUp
 refused_help refusal = Refused OutOfStep
 
--- The phase after a doubling that named the size `seen`: the way to the key's bucket at the size
--- that the table then has.
+-- The phase after the step that doubles the table, which named the size `seen`: the way to the
+-- key's bucket begins, for the size that the table now has.
 abbrev pub told_help : ℕ → ℕ → Answer → Phase
 told_help key seen (answers.Moved size) = heading key size
 told_help key seen (answers.Doubled size) = heading key size
@@ -211,7 +211,7 @@ told_store way answers.Stored = towards way.bucket way.target
 told_store way (answers.Refused refusal) = refused_help refusal
 told_store way answer = Refused OutOfStep
 
--- The phase after an answer to the step of a phase.
+-- The next phase after a phase, given the answer to the phase's step.
 abbrev pub told_in : Call → Phase → Answer → Phase
 told_in call Fresh answer = told_first call answer
 told_in call (Seeking work again) answer = told_seek work again answer

@@ -54,8 +54,8 @@ pub enum Phase {
 }
 
 impl Phase {
-    /// Goes on to the phase after an answer to the step of this one. Each arm writes its own kind
-    /// of phase, so that only the parts that this kind has are written.
+    /// Goes on to the next phase, given the answer to this phase's step. Each arm writes its own
+    /// kind of phase, so that only the parts that this kind has are written.
     #[inline(always)]
     pub(crate) fn told(&mut self, call: Call, answer: Answer)
         ensures { self.new ≡ told_in call self.old answer }
@@ -143,7 +143,8 @@ fn undone_more(work: Work) -> Phase
     }
 }
 
-/// After a doubling: the way to the key's bucket at the size that the table then has.
+/// After the step that doubles the table: the way to the key's bucket begins, for the size that the
+/// table now has. `seen` is the size that the step named.
 fn told_double(call: Call, seen: u32, answer: Answer) -> Phase
     ensures { result ≡ told_double call seen answer }
 {

@@ -26,7 +26,7 @@ within (Returned c level) h = omega (arith, leb-true c 63 h)
 within (Committed c place) h = omega (arith, leb-true c 63 h)
 within (Aborted c) h = omega (arith, leb-true c 63 h)
 
--- A value that a test lets through passed the test.
+-- If Ok is answered only with a value that passes the test, the value of an Ok passes the test.
 let_through : {A : Type 0} (P : A → Bool) (x y : A) (test : Bool) → test ≡ P x → ◌≡◌ {A = Result A FileFault} (if test then Ok x else Err Limit) (Ok y) → P y ≡ true
 let_through P x y true is e = let same : x ≡ y = cc e in subst (λ z. P z ≡ true) same (sym is)
 let_through P x y false is e = absurd (cc e)

@@ -26,8 +26,8 @@ use Rattle.txn_files.proofs.PlainPieces.{no_entry}
 
 -- ---- one entry
 
--- The entry that is kept in place of another is out of range, and version 1 has it exactly if `b`
--- is true.
+-- An entry that is not small is replaced by one of these two: the first if `b` is true, else the
+-- second. Both are out of range, and version 1 has only the first.
 replaced : (b : Bool) → is_in_range (cond b (entries.Saved 65535) (entries.Asked 65535 (ops.PutIf 0 None 0))) ≡ false
 replaced true = refl
 replaced false = refl

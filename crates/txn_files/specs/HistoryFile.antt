@@ -56,8 +56,8 @@ entries_from version other entries = Err Member
 abbrev pub history_of : List ℕ → Result (ℕ × List Entry × ℕ) FileFault
 history_of bytes = contents history_file bytes >>= λ file. entries_from file.0 file.1 file.2
 
--- The caller that a Busy may name in a history file of this version: in versions 1 and 2 one that
--- holds the stripe, in later ones one that has begun a transaction.
+-- The rule for the caller that a Busy names in a history file of this version: in versions 1 and 2
+-- the caller holds the stripe, in later versions it has begun a transaction.
 abbrev pub holder_in : ℕ → Holder
 holder_in version = if nat_le version 2 then Now else Begun
 

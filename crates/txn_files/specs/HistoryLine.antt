@@ -8,8 +8,9 @@ use Rattle.txn_files.specs.HistoryText.{comma, entry_text}
 abbrev pub further_text : List Entry → List ℕ
 further_text entries = flat_map (λ e. comma ∷ entry_text e) entries
 
--- The line up to its last entry. If the line was not begun, its start is part of the text; if it
--- was, an entry was handed out already, and these entries follow it.
+-- The part of the line that is left, up to the last entry. If the line was not begun, the part has
+-- the start of the line and these entries. If the line was begun, an entry was handed out already,
+-- and these entries follow it.
 abbrev pub entries_text : Bool → List Entry → List ℕ
 entries_text false entries = codes "{\"entries\":[" ++ join_with_byte comma (map entry_text entries)
 entries_text true entries = further_text entries

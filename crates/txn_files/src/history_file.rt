@@ -225,7 +225,8 @@ fn is_history(stripes: u64, entries: &[SmallEntry]) -> bool
     1 <= stripes && stripes <= Limits::MAX_STRIPES && are_in_range(entries)
 }
 
-/// The number of stripes, the entries and the version, from a file's version, number and entries.
+/// The number of stripes (the only element of `numbers`), the entries and the version. Fails with
+/// `Limit` if the number of stripes or a caller is out of range.
 #[tactic(auto, unfolding(crate::specs::HistoryFile::entries_from))]
 fn entries_in(
     version: u64,
@@ -331,8 +332,9 @@ pub fn into_packed_history(
     read_packed_history(alloc, &bytes)
 }
 
-/// The history file that the bytes are, read with entries as they are kept. Only an entry that is
-/// out of range is replaced, and its replacement is out of range too, so the faults are the same.
+/// Reads the history file that the bytes are, and keeps each entry as `kept` packs it. Only an
+/// entry that is out of range is replaced, and its replacement is out of range too. So the faults
+/// are the same as without replacements.
 fn kept_history(alloc: Global, bytes: &[u8]) -> Result<(u32, Vec<SmallEntry>, u64), FileFault>
     ensures { Gives (λ file. (file.0, file.1.items, file.2)) result (kept_history_of bytes.now) }
 {

@@ -16,8 +16,8 @@
 //! `text_of_history` says, and `HistoryPieces` hands it out, with a line feed, piece by piece.
 //!
 //! Cost: time and memory in proportion to the length of the file or text. A file in plain form is
-//! read once, any other at most twice. No more steps, entries or scripts are kept than a file may
-//! have, but all actions of a script are.
+//! read once, any other at most twice. A reader keeps at most as many steps, entries or scripts as
+//! a file may have; but it keeps all actions of a script, even more than a script may have.
 #![tactic(auto)]
 
 mod history_file;

@@ -1,6 +1,7 @@
-//! Room for a part of a text, which is taken once: nothing that is put into it takes memory. A
-//! `HistoryPieces` fills it again and again, so a text of any length needs no more. It holds 65,536
-//! bytes, and one comparison tells whether a line of 160 bytes surely fits.
+//! A buffer for a part of a text. Its memory is taken once, when it is made, so no put takes
+//! memory. A `HistoryPieces` fills the same buffer again and again, so a text of any length needs
+//! no further memory. A buffer holds 65,536 bytes, and one comparison tells whether a line of 160
+//! bytes surely fits.
 ghost use Rattle.std.specs.Prelude.{◌≡◌, ◌↔◌, ◌+◌, ◌<◌, ◌≤◌, [], ◌++◌, IfOk, IsTrue, length};
 
 use std::alloc::{AllocError, Global};

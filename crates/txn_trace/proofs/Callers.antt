@@ -65,7 +65,8 @@ pub at_is : (g : List Entry) (e : Entry) (t : ℕ) → txn_at g e ≡ Some t →
 at_is g (Began c u) t is = some_same u t (subst (λ b. cond b (Some u) (txn_in g c) ≡ Some t) (eq-eqb c c refl) is)
 at_is g _ t is = is
 
--- A caller that is in a transaction after the entry was in it before, or began it by the entry.
+-- If a caller is in transaction t after the entry, either the entry is the caller's and belongs to
+-- t, or the entry is another caller's and the caller was in t before.
 pub after_is : (g : List Entry) (e : Entry) (x t : ℕ) → txn_after (txn_in g) e x ≡ Some t → ((x ≡ caller_of e) × (txn_at g e ≡ Some t)) ⊎ ((x ≡ caller_of e → ⊥) × (txn_in g x ≡ Some t))
 after_is g e x t is = elim (cases_eq x (caller_of e)) [
   | inl same ↦ inl (same, subst (λ y. txn_after (txn_in g) e y ≡ Some t) same is)

@@ -19,9 +19,9 @@ use Rattle.txn_trace.proofs.Shaped.{callers_of, callers_push, first_of_rest, end
 use Rattle.txn_trace.proofs.Seated.{none_before, are_seated}
 use Rattle.txn_trace.proofs.Now.{open_going}
 
--- The history has a transaction that committed at this place of the commit order: its entries are
--- this part, and the part runs alone on the map of the transactions that committed before it, with
--- the replies of that map.
+-- Transaction `txn` committed at this place of the commit order. Its entries are this part. If the
+-- part runs alone on the map of the transactions that committed before `txn`, all its replies are
+-- right.
 pub record HasCommitted (c txn place : ℕ) (part h : List Entry) : Type 0 where
   pub whole : of txn h ≡ part
   pub before : List Entry
@@ -29,8 +29,8 @@ pub record HasCommitted (c txn place : ℕ) (part h : List Entry) : Type 0 where
   pub number : place ≡ how_many is_commit before + 1
   pub replied : IsSome (alone (serial before) part)
 
--- The list is cut at an element: the elements before it that pass the test are xs, and those after
--- it ys.
+-- The list is cut at an element: the elements before it that pass the test are xs, and the elements
+-- after it that pass the test are ys.
 abbrev IsCut : {X : Type 0} → (X → Bool) → List X → List X → X → List X → Type 0
 IsCut {X} p h xs x ys = (g : List X) × (rest : List X) × (h ≡ g ++ x ∷ rest) × (filter p g ≡ xs) × (filter p rest ≡ ys)
 
@@ -94,8 +94,8 @@ pub commits_so : (c p : ℕ) (o : Option Run) → is_some o ≡ true → is_some
 commits_so c p None some = some
 commits_so c p (Some r) some = refl
 
--- If a caller's own entries have a part from a Began to a Committed with no Began in between, a
--- transaction has committed by that part.
+-- If a caller's own entries have a part from a Began to a Committed, with no other Began in it, a
+-- transaction that has exactly the entries of this part has committed.
 pub has_committed : (c txn place : ℕ) (h front inner later : List Entry) → IsShaped h → RepliesHold h
     → own c h ≡ front ++ ((Began c txn ∷ inner ++ Committed c place ∷ []) ++ later) → filter is_began inner ≡ [] → HasCommitted c txn place (Began c txn ∷ inner ++ Committed c place ∷ []) h
 has_committed c txn place h front inner later shape replies own_is quiet =

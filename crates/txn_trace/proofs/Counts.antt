@@ -174,8 +174,8 @@ counted n h shape = by_entries (λ g. callers_in g ≤ n → opens g ≡ in_txns
         let bound : max (callers_in g) (caller_of e + 1) ≤ n = subst (λ k. k ≤ n) (callers_in-push g e) within in
         count_push n g e shape callers shaped (omega arith) (was (omega arith))
 
--- There are as many open transactions as callers that are not closed, however many callers beyond
--- those of the history are counted.
+-- If all callers of the history are below n, there are as many open transactions as callers below n
+-- that are not closed.
 pub length-open_txns : (n : ℕ) (h : List Entry) → IsShaped h → callers_in h ≤ n → length (open_txns h) ≡ length (running n h)
 length-open_txns n h shape within =
     length-filter (λ t. is_open t h) (txns_of is_began h) ∙ ap (sum_by (λ t. one_if (is_open t h))) (began_txns h shape) ∙ counted n h shape within

@@ -99,8 +99,8 @@ of-kept_in keep t h is = of-kept keep t h ∙ ap (λ b. cond b (of t h) []) is
 pub of-kept_out : (keep : Option ℕ → Bool) (t : ℕ) (h : List Entry) → keep (Some t) ≡ false → of t (kept_of keep h) ≡ []
 of-kept_out keep t h is = of-kept keep t h ∙ ap (λ b. cond b (of t h) []) is
 
--- The transactions of the entries that pass a test. In the kept history they are the kept ones of
--- those in the whole history.
+-- The transactions of the entries that pass a test. Of those in the whole history, the kept history
+-- has exactly the transactions that are kept.
 abbrev picked : (Entry → Bool) → List Line → List ℕ
 picked test ls = filter_map (λ l. cond (test l.entry) l.txn None) ls
 
@@ -137,7 +137,7 @@ picked_kept keep test (l ∷ ls) = one_kept keep test l.txn l.entry (filter (λ 
 pub txns_of-kept : (keep : Option ℕ → Bool) (test : Entry → Bool) (h : List Entry) → txns_of test (kept_of keep h) ≡ filter (λ t. keep (Some t)) (txns_of test h)
 txns_of-kept keep test h = ap (picked test) (lines_of-kept keep h) ∙ picked_kept keep test (lines_of h)
 
--- No transaction ends both ways.
+-- No transaction both commits and aborts.
 not_both : (es : List Entry) (a b : Bool) → (a ≡ true → b ≡ false) → fold (λ x e. is_commit e) a es ≡ true → fold (λ x e. is_abort e) b es ≡ false
 not_both [] a b apart is = apart is
 not_both (e ∷ es) a b apart is = not_both es (is_commit e) (is_abort e) (λ c. one e c) is

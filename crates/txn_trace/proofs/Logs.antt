@@ -100,7 +100,8 @@ pub seat_logged : (es : List Entry) (s : Seat) → seat_after es ≡ Some s → 
 seat_logged es s is = subst (λ o. LoggedAfter o (log_after es)) is (fold_logged es (Some closed_seat) no_log (record { count = refl; phase = tt }))
 
 -- The log agrees with the run: the same operation waits in both, and for each map of the run but
--- the first the log has the change that made this map. The keys of all these pass the test.
+-- the first the log has the change that made this map. The keys of the waiting operation and of the
+-- changes pass the test.
 pub record Logs (keys : ℕ → Bool) (log : Log) (r : Run) : Type 0 where
   pub pending : log.pending ≡ r.pending
   pub waits : WaitsFor keys r.pending

@@ -97,8 +97,8 @@ pub running_of : (g : List Entry) (c t : ℕ) → txn_in g c ≡ Some t → ende
 running_of g c t is going = record { began = are_listed g c t is; going = going }
 
 module _ (stripes : ℕ) (g : List Entry) (k : ℕ) where
-  -- If no other running transaction holds the stripe of a key, the value now is that of the
-  -- transaction's last map.
+  -- If t is running, and no other running transaction holds the stripe of a key, the value now at
+  -- the key is that of the last map of t.
   pub now_at-mine : (t : ℕ) → IsRunning g t → ((u : ℕ) → ended u g ≡ false → u ≢ t → keys_in stripes (of u g) k ≡ false) → now_at g k ≡ get (map_after (serial g) (of t g)) k
   now_at-mine t running none = first_one (serial g) (λ u. map_after (serial g) (of u g)) k t (open_txns g)
       (any-filter (λ u. is_open u g) t (open_going t g running.going) (txns_of is_began g) running.began)

@@ -25,8 +25,8 @@ use Rattle.txn_trace.proofs.Running.{has_seat}
 use Rattle.txn_trace.proofs.Seated.{the_some}
 use Rattle.txn_trace.proofs.Sums.{sum_at}
 
--- The number of entries reserved for an entry: one for itself, and one for each further entry that
--- its caller owes after it. Entries that are owed already reserve none.
+-- The number of places reserved for an entry: one for the entry itself, and one for each further
+-- entry that its caller owes after it. No place is reserved for an entry that is owed already.
 abbrev pub reserved_for : Entry → ℕ
 reserved_for (Began c t) = 3
 reserved_for (Asked c op) = 1 + owed_for op

@@ -22,7 +22,7 @@ use Rattle.txn_trace.proofs.Now.{same_option}
 use Rattle.txn_trace.proofs.Judging.{empty_or_owned}
 use Rattle.txn_trace.proofs.Fits.{Fits, FitsAfter, IsReply, fits_act, fits_start}
 
--- A caller's seat, and that it agrees with the run on each map.
+-- A caller's seat, which agrees with the run of transaction t on each map.
 pub record Seated (g : List Entry) (c t : ℕ) : Type 0 where
   pub seat : Seat
   pub is : seat_after (own c g) ≡ Some seat

@@ -27,8 +27,8 @@ pub filter_all : {X : Type 0} (p : X → Bool) (xs : List X) → AllByRecursion 
 filter_all p [] all = refl
 filter_all p (x ∷ xs) all = ap (λ b. cond b (x ∷ filter p xs) (filter p xs)) all.0 ∙ ap (λ ys. x ∷ ys) (filter_all p xs all.1)
 
--- One more entry adds its transaction to the transactions of the entries that pass a test, if the
--- entry passes it.
+-- If one more entry passes a test, its transaction is added to the transactions of the entries that
+-- pass the test. Otherwise these are unchanged.
 pub txns_of-push : (test : Entry → Bool) (g : List Entry) (e : Entry) → txns_of test (g ++ e ∷ []) ≡ txns_of test g ++ cons_option (cond (test e) (txn_at g e) None) []
 txns_of-push test g e =
     let f : Line → Option ℕ = λ l. cond (test l.entry) l.txn None in

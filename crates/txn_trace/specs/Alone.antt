@@ -31,7 +31,7 @@ with_op run op =
     then record run { last = after run.last op; earlier = run.last ∷ run.earlier }
     else run
 
--- Did: an operation must wait, and the reply must be that of the last map.
+-- Did: an operation must be waiting, and the reply must be its reply on the last map.
 abbrev pub act_did : Run → Option Op → Option ℕ → Option Run
 act_did run None r = None
 act_did run (Some op) r =

@@ -11,8 +11,8 @@ ghost use Rattle.txn_trace.specs.Serial.{serial};
 ghost use Rattle.txn_words.specs.declared.entry.Entry.{Entry};
 ghost use Rattle.txn_words.specs.declared.holder.Holder.{Holder};
 
-/// If the entries of its aborted transactions are left out, a legal history still has the same map
-/// now and the same committed map, and its replies still hold.
+/// Leaving out the entries of aborted transactions from a legal history changes neither the map
+/// now nor the committed map, and the replies in the entries that are left still hold.
 ///
 /// The contract is the law; the function does nothing.
 pub fn erased()

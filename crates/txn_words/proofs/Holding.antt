@@ -8,11 +8,11 @@ use native.Mathlib.Decide.{ℕ_discrete}
 use lib.ListN.{get_elem?}
 use Rattle.txn_words.specs.Held.{times, removed, once_for}
 
--- A seat's own word counts once for it.
+-- A seat's own word counts once for the seat.
 pub once_yes : (n word : ℕ) → word ≡ n + 1 → once_for n word ≡ 1
 once_yes n word e = ap (λ b. cond b 1 0) (eq-eqb word (n + 1) e)
 
--- Any other word does not count for it.
+-- Any other word does not count for the seat.
 pub once_no : (n word : ℕ) → word ≢ n + 1 → once_for n word ≡ 0
 once_no n word ne = ap (λ b. cond b 1 0) (ne_eqb word (n + 1) ne)
 
@@ -20,7 +20,7 @@ once_no n word ne = ap (λ b. cond b 1 0) (ne_eqb word (n + 1) ne)
 pub own_word : (n word many : ℕ) → many ≡ once_for n word → 0 < many → word ≡ n + 1
 own_word n word many e h = dite (ℕ_discrete word (n + 1)) (λ y. y) (λ ne. absurd (omega (arith, once_no n word ne)))
 
--- A stripe in front of a list occurs once more.
+-- If a stripe is put in front of a list, it occurs once more than before.
 pub times_same : (k : ℕ) (ks : List ℕ) → times k (k ∷ ks) ≡ 1 + times k ks
 times_same k ks = ap (λ b. cond b 1 0 + times k ks) (eq-eqb k k refl)
 
@@ -49,11 +49,11 @@ at_times [] k h = absurd (omega arith)
 at_times (x ∷ ks) k h = dite (ℕ_discrete x k) (λ (e : x ≡ k). (0, ap (λ (y : ℕ). Some y) e))
     (λ ne. let more : 0 < times k ks = omega (arith, h, times_other k x ks ne) in let deep = at_times ks k more in (suc deep.0, deep.1))
 
--- If the stripe is the first of the list, the others are left.
+-- If the stripe to remove is the first of the list, the rest of the list is left.
 pub removed_same : (k : ℕ) (ks : List ℕ) → removed k (k ∷ ks) ≡ ks
 removed_same k ks = ap (λ b. cond b ks (k ∷ removed k ks)) (eq-eqb k k refl)
 
--- If it is not, the first stays.
+-- If the stripe to remove is not the first of the list, the first stays.
 pub removed_other : (k x : ℕ) (ks : List ℕ) → x ≢ k → removed k (x ∷ ks) ≡ x ∷ removed k ks
 removed_other k x ks ne = ap (λ b. cond b ks (x ∷ removed k ks)) (ne_eqb x k ne)
 

@@ -193,7 +193,7 @@ rises-sorted (pair ∷ rest) sorted =
     let parts = pair_parts (below_all split_cmp pair.0 rest) (is_sorted split_cmp rest) sorted in
     (above_sorted pair.0 rest parts.0, rises-sorted rest parts.1)
 
--- A pair is one of a list.
+-- The pair is in the list.
 abbrev pub IsAmong : ℕ × ℕ → List (ℕ × ℕ) → Type 0
 IsAmong pair [] = ⊥
 IsAmong pair (other ∷ rest) = (other ≡ pair) ⊎ IsAmong pair rest
@@ -230,8 +230,8 @@ value_at-among k v (other ∷ rest) sorted among =
           ∙ value_at-among k v rest parts.1 later
     ]
 
--- A list that rises strictly by sort keys, and has exactly the map's pairs, is the list of its
--- ordered pairs.
+-- A list that rises strictly by sort keys, and has exactly the map's pairs, is the list of the
+-- map's ordered pairs.
 pub ordered_of_pairs : (m : Map) (es : List (ℕ × ℕ)) → Rises es → ((k v : ℕ) → IsAmong (k, v) es → get m k ≡ Some v) → ((k v : ℕ) → get m k ≡ Some v → IsAmong (k, v) es) → es ≡ ordered m
 ordered_of_pairs m es rises within all = ordered_rising m es rises (λ k. from k (value_at k es) refl)
   where

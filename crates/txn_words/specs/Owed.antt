@@ -43,7 +43,8 @@ abbrev pub owed : ℕ → List Entry → ℕ
 owed callers h = sum_by (λ c. owed_by (seat_after (own c h))) (range_with_len 0 callers)
 
 -- The room that a step reserves in the history before it does anything: for its entry, and for the
--- further entries that its caller owes after it. The entries of all other steps are owed already.
+-- further entries that its caller owes after it. A step that reserves no room adds only entries
+-- that are owed already.
 abbrev pub reserved : Step → ℕ
 reserved (Begin c) = 3
 reserved (Ask c op) = 1 + owed_for op

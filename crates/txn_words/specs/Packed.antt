@@ -50,7 +50,7 @@ packed_entry kinds.Committed op c n v e x = entries.Committed c n
 packed_entry kinds.Busy op c n v e x = entries.Busy c (packed_op op n v e) x
 packed_entry kinds.Aborted op c n v e x = entries.Aborted c
 
--- The holder of packed fields of this kind, or 0 if the kind names none.
+-- The given holder, or 0 if an entry of this kind names no holder.
 abbrev pub holder_part : Kind → ℕ → ℕ
 holder_part kinds.Busy x = x
 holder_part kind x = 0

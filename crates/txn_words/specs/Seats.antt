@@ -1,4 +1,4 @@
--- The refusals of a step that its caller's seat decides, in the order of their tests.
+-- The refusals of a step by its caller's seat, in the order of their tests.
 use Rattle.std.specs.Prelude.{Bool, true, false, not, ◌||◌, nat_lt, nat_le, slice_index, length, List, [], ◌∷◌, ◌++◌, Option, Some, None, if◌then◌else◌}
 use Rattle.txn_words.specs.declared.entry.Entry.{Entry}
 use Rattle.txn_words.specs.declared.entry.Entry.TheVariants.{Saved}
@@ -43,8 +43,8 @@ unready_tests phase =
     (is_closed phase, NotOpen) ∷ (is_leaving phase, Leaving)
     ∷ (is_waiting phase, OperationUnfinished) ∷ []
 
--- The tests of a step that the caller's seat decides, each with its refusal, in their order. The
--- first argument says whether only half keys are taken.
+-- The tests of a step by its caller's seat, in order, each with the refusal that is answered if the
+-- test holds. The first argument says whether only half keys are taken.
 abbrev pub tests_in : Bool → Seat → Step → List (Bool × Refusal)
 tests_in half seat (Begin c) =
     (is_leaving seat.phase, Leaving) ∷ (not (is_closed seat.phase), AlreadyOpen) ∷ []
@@ -68,7 +68,7 @@ abbrev pub first_of : List (Bool × Refusal) → Option Refusal
 first_of [] = None
 first_of (test ∷ tests) = if test.0 then Some test.1 else first_of tests
 
--- The refusal of a step that its caller's seat decides, if one of its tests holds.
+-- The refusal of a step by its caller's seat, if one of the step's tests holds.
 abbrev pub refusal_in : Bool → Seat → Step → Option Refusal
 refusal_in half seat step = first_of (tests_in half seat step)
 

@@ -79,7 +79,7 @@ own c h = filter (λ e. caller_of e == c) h
 abbrev pub how_many : (Entry → Bool) → List Entry → ℕ
 how_many test h = length (filter test h)
 
--- Transactions and commits are numbered from 1.
+-- Whether an entry after g has the right number: transactions and commits are numbered from 1.
 abbrev pub is_numbered : List Entry → Entry → Bool
 is_numbered g (Began c t) = t == how_many is_began g + 1
 is_numbered g (Committed c p) = p == how_many is_commit g + 1

@@ -1,6 +1,6 @@
 //! The actions of scripts. An action is a whole call, which may take many steps, so it is a type
-//! apart from `Step`. None begins or commits: a worker begins a transaction before the first action
-//! of a script and commits after the last.
+//! apart from `Step`. No action begins or commits a transaction: a worker begins one before the
+//! first action of a script, and commits it after the last action.
 
 use crate::op::Op;
 

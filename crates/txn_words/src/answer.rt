@@ -1,6 +1,6 @@
-//! The answers to steps, and the text of an answer as a report prints it. One type answers callers,
-//! helpers and the table, and only the step says who took it: so a step and its answer together
-//! determine the history's entry of the step, and neither does by itself.
+//! The answers to steps, and the text of an answer as a report prints it. The steps of callers, of
+//! helpers and of the table share this type, and an answer does not say who took the step. So the
+//! history's entry of a step is determined by the step and its answer together, not by one of them.
 ghost use Rattle.std.specs.Prelude.{◌≡◌, ◌++◌, IfOk, string_bytes};
 ghost use Rattle.txn_words.specs.Text.{rest_text, text_of};
 
@@ -48,7 +48,7 @@ pub enum Answer {
     Linked,
     /// The bucket is initialised.
     Stored,
-    /// The size is this one, not the one named.
+    /// The table's size is this number, not the size that the step named.
     Moved(u64),
     /// The size is the largest one allowed.
     AtLimit,

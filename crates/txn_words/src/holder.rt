@@ -6,10 +6,11 @@
 /// stripe of the operation now, or at least has begun a transaction before.
 #[derive(Clone, Copy, Debug, PartialEq, Eq)]
 pub enum Holder {
-    /// One whose open transaction has asked for a key of the stripe. Use it if the entry is
-    /// recorded at the same moment as the stripe is tested.
+    /// A caller whose open transaction has asked for a key of the stripe. Use this rule if the
+    /// entry is recorded at the same moment as the stripe is tested.
     Now,
-    /// One that has begun a transaction before, open or ended. Use it if the stripe is tested first
-    /// and the entry recorded later, since the holder may have ended in between.
+    /// A caller that has begun a transaction before, open or ended. Use this rule if the stripe is
+    /// tested first and the entry recorded later, since the holder's transaction may have ended in
+    /// between.
     Begun,
 }

@@ -1,6 +1,7 @@
 //! The operations on one key; each replies the value that the key had before. Actions, steps and
-//! entries all carry one, so its rules are here: whether it may change the key, whether it did, and
-//! how many entries are owed for it. They need the operation and its reply, and no map.
+//! entries all carry an operation, so the rules of operations are here: whether an operation may
+//! change the key, whether it did, and how many entries are owed for it. These rules need the
+//! operation and its reply, and no map.
 ghost use Rattle.std.specs.Prelude.{◌≡◌};
 ghost use Rattle.txn_words.specs.Map.{key_of};
 ghost use Rattle.txn_words.specs.Shape.{changes};

@@ -1,6 +1,6 @@
 //! An action in 32 bytes instead of 48; the size is proved. A script keeps its actions in this
-//! form, and a worker unpacks the one that is next, in constant time. The model is the action, so a
-//! contract reads a list of packed actions as one of actions.
+//! form, and a worker unpacks the next action in constant time. The model is the action, so a
+//! contract reads a list of packed actions as a list of actions.
 ghost use Rattle.std.specs.Prelude.{◌≡◌};
 ghost use Rattle.txn_words.specs.Packed.{packed_op, packed_action};
 

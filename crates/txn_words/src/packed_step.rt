@@ -1,6 +1,6 @@
 //! A step in 40 bytes instead of 56; the size is proved. A step file may have a million of them, so
 //! its reader packs each as soon as it is read. The model is the step, so a contract reads a list
-//! of packed steps as one of steps, and packing loses nothing.
+//! of packed steps as a list of steps, and packing loses nothing.
 ghost use Rattle.std.specs.Prelude.{◌≡◌};
 ghost use Rattle.txn_words.specs.Packed.{packed_op, packed_step};
 

@@ -1,6 +1,6 @@
 //! Room in a list of small entries. It is a separate module, since two lists take room in this way
-//! before a run: a core's history, and the entries of it that a caller has seen. Invariant: the
-//! entries of the list are the same before and after, whether its room is written or not.
+//! before a run: a core's history, and the list of the history's entries that a caller has seen.
+//! Invariant: the entries of the list stay the same, whether the list's room is written or not.
 ghost use Rattle.std.specs.Prelude.{◌≡◌, ◌+◌, ◌≤◌, ◌<◌, OnErr, OnOk, vec_capacity, vec_len};
 
 use crate::entry::Entry;

@@ -33,7 +33,7 @@ impl Script {
         Self { actions }
     }
 
-    /// The script of these actions, which it packs.
+    /// Packs these actions, and answers their script.
     ///
     /// # Errors
     ///

@@ -118,8 +118,8 @@ impl Seat {
         matches!(self.phase, Phase::Waiting(_)) || self.has_job()
     }
 
-    /// The refusal of a step of its caller, if the seat decides it. The limits say which keys are
-    /// taken.
+    /// The refusal of a step of the seat's caller, if the seat refuses the step. The limits say
+    /// whether only half keys are taken.
     #[inline(always)]
     pub fn refusal(&self, limits: Limits, step: Step) -> Option<Refusal>
         ensures { result ≡ refusal_in limits.half self.now.seat step }
@@ -182,8 +182,8 @@ impl Seat {
 
     /// The number of entries that its caller may add without a new reservation: the reply to an
     /// operation that waits, and its undoing if it may change the map; the `Returned` of a return
-    /// to a level; and those of an abort, which are a `Leave` unless it has begun, an `Undone` for
-    /// each change that stands, and `Aborted`.
+    /// to a level; and the entries of an abort, which are a `Leave` unless the abort has begun, an
+    /// `Undone` for each change that stands, and `Aborted`.
     #[inline(always)]
     pub fn owed(&self) -> u64
         requires { owed_in self.now.seat.standing self.now.seat.phase < 2 ^ 64 }

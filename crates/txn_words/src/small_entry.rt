@@ -1,6 +1,7 @@
-//! An entry of a history in 32 bytes, half of an `Entry`, if its callers are below 65,536, as those
-//! of every map are. Its model is the entry, so a contract reads a list of small entries as a
-//! history; `Unpacked` goes through such a list. All calls take constant time and no memory.
+//! An entry of a history in 32 bytes, half of an `Entry`. The caller, and the holder that the entry
+//! names, must be below 65,536; the callers of every map are. The model is the entry, so a contract
+//! reads a list of small entries as a history; `Unpacked` goes through such a list. All calls take
+//! constant time and no memory.
 ghost use Rattle.std.specs.Prelude.{◌≡◌, ◌↔◌, true, IsTrue};
 ghost use Rattle.txn_words.specs.Kinds.{caller_of};
 ghost use Rattle.txn_words.specs.Packed.{holder_part, packed_entry, small_entry};
@@ -119,7 +120,7 @@ impl SmallEntry {
     }
 }
 
-/// The holder of packed fields of this kind, or 0 if the kind names none.
+/// The given holder, or 0 if an entry of this kind names no holder.
 fn holder_part(kind: Kind, holder: u64) -> u64
     ensures { result ≡ holder_part kind holder }
 {

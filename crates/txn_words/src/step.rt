@@ -71,8 +71,9 @@ pub enum Step {
     /// Refused, in this order: `NoSuchHelper`, `HelperOutOfOrder`; then, if no bucket of the
     /// bucket's segment of 64 is stored, `NoMemory`: the helper keeps its dummy.
     InitStore(u64),
-    /// Doubles the size, if it is still the one named, is not the largest one allowed, and there
-    /// are more than twice as many keys as buckets.
+    /// Doubles the table's size if three conditions hold: the size is still the one that the step
+    /// names, it is below the largest size allowed, and there are more than twice as many keys as
+    /// buckets.
     ///
     /// Never refused.
     Double(u64),

@@ -18,7 +18,7 @@ module _ {J : Type 0} where
   jobs_in-push (None ∷ rest) job = jobs_in-push rest job
   jobs_in-push (Some first ∷ rest) job = ap (λ jobs. first ∷ jobs) (jobs_in-push rest job)
 
-  -- After one more job, no place is without its job.
+  -- If one more place with a job is added, each place still has its job.
   pub AreThere-push : (places : List (Option J)) (job : J) → AreThere places → AreThere (places ++ Some job ∷ [])
   AreThere-push [] job there = tt
   AreThere-push (None ∷ rest) job there = absurd there

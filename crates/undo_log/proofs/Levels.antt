@@ -22,14 +22,14 @@ IsRising-take low ks high zero there rising = omega arith
 IsRising-take low [] high (suc n) there rising = absurd (omega (arith, there))
 IsRising-take low (k ∷ ks) high (suc n) there rising = (rising.0, IsRising-take k ks high n (omega (arith, there)) rising.1)
 
--- No number is above the highest.
+-- No number is above the bound.
 rising_within : (low : ℕ) (ks : List ℕ) (high n : ℕ) → n ≤ length ks → IsRising low ks high → get_or (low ∷ ks) n 0 ≤ high
 rising_within low [] high zero there rising = rising
 rising_within low [] high (suc n) there rising = absurd (omega (arith, there))
 rising_within low (k ∷ ks) high zero there rising = omega (arith, rising.0, rising_within k ks high 0 (omega arith) rising.1)
 rising_within low (k ∷ ks) high (suc n) there rising = rising_within k ks high n (omega (arith, there)) rising.1
 
--- Functions that agree up to the highest of the numbers map them alike.
+-- Functions that agree up to the bound map the numbers alike.
 map_rising : {A : Type 0} (f g : ℕ → A) (low : ℕ) (ks : List ℕ) (high : ℕ) → IsRising low ks high → ((n : ℕ) → n ≤ high → f n ≡ g n) → map f (low ∷ ks) ≡ map g (low ∷ ks)
 map_rising f g low [] high rising same = ap (λ y. y ∷ []) (same low rising)
 map_rising f g low (k ∷ ks) high rising same =
@@ -43,8 +43,8 @@ module _ {J : Type 0} (before after : J → List ℕ) where
   words_at_end now (job ∷ jobs) zero past = absurd (omega (arith, past))
   words_at_end now (job ∷ jobs) (suc k) past = words_at_end now jobs k (omega (arith, past))
 
-  -- If the newest job is not left, the words are those that the other jobs give with the words
-  -- before the newest job as the current words.
+  -- If the newest job is removed, and the words before it become the current words, the words with
+  -- only the first k of the other jobs left do not change.
   words_at-push : (now : List ℕ) (jobs : List J) (job : J) (k : ℕ) → k ≤ length jobs → words_at before now (jobs ++ job ∷ []) k ≡ words_at before (before job) jobs k
   words_at-push now [] job zero within = refl
   words_at-push now [] job (suc k) within = absurd (omega (arith, within))

@@ -4,10 +4,10 @@
 //! run.
 /// The inverse of one change, which is run at most once.
 ///
-/// Its law is the contract of `run`. The world that `run` takes shows what the job names as the
-/// state after the change, and the world that it answers shows what the job names as the state
-/// before it. `takes_back` says what differs between the two, and that nothing else does. A job
-/// that is no longer needed is dropped.
+/// Its law is the contract of `run`. A job names the state after its change and the state before
+/// it. `run` takes a world that shows the state after the change, and answers a world that shows
+/// the state before it. `takes_back` says how the two worlds differ, and that nothing else differs.
+/// A job that is no longer needed is dropped.
 pub trait UndoJob: Drop {
     /// The world that was changed, such as a table of nodes.
     type World;

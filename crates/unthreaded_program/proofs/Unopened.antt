@@ -1,4 +1,4 @@
--- The faults of a call whose words or whose file cannot be had.
+-- The faults if the words of a call cannot be read or are no call, or its file cannot be opened.
 use Rattle.std.proofs.Common.{◌≡◌, ◌⊎◌, inl, inr, ℕ, List, Option, Some, None, ap, subst, true}
 use Rattle.std.specs.Prelude.{IfSome, is_some}
 use Rattle.std.specs.declared.io.ErrorKind.{ErrorKind}
@@ -10,7 +10,8 @@ use Rattle.command_line.specs.declared.no_call.NoCall.TheVariants as reasons
 use Rattle.command_line.specs.Words.{asked, asked_of}
 use Rattle.unthreaded_program.specs.Opening.{IsUnopened, memory_or, of_words}
 
--- A statement about the words holds of the words that are known.
+-- If the words are known, a statement that holds of the words that were read holds of the known
+-- words.
 pub of_known : (spoken : Option (List (List ℕ))) (words : List (List ℕ)) (P : List (List ℕ) → Type 0) → IfSome spoken (λ known. words ≡ known) → P words → IfSome spoken P
 of_known None words P same holds = tt
 of_known (Some known) words P same holds = subst P same holds

@@ -13,8 +13,8 @@ use program_host::System;
 use std::alloc::Global;
 use std::io::{Read, Write};
 
-/// Runs the engine of a command on its open file. Answers whether all is well: it is unless a
-/// history is illegal.
+/// Runs the engine of a command on its open file. Answers `false` if the command judges a history
+/// and the history is illegal, else `true`.
 ///
 /// # Errors
 ///

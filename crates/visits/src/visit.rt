@@ -1,6 +1,7 @@
 //! Visits of one map, each in its own thread: a visitor puts a value at a key and gets the key, in
-//! one transaction. `Visit` is the work of a thread, and promises what its transaction has seen.
-//! What `visit_all` ensures of the history of the map follows from these promises.
+//! one transaction. `Visit` is the work of a thread. It promises that, if it got a reply, the last
+//! entries that its caller has seen are those of the visit. What `visit_all` ensures of the history
+//! of the map follows from these promises.
 ghost use Rattle.std.specs.Prelude.{◌≡◌, ◌⊎◌, IfOk, IfErr, length};
 ghost use Rattle.shared_transactions.specs.Keeps.{Keeps};
 ghost use Rattle.txn_words.specs.declared.refusal.Refusal.{Refusal};
@@ -43,7 +44,8 @@ impl Visit {
         t.get(self.key)
     }
 
-    /// The visit in a transaction, begun again as long as another visitor holds the key's stripe.
+    /// Makes the visit in a transaction, and begins again as long as another visitor holds the
+    /// key's stripe.
     ///
     /// # Errors
     ///

@@ -28,8 +28,8 @@ static KEYS: [u64; 5] = [
     18_446_744_073_709_551_615,
 ];
 
-/// Each operation on a key that is not there, with the least and the greatest value, and its reply;
-/// the last one takes the key out again.
+/// Each operation on a key that is not there, with its reply. The operations put the least and the
+/// greatest value, and the last operation takes the key out again.
 fn operations_at(key: u64) -> [(Op, Option<u64>); 9] {
     [
         (Op::Get(key), None),

@@ -64,7 +64,8 @@ struct Compared {
 }
 
 /// Takes a step of a caller. If the caller's position no longer fits, the caller seeks again at
-/// once. That may be needed only if the last step, by caller `last`, was the other caller's.
+/// once. The position must still fit if the last step was taken by the same caller: `last` is the
+/// caller that took it.
 fn take_anew(
     rt: &impl Abort,
     core: &mut Core,

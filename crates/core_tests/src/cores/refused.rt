@@ -1,7 +1,7 @@
-//! Tests of the state of a core after memory was refused. They are also run with each allocation
-//! refused in turn, and with all allocations refused from each of them on. The runs of `cores` fail
-//! if memory is refused; these tests go on. They compare numbers, which take no memory to read, and
-//! also the pairs if there is memory for their lists.
+//! Tests of the state of a core after memory was refused. They are also run with memory refused:
+//! each such run refuses one allocation, or one allocation and all after it. The runs of `cores`
+//! fail if memory is refused; these tests go on. They compare numbers, which take no memory to
+//! read, and also the pairs if there is memory for their lists.
 use crate::devices::{
     abort, core_if_made, limits_of, owed_by, pairs_of, sizes_of, step_is, take_step, trace_of,
 };
@@ -137,7 +137,8 @@ fn has_five(rt: &impl Abort, alloc: Global, core: &Core, value: u64) {
     }
 }
 
-/// Each caller takes back its newest change, after which each key has this value.
+/// Each caller takes back its newest change. Then each key has the value `left`, or no key is left
+/// if `left` is `None`.
 fn undo_five(
     rt: &impl Abort,
     alloc: Global,
@@ -186,8 +187,8 @@ fn change_and_undo_five(rt: &impl Abort, alloc: Global, core: &mut Core) -> Resu
     end_five(rt, core)
 }
 
-/// Aborts the callers below a number, which need not have begun, and checks that nothing is left.
-/// Needs no memory.
+/// Each caller below `callers` aborts, if it has a transaction. Checks that no keys and no owed
+/// entries are left. Needs no memory.
 fn abort_all(rt: &impl Abort, core: &mut Core, callers: u64) {
     for caller in 0..callers {
         let answer = abort(core, caller);
@@ -204,8 +205,8 @@ fn play_five(rt: &impl Abort, alloc: Global, core: &mut Core) -> Result<(), Fail
     Ok(())
 }
 
-/// If memory is refused every caller aborts, which needs none. Without a core there is nothing to
-/// show.
+/// If memory is refused, every caller aborts, since an abort needs no memory. If no core can be
+/// made, nothing is tested.
 #[test]
 fn five_callers_undone(rt: HostRuntime) -> Result<(), Fail> {
     match core_if_made(rt.alloc(), limits_of(&rt, 5, 8, 8)) {

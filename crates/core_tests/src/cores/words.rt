@@ -145,7 +145,7 @@ fn play(rt: &impl Abort, alloc: Global, core: &mut Core) -> Result<(), Fail> {
     Ok(())
 }
 
-/// A core has stripes that are not words, unless it is made with words.
+/// Checks that the stripes of a core made by `Core::new` are not words.
 fn is_ordinary(rt: &impl Abort, alloc: Global) {
     assert!(rt; !has_words(&core_of(rt, alloc, 3)));
 }

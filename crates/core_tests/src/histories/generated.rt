@@ -132,9 +132,9 @@ fn next_in_open(
     }
 }
 
-/// The entry for an operation in an open transaction: a Busy if another caller holds the stripe,
-/// else an Asked. If the stripe was tested early, any other caller that has begun counts as its
-/// holder.
+/// The entry for an operation in an open transaction: a Busy if another caller holds the stripe, or
+/// else an Asked. If `is_early`, the stripe was tested before the entry is recorded, so any other
+/// caller that has begun counts as its holder.
 fn next_operation(history: &[Entry], caller: u64, op: Op, stripes: u64, is_early: bool) -> Entry {
     let stripe = plain::stripe_of(op, stripes);
     for other in CALLERS {

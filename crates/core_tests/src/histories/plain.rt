@@ -85,8 +85,8 @@ fn is_change_done(asked: Option<Op>, reply: Reply) -> bool {
     }
 }
 
-/// The numbers of changes at each level: none at level 0, then those at each savepoint that is
-/// left.
+/// The number of standing changes at each level: 0 at level 0, then, for each savepoint that still
+/// exists, the number when it was set.
 pub(super) fn standing_at_levels(
     alloc: Global,
     entries: &[Entry],

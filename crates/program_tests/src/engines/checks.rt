@@ -229,7 +229,8 @@ pub const FILES: &[Files] = &[
         status: 3,
     },
     // `holder_has_begun` of `crates/txn_trace/proofs/HolderCases.antt`: a Busy that names a caller
-    // which holds nothing now. The version says whether it may.
+    // which holds nothing now. Only version 3 allows this, and only if that caller has begun a
+    // transaction before.
     Files {
         command: Command::Check,
         frame: IN_VERSION,

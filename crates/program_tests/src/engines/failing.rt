@@ -105,8 +105,8 @@ fn is_among(known: &[&str], text: &str) -> bool {
     known.iter().any(|one| *one == text)
 }
 
-/// Checks that one of these texts is printed, or that nothing is printed because memory was refused
-/// or, for `run`, a thread.
+/// Checks that one of these texts is printed, or that nothing is printed and the fault is that
+/// there was no memory or, for `run`, no thread.
 fn refuse_memory<T: Abort + Threads + Wait + Sync>(
     rt: &T,
     alloc: Global,

@@ -11,9 +11,9 @@ use std::process::Abort;
 use std::test::Fail;
 
 /// Each row has a number of puts, and the least and the greatest `digits` for `key`. In the first
-/// row the last entry ends within 10 bytes of the border of a piece, so the end of the line is
-/// before the border or behind it. In the second row the border is at each byte of an entry in
-/// turn.
+/// row the last entry ends at most 10 bytes before or behind the place at which a piece is full, so
+/// the end of the line is in the same piece or in the next one. In the second row this place is at
+/// each byte of an entry in turn.
 const LENGTHS: [(u64, u32, u32); 2] = [(1916, 36, 56), (1930, 0, 36)];
 
 /// The number of puts whose history fills two pieces and a part.
@@ -85,7 +85,7 @@ fn script_file(alloc: Global, puts: u64, digits: u32) -> Result<String, AllocErr
     Ok(text)
 }
 
-/// The line that `mix` prints of that file.
+/// The line that `mix` prints for the file that `script_file` makes.
 fn history_line(alloc: Global, puts: u64, digits: u32) -> Result<String, AllocError> {
     let mut text = String::new(alloc);
     text.push_str("{\"entries\":[[\"began\",0,1],[\"asked\",0,\"put\",0,1],[\"did\",0,null]")?;

@@ -1,6 +1,7 @@
-//! Script files with the output of `mix` for each. One worker has one history whatever the seed,
-//! which was worked out by hand. With three workers, each of 200 seeds must give one legal history
-//! in two runs. It must not be empty, though the contract allows that for lack of memory.
+//! Script files with the output of `mix` for each. With one worker every seed gives the same
+//! history, which was worked out by hand. With three workers, each of 200 seeds must give the same
+//! legal history in two runs. The history must not be empty, though the contract allows that for
+//! lack of memory.
 
 use super::{Command, Files, compare_file, run_on};
 use crate::devices::Narrow;
@@ -43,7 +44,8 @@ pub const WORKERS_OF: &str =
 
 /// Script files, and the output for each.
 pub const FILES: &[Files] = &[
-    // Version 2 has a key of 2^63 and an action `put_if`: its history is of version 2.
+    // A script file of version 2 may have the key 2^63 and the action `put_if`. Its history is of
+    // version 2 too.
     Files {
         command: Command::Mix(7),
         frame: "#",

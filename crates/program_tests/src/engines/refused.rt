@@ -1,9 +1,9 @@
-//! Callers of a core that is refused memory: in one test five take their changes back in turn, in
-//! the other a caller acts at its cursor after another's refused step. The tests call the core and
-//! not an engine, since an engine does not show the core between its steps. The first compares the
-//! core with what a table of entries gives: the entries, the numbers of buckets, keys and owed
-//! entries, the pairs and, after the changes, the holders of stripes. Then the checker judges the
-//! history.
+//! Callers of a core that is refused memory. In one test five callers take their changes back in
+//! turn. In the other a caller acts at its cursor after another caller's step was refused memory.
+//! The tests call the core and not an engine, since an engine does not show the core between its
+//! steps. The first test compares the core with what a table of entries gives: the entries, the
+//! numbers of buckets, keys and owed entries, the pairs and, after the changes, the holders of
+//! stripes. Then the checker judges the history.
 
 use boost_core::Core;
 use history_check::{Verdict, check};
@@ -351,8 +351,8 @@ fn compare_map(rt: &impl Abort, alloc: Global, core: &Core, entries: &[Entry]) {
     }
 }
 
-/// The answer to the onlooker when it asks for a key, after which it aborts; `None` if memory is
-/// refused.
+/// The onlooker begins, asks for a key, and aborts. Answers the core's answer to the ask, or `None`
+/// if memory is refused.
 fn seen_of(rt: &impl Abort, core: &mut Core, key: u64) -> Option<Answer> {
     let began = answer_if_given(rt, core, Step::Begin(ONLOOKER))?;
     assert!(rt; matches!(began, Answer::Began(_)));
@@ -462,7 +462,7 @@ fn judge(rt: &impl Abort, alloc: Global, core: &Core) {
     assert!(rt; is_refused(alloc));
 }
 
-/// Plays the changes, and takes back all that were not refused memory.
+/// Plays the changes until one is refused memory, and takes back those that were made.
 fn play_all(rt: &impl Abort, alloc: Global, core: &mut Core) {
     let count = play(rt, alloc, core, &CHANGES, 0);
     compare(rt, alloc, core, first_entries(count), true);
@@ -476,7 +476,7 @@ fn play_all(rt: &impl Abort, alloc: Global, core: &mut Core) {
     judge(rt, alloc, core);
 }
 
-/// A caller begins, asks for an operation and seeks; `None` if memory is refused.
+/// A caller begins, asks for an operation, and seeks. Answers `None` if memory is refused.
 fn placed_if_given(rt: &impl Abort, core: &mut Core, caller: u64, op: Op) -> Option<Answer> {
     let began = answer_if_given(rt, core, Step::Begin(caller))?;
     assert!(rt; matches!(began, Answer::Began(_)));

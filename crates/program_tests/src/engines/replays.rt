@@ -18,12 +18,13 @@ pub const FIRST_COMMIT: &str =
     "{\"version\":1,\"callers\":2,\"stripes\":8,\"buckets\":8,\"steps\":[[\"begin\",0],[\"ask\",0,\
     \"put\",1,10],[\"seek\",0],[\"act\",0],[\"commit\",0]]}";
 
-/// The transaction in a file of some callers, with a gap for a step before the last.
+/// The file `FIRST_COMMIT` with gaps for the number of callers and for a step before the last.
 const FIRST_COMMIT_OF: &str =
     "{\"version\":1,\"callers\":@,\"stripes\":8,\"buckets\":8,\"steps\":[[\"begin\",0],[\"ask\",0,\
     \"put\",1,10],[\"seek\",0],[\"act\",0],#[\"commit\",0]]}";
 
-/// The transaction with gaps for the members before the others, and for a step behind the first.
+/// The file `FIRST_COMMIT` with gaps for the members before `stripes`, and for a step behind the
+/// first.
 const MEMBERS_OF: &str =
     "{#,\"stripes\":8,\"buckets\":8,\"steps\":[[\"begin\",0],@[\"ask\",0,\"put\",1,10],\
     [\"seek\",0],[\"act\",0],[\"commit\",0]]}";

@@ -19,7 +19,7 @@ pub const NO_ENTRIES: &str = "{\"entries\":[],\"stripes\":8,\"version\":3}\n";
 
 /// Script files, and the output for each.
 pub const FILES: &[Files] = &[
-    // One worker does what it does when turns are mixed; the history is of version 3.
+    // The history of one worker is the one that `mix` prints, but of version 3.
     Files {
         command: Command::Run,
         frame: ONE_WORKER,

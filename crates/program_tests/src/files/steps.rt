@@ -349,7 +349,8 @@ null
         fillings: "",
         fault: Some(FileFault::NotJson),
     },
-    // Steps that are a `put_if` in no version; then a good `put_if`, which version 1 does not have.
+    // Wrong forms of `put_if`, which no version has; then a good `put_if`, which version 1 does not
+    // have.
     Files {
         kind: Kind::Steps,
         frame: STEPS_IN_VERSION,

@@ -81,7 +81,8 @@ enum Answer {
     Done,
     Reply(Reply),
     Withdrawn(Op, u64),
-    /// Whether the cursor no longer fitted; the replies to the put of key 4, the read and the put.
+    /// Whether the cursor of the first put no longer fitted; the replies to the put of key 4, to
+    /// the read and to the first put.
     Late(bool, Reply, Reply, Reply),
     /// The reply to a take, and the effect of its job.
     Taken(Reply, Inverse),

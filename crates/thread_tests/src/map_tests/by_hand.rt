@@ -84,8 +84,8 @@ fn take_turns<L: Ledger, R: Abort>(
     Ok(())
 }
 
-/// Keys 1 and 9 have the same stripe. Caller 0 finds its word free, and caller 1 finds caller 0
-/// there.
+/// Keys 1 and 9 have the same stripe. Caller 0 finds the stripe's word free, and caller 1 finds
+/// that the word names caller 0.
 struct ByTurns;
 
 impl Play for ByTurns {

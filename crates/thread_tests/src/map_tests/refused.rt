@@ -1,6 +1,6 @@
-//! The state after calls that are refused memory, by `docs/tests/refused.sh`. Without it, the tests
-//! are plain worked runs, whose ends were worked out by hand. No contract says that a refused call
-//! leaves its caller unchanged, or that a call is given memory while there is some.
+//! The state after calls that are refused memory, by `docs/tests/refused.sh`. Without that script,
+//! the tests are plain worked runs, whose ends were worked out by hand. No contract says that a
+//! refused call leaves its caller unchanged, or that a call is given memory while there is some.
 use crate::devices::{
     Play, Shared, callers_of, closed_of, has_left, is_refused, play_where_made, run, seen_by,
 };
@@ -16,8 +16,8 @@ use txn_words::{Answer, Op, Refusal};
 /// A call of the caller at a position, and its end if there is memory.
 type Wanted = (usize, Call, End);
 
-/// Makes a call, once more if it is refused memory, and answers its end. If it is refused memory,
-/// `seen` is unchanged.
+/// Makes a call, and makes it once more if it is refused memory. Answers the end of the last try. A
+/// try that is refused memory does not change the number of entries that the caller has seen.
 fn end_of<L: Ledger, R: Wait + Abort>(
     rt: &R,
     shared: &Shared<L>,

@@ -43,8 +43,8 @@ pub(super) fn play_row<L: Ledger, R: Wait + Abort>(
     assert_eq!(rt; told, wanted, "caller {}: {call:?}", number_of(me));
 }
 
-/// Tries to close a map without caller 0, which is missing: map and caller 1 are returned. Then
-/// closes it with both.
+/// Tries to close a map with only caller 1. Since caller 0 is missing, the map and caller 1 are
+/// returned. Then closes the map with both callers.
 fn close_missing_caller<L: Ledger, R: Abort>(
     rt: &R,
     alloc: Global,

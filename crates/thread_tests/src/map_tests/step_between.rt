@@ -1,6 +1,6 @@
-//! Another caller's calls between two turns of one call: no lock is held over a whole call. No
-//! contract says so. An observer of releases makes the other caller's calls on the same thread, so
-//! each run has one history, which was worked out by hand.
+//! Between two turns of one caller's call, another caller makes calls. This shows that no lock is
+//! held over a whole call, which no contract says. An observer of releases makes the other caller's
+//! calls on the same thread, so each run has one history, which was worked out by hand.
 use super::rows::play_row;
 use crate::devices::{Play, Shared, Told, callers_in, closed_of, is_history, play_with, run_heard};
 use boost_core::{Call, End};

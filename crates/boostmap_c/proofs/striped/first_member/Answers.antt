@@ -9,7 +9,7 @@ use Rattle.boostmap_c.specs.Members.{IsFirst}
 use Rattle.boostmap_c.specs.declared.member.Member.{Member}
 use Rattle.boostmap_c.proofs.striped.first_member.Goals as goal
 
--- A member is the first of its map if its caller is the map's last, and the callers before that one
+-- A member is the first of its map if its caller is the map's last caller, and all other callers
 -- wait in the member.
 first_of : (map : StripedMap) (callers stripes : ℕ) (before : List Caller) (last : Caller) → length before + 1 ≡ callers
     → ((place : ℕ) → place < callers → HoldsAt (IsNew map stripes (place + 1)) (before ++ last ∷ []) place)

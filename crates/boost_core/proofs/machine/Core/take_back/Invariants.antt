@@ -2,8 +2,8 @@ use Rattle.std.proofs.Common.{◌≡◌, ℕ, List}
 use Rattle.boost_core.proofs.Vocabulary.{Step, Answer, State, seat_in, Moves, undoing, undone}
 use Rattle.boost_core.proofs.machine.Core.take_back.Given as goal
 
--- Some changes have been taken back. Steps from here on, put after the steps that took them back,
--- are steps from the state before the loop.
+-- Some changes have been taken back. The steps that took them back, followed by any steps from here
+-- on, are steps from the state before the loop.
 abbrev pub invariant-loop-self : goal.invariant-loop-self
 invariant-loop-self l = record {
   changes : ℕ;

@@ -1,4 +1,4 @@
--- `erase` keeps the block, behind a pointer to no type.
+-- `erase` keeps the block, and returns an untyped pointer to it.
 use Rattle.std.proofs.Common.{◌≡◌, List, [], ◌∷◌, ◌++◌, refl, sym, subst}
 use Rattle.std.specs.Prelude.{Some}
 use Rattle.std.specs.Global.{Global}

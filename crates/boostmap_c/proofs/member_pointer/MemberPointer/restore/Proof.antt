@@ -1,4 +1,4 @@
--- `restore` gives the block back, behind a pointer to its type.
+-- `restore` keeps the block, and returns a typed pointer to it.
 use Rattle.std.proofs.Common.{◌≡◌, List, [], ◌∷◌, ◌++◌, refl, sym, ap, ◌∙◌, subst}
 use Rattle.std.specs.Prelude.{Option, Some, IsSome}
 use Rattle.std.specs.contracts.impls.GlobalAllocator.TheImpl.{ghosts}

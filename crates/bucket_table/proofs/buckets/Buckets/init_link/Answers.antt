@@ -7,7 +7,7 @@ use Rattle.bucket_table.specs.Helpers.{seeking_of}
 use Rattle.bucket_table.proofs.DirectoryLemmas.{helper_found}
 use Rattle.bucket_table.proofs.buckets.Buckets.init_link.Goals as goal
 
--- The bucket of a helper that has a cursor may be stored.
+-- If a helper has a cursor for a bucket, the bucket is ready to be stored (`IsReady`).
 seeking_ready : (d : Directory) (helper : Helper) (bucket : ℕ) (cursor : Cursor) → IsInOrder d helper → seeking_of helper ≡ Ok (bucket, cursor) → IsReady d bucket
 seeking_ready d Idle bucket cursor order is = absurd (cc is)
 seeking_ready d (Seeking own noted) bucket cursor order is = let P : ℕ → Type 0 = IsReady d in let pair : ◌≡◌ {A = ℕ × Cursor} (own, noted) (bucket, cursor) = cc is in subst P (ap (λ (p : ℕ × Cursor). p.0) pair) order

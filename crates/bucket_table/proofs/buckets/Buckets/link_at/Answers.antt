@@ -35,13 +35,13 @@ link_dummy-requires c =
 pub set_helper-requires-in-Ok-None-clause-there : goal.set_helper-requires-in-Ok-None-clause-there
 set_helper-requires-in-Ok-None-clause-there c = slice_get_within _ _ _ c.requires.had
 
--- The dummy that was there.
+-- If the cursor of a bucket's dummy finds a node, the node is that dummy.
 there : (l : Listing) (cursor : Cursor) (bucket dummy : ℕ) (found : Option ℕ) → bucket < 2 ^ 32 → IsKeyed l.nodes → at_of cursor ≡ dummy_at bucket → found ≡ Some dummy → Finds l cursor found → IsDummyAt l.nodes dummy bucket
 there l cursor bucket dummy found fits keyed sought is finds =
     let P : Option ℕ → Type 0 = Finds l cursor in
     there_dummy l cursor bucket dummy fits keyed sought (subst P is finds)
 
--- No dummy was there.
+-- If the cursor of a bucket's dummy finds no node, that dummy is not linked.
 none : (l : Listing) (cursor : Cursor) (bucket : ℕ) (found : Option ℕ) → at_of cursor ≡ dummy_at bucket → found ≡ None → Finds l cursor found → has_dummy l.nodes bucket ≡ false
 none l cursor bucket found sought is finds =
     let P : Option ℕ → Type 0 = Finds l cursor in
