@@ -17,7 +17,7 @@ use Rattle.striped_map.specs.Attempts.{Fails, FailsBusy}
 use Rattle.striped_map.specs.Callers.{number, seen, stripes_in}
 use Rattle.bank.specs.Transfers.{balance, IsTransfer}
 
--- The sum cannot go over: the one account has less, or the other would have 2^64 or more.
+-- The sum cannot be moved: the one account has less, or the other would have 2^64 or more.
 abbrev pub CannotMove : ℕ → ℕ → ℕ → Type 0
 CannotMove sum had has = (had < sum) ⊎ (2 ^ 64 ≤ has + sum)
 
@@ -59,7 +59,7 @@ abbrev pub writing : ℕ → ℕ → ℕ → ℕ → ℕ → Option ℕ → Opti
 writing c from to less more first second =
     Asked c (Put from less) ∷ Did c first ∷ Asked c (Put to more) ∷ Did c second ∷ []
 
--- Both accounts were read, and both written if the sum could go over.
+-- Both accounts were read, and both written if the sum could be moved.
 abbrev pub HasWritten : ℕ → ℕ → ℕ → ℕ → Bool → Option ℕ → Option ℕ → List Entry → Type 0
 HasWritten c from to sum true had has es = (less : ℕ) × (less + sum ≡ unwrap_or had 0)
     × (first : Option ℕ) × (second : Option ℕ) × (es ≡ reading c from to had has

@@ -354,7 +354,7 @@ shaped d ds none are =
     let s = shape_of d none in
     record { version_no = s.version_no; stripes_no = s.stripes_no; entries = ds; version_is = s.version_is; stripes_is = s.stripes_is; entries_are = are }
 
--- The search through the entries has found this flaw, or none if all are entries.
+-- The search through the elements has found this flaw, or none if each element is an entry.
 abbrev pub IsFound : Bool → Bool → Data → List Data → Option Flaw → Type 0
 IsFound o r d ds found = MatchOption found (AreEntries o r ds) (λ flaw. (i : ℕ) × IsFlawAt o r d i flaw)
 

@@ -89,7 +89,7 @@ module _ (w : World) (tells : Tells w) (c : ℕ) (x : Session) (at : slice_get w
     abbrev pub stripe : ℕ
     stripe = stripe_of w.limits.stripes (key_of op)
 
-    -- The spares of the log stay covered beside the spare of the operation.
+    -- Each spare of the log and of the operation is kept as often as it is out (`IsCovered`).
     spares_before : (t' : TableAt) (pending : PendingAt) → Prepares w.table t' op pending → (others : ℕ → ℕ → ℕ) → IsCovered (λ place stamp. others place stamp + times_kept (side_of x) place stamp) w.table
         → IsCovered (λ place stamp. others place stamp + times_in x.log.jobs place stamp + times_of pending.spare place stamp) t'
     spares_before t' pending prepares others covered =

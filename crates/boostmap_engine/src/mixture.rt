@@ -25,7 +25,7 @@ pub(crate) struct MixedHistory {
     pub(crate) entries: Vec<SmallEntry>,
 }
 
-/// A history of the scripts that the bytes are, with the workers' turns mixed as the seed says. The
+/// A history of the scripts in these bytes, with the workers' turns mixed as the seed says. The
 /// history has the version of its script file.
 ///
 /// # Errors

@@ -14,8 +14,8 @@ IsHelperHome l Idle = Unit {0}
 IsHelperHome l (Seeking bucket cursor) = IsPlaced l cursor × (at_of cursor ≡ dummy_at bucket)
 IsHelperHome l (Holding bucket dummy) = IsDummyAt l.nodes dummy bucket
 
--- The buckets are those of this list: each stored one names its linked dummy, and each helper is at
--- home too (`IsHelperHome`). They stay at home when the list changes.
+-- The buckets fit this list: each stored bucket names its linked dummy, and each helper's cursor or
+-- dummy is one of this list (`IsHelperHome`). A change of the list leaves this so.
 pub record IsHome (d : Directory) (l : Listing) : Type 0 where
   pub stored : (bucket place : ℕ) → dummy_of d bucket ≡ Some place → IsDummyAt l.nodes place bucket
   pub helpers : All (IsHelperHome l) d.helpers

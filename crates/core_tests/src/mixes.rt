@@ -197,8 +197,8 @@ const FOUR_WORKERS: Mix = Mix {
     workers: &[(0, ONE_EMPTY), (1, ONE_EMPTY), (2, ONE_EMPTY)],
 };
 
-/// Helps with bad keys take no turn. Worker 0 has no other action, and takes eight turns. Worker 1
-/// also puts, and takes nine turns.
+/// An action `help` with a bad key takes no turn. Worker 0 has no other action, and takes eight
+/// turns. Worker 1 also puts, and takes nine turns.
 const BAD_HELPS_BESIDE_A_PUT: Mix = Mix {
     scripts: "{\"version\":1,\"workers\":2,\"stripes\":1,\"buckets\":2,\"tries\":0,\
         \"scripts\":[[[\"help\",9223372036854775808]],[[\"help\",9223372036854775808],\

@@ -1,4 +1,4 @@
--- The room that a turn needs, and the calls to which room may be refused.
+-- The room that a turn needs, and the calls that may be refused memory for it.
 use Rattle.std.proofs.Common.{[], ℕ, ◌<◌, ◌∙◌, ◌≡◌, ◌≤◌, Bool, IfSome, List, None, Option, Some, ap, arith, false, is_some, refl, subst}
 use Rattle.std.proofs.Common.{sym, true, unwrap_or}
 use Rattle.core_tokens.proofs.Vocabulary.{Acting, Call, Doubling, Drive, Ended, Entry, Fresh, Initialising, Linking, One, Phase, Seat}

@@ -241,8 +241,8 @@ impl<L: Ledger, S: Side> Caller<L, S> {
         self.seen.txn()
     }
 
-    /// The number of savepoints of its transaction. For a broken token, which may do nothing,
-    /// entries without a row do not change the answer.
+    /// The number of savepoints of its transaction. A broken token may have seen entries that its
+    /// phase does not allow; these do not change the answer.
     pub fn levels(&self) -> u64
         ensures { (s : Seat) → seat_after self.now.seen ≡ Some s → length s.kept ≡ result + 1 }
     {

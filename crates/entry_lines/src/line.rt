@@ -1,6 +1,6 @@
-//! The entry that a line is, none if it is blank, or its first fault. A line is judged by itself,
-//! so a stream of lines needs only the memory for one. Its length is tested first, so that memory
-//! is bounded, and its callers last, against the limits of a map.
+//! Reads a line: the answer is its entry, or none if the line is blank, or the line's first fault.
+//! A line is read by itself, so a stream of lines needs only the memory for one. Its length is
+//! tested first, so that memory is bounded, and its callers last, against the limits of a map.
 ghost use Rattle.std.specs.Prelude.{◌≡◌, ◌<◌, List, true, Some, None, Err, MatchResult, IfOk, IfSome, option_and_then};
 ghost use Rattle.std.specs.List.{list_all};
 ghost use Rattle.serde_json.specs.Data.{Data};

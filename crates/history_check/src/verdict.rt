@@ -62,7 +62,7 @@ pub enum Verdict {
     },
     /// An entry breaks a rule.
     Illegal {
-        /// The index of the first entry that does, from 0.
+        /// The index of the first entry that breaks one, from 0.
         entry: u64,
         /// The rule that it breaks: shape, or else the one with the least number.
         rule: Rule,

@@ -41,8 +41,8 @@ HasNoVerdict basis found Write = ⊥
 abbrev pub IsUnjudged : Basis → List ℕ → Fault → Type 0
 IsUnjudged basis bytes fault = HasNoVerdict basis (history_of_lines bytes) fault
 
--- The whole list of the bytes that a reader had left has this property. Not all of them need have
--- been read.
+-- The property holds of the whole list of bytes that were still to be read at first, though not all
+-- of them need have been read since.
 abbrev pub OfAll : Option (List ℕ) → (List ℕ → Type 0) → Type 0
 OfAll remaining P = (bytes : List ℕ) × IfSome remaining (λ all. bytes ≡ all) × P bytes
 

@@ -199,7 +199,7 @@ fn of_history(fault: FileFault) -> OutcomesFault
     }
 }
 
-/// The scripts of the script file that a reader has left.
+/// The scripts of a script file, which are the bytes still to be read.
 fn scripts_in<R: Read + Drop>(alloc: Global, input: R) -> Result<Scripts, OutcomesFault>
     ensures ok { IfOk result (λ work. OfFile (R.remaining input)
         (λ bytes. scripts_of bytes ≡ Ok work)) }
@@ -216,7 +216,7 @@ fn scripts_in<R: Read + Drop>(alloc: Global, input: R) -> Result<Scripts, Outcom
     }
 }
 
-/// The entries of the history file that a reader has left.
+/// The entries of a history file, which are the bytes still to be read.
 fn entries_in<R: Read + Drop>(alloc: Global, input: R) -> Result<Vec<SmallEntry>, OutcomesFault>
     ensures ok { IfOk result (λ entries. OfFile (R.remaining input)
         (HistoryOf entries.items)) }

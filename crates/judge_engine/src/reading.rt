@@ -22,7 +22,7 @@ const CHUNK: usize = 65_536;
 /// One byte more than a file may have.
 const MAX_READ: u64 = 16_777_217;
 
-/// The bytes that a reader has left, but at most one more than a file may have.
+/// The bytes that are still to be read, but at most one more than a file may have.
 ///
 /// # Errors
 ///

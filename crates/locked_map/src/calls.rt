@@ -272,9 +272,9 @@ impl<L: Ledger> SharedMap<L> {
     ///
     /// # Cost
     ///
-    /// Three holds of the lock, at most two more for each change that is taken back and for each
-    /// time that a position no longer fits, and above the level a run of each side job and a step
-    /// for each savepoint; may take memory, before anything is taken back.
+    /// Three holds of the lock, and at most two further holds for each change that is taken back and
+    /// for each time that a position no longer fits. A run of each side job and a step for each
+    /// savepoint above the level. May take memory, before anything is taken back.
     pub fn back<S: Side, R: Wait>(
         &self,
         rt: &R,

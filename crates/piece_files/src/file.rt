@@ -109,9 +109,10 @@ fn contents_found<K: PieceKind, const N: usize>(
 ///
 /// # Cost
 ///
-/// Time in proportion to the bytes, if that of `K::read`, `K::read_plain` and `K::is_old` is so;
-/// memory for the pieces, for 16 at least, and what `K::read` and `K::read_plain` take. A file that
-/// is not in plain form also takes scratch memory of its whole length.
+/// Time in proportion to the bytes, if `K::read`, `K::read_plain` and `K::is_old` take time in
+/// proportion to what they read; memory for the pieces, for 16 at least, and what `K::read` and
+/// `K::read_plain` take. A file that is not in plain form also takes scratch memory of its whole
+/// length.
 pub fn read_file<'n, K: PieceKind, const N: usize>(
     alloc: Global,
     bytes: &[u8],

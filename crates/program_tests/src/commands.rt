@@ -1,7 +1,7 @@
 //! The program on a system in memory, with threads and without: both outputs and the status of each
 //! call. For seeds, the output is compared with the engine's; all other texts were written by hand.
-//! By contract `is_told` may be false although standard error took the whole line; here it must be
-//! false only if the line was cut.
+//! By contract `is_told` may be false although standard error took the whole line; these tests
+//! require that it is true then.
 
 use crate::devices::{Desk, Ended, Narrow, compare_ended};
 use boostmap_engine::mix;

@@ -132,9 +132,9 @@ impl Way {
         }
     }
 
-    /// The transaction was aborted after a Leave without a level. The first script from `turn` on
-    /// that the transaction follows is over. If the transaction reached this script's own abort,
-    /// it is counted for the script.
+    /// The transaction was aborted after a Leave without a level. It was an attempt at the first
+    /// script, from `turn` on, that it follows. This script is over now. If the transaction reached
+    /// the script's own abort, it is counted for the script.
     fn leave(&mut self, work: &Work<'_>, entry: u64, outcomes: &mut [Outcome])
         requires may { MayCount work.now.workers work.now.scripts.now self.old outcomes.old }
         ensures { Aborts work.now.workers work.now.scripts.now entry self.old self.new

@@ -9,8 +9,8 @@ use Rattle.txn_drive.proofs.TurnLemmas.{turn_maps}
 use Rattle.script_worker.specs.declared.attempt.Finish.{Finish}
 use Rattle.script_worker.specs.Workers.{Standing, sized_by, turn_by, told_by, finish_told, IsTurnBy, Working, TakesStep, TakesIn, TakesNext}
 
--- `TakesStep` with the scripts and tries of the turn, if the worker is told the answer with equal
--- scripts (`each`) and tries (`times`).
+-- A step was taken as `TakesStep` says, if the worker was told its answer. The worker was told it
+-- with the scripts `each` and the tries `times`, which are those of the turn.
 pub told_step : {X : Type 0} (takes : X → Step → Answer → X → Type 0) (scripts : List (List Action)) (tries : ℕ) (x : Working X)
     (s : Step) (a : Answer) (y : Working X) (each : List (List Action)) (times : ℕ) → each ≡ scripts → times ≡ tries
     → takes x.taker s a y.taker → y.worker ≡ told_by each times x.worker a

@@ -33,8 +33,8 @@ pub record IsOutGrowing {S : Type 0} (words : S → List ℕ) (k : Token S) (op 
   pub done : Ran words k (calls.Op op) (ends.Answered (answers.Done None)) between
   pub out : WasRefused between (calls.Help (key_of op)) OutOfStep l
 
--- An operation that may grow the table stopped: the operation itself did, or the growth after it
--- fell out of step.
+-- Why a call stopped that does an operation and may then grow the table: the operation was stopped,
+-- or the growth after it fell out of step.
 abbrev pub StoppedGrowing : {S : Type 0} → (S → List ℕ) → Token S → Op → Stop → Token S → Type 0
 StoppedGrowing words k op stop l =
     Stopped words k (calls.Op op) stop l

@@ -110,7 +110,7 @@ fn is_refused<R: Threads + Wait + Sync + Abort>(
     }
 }
 
-/// Each work needs a caller, and the pairs need one more.
+/// Each work needs a caller, and one more caller puts the pairs of the old core.
 #[test]
 fn a_caller_is_missing(rt: HostRuntime) -> Result<(), Fail> {
     let core = core_of(&rt, rt.alloc(), Limits::new(1, 1, 2)?, 0, 1);

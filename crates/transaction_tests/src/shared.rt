@@ -21,7 +21,7 @@ use std::thread::Threads;
 use std::time::Duration;
 use txn_words::{Entry, Limits, Refusal, Reply, SmallEntry};
 
-/// The number of keys that are put: 0, 3, 6 and so on.
+/// How many keys are put. The keys are 0, 3, 6 and so on.
 const KEYS: u64 = 20;
 
 fn put<L: Ledger, R: Wait>(

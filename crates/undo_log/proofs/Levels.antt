@@ -29,7 +29,7 @@ rising_within low [] high (suc n) there rising = absurd (omega (arith, there))
 rising_within low (k ∷ ks) high zero there rising = omega (arith, rising.0, rising_within k ks high 0 (omega arith) rising.1)
 rising_within low (k ∷ ks) high (suc n) there rising = rising_within k ks high n (omega (arith, there)) rising.1
 
--- Functions that agree up to the bound map the numbers alike.
+-- If two functions agree up to the bound `high`, mapping the numbers by either gives one list.
 map_rising : {A : Type 0} (f g : ℕ → A) (low : ℕ) (ks : List ℕ) (high : ℕ) → IsRising low ks high → ((n : ℕ) → n ≤ high → f n ≡ g n) → map f (low ∷ ks) ≡ map g (low ∷ ks)
 map_rising f g low [] high rising same = ap (λ y. y ∷ []) (same low rising)
 map_rising f g low (k ∷ ks) high rising same =

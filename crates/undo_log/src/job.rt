@@ -12,10 +12,10 @@ pub trait UndoJob: Drop {
     /// The world that was changed, such as a table of nodes.
     type World;
 
-    /// Whether a world shows what the job names as the state after its change.
+    /// Whether the world shows the state that the job names as the one after its change.
     ghost shows_after: { Self → Self.World → Type 0 };
 
-    /// Whether a world shows what the job names as the state before its change.
+    /// Whether the world shows the state that the job names as the one before its change.
     ghost shows_before: { Self → Self.World → Type 0 };
 
     /// Whether the second world is the first without the job's change, with everything else
