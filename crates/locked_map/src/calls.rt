@@ -272,8 +272,8 @@ impl<L: Ledger> SharedMap<L> {
     ///
     /// # Cost
     ///
-    /// Three holds of the lock, and at most two further holds for each change that is taken back and
-    /// for each time that a position no longer fits. A run of each side job and a step for each
+    /// Three holds of the lock, and at most two further holds for each change that is taken back
+    /// and for each time that a position no longer fits. A run of each side job and a step for each
     /// savepoint above the level. May take memory, before anything is taken back.
     pub fn back<S: Side, R: Wait>(
         &self,

@@ -180,8 +180,8 @@ fn next_count(count: usize) -> Result<usize, Stop>
 ///
 /// # Cost
 ///
-/// Time in proportion to the text that is read, if `K::read` and `K::is_old` take time in proportion
-/// to what they read; memory for the pieces that are kept, and what `K::read` takes.
+/// Time in proportion to the text that is read, if `K::read` and `K::is_old` take time in
+/// proportion to what they read; memory for the pieces that are kept, and what `K::read` takes.
 pub fn pieces_in<K: PieceKind>(
     alloc: Global,
     reader: &mut Reader<'_>,
