@@ -1,5 +1,5 @@
-//! The pointer in a judge's handle. Its type is erased: a referee holds a `Vec`, and the toolchain
-//! lets C see no pointer to a type that does. Only this module touches its address, so the ghost
+//! The pointer in a judge's handle. Its type is erased: a referee holds a `Vec`, and C may see no
+//! pointer to a type that holds one. Only this module touches its address, so the ghost
 //! field `referee` says what the pointer owns: a referee on the heap, or nothing.
 ghost use Rattle.std.specs.Prelude.{◌≡◌, Option, Some, None, IsSome};
 ghost use Rattle.std.specs.Coded.{coded_option};

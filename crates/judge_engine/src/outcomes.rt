@@ -199,7 +199,7 @@ fn of_history(fault: FileFault) -> OutcomesFault
     }
 }
 
-/// The scripts of a script file, which are the bytes still to be read.
+/// The scripts of the script file that the remaining bytes of a reader are.
 fn scripts_in<R: Read + Drop>(alloc: Global, input: R) -> Result<Scripts, OutcomesFault>
     ensures ok { IfOk result (λ work. OfFile (R.remaining input)
         (λ bytes. scripts_of bytes ≡ Ok work)) }
@@ -216,7 +216,7 @@ fn scripts_in<R: Read + Drop>(alloc: Global, input: R) -> Result<Scripts, Outcom
     }
 }
 
-/// The entries of a history file, which are the bytes still to be read.
+/// The entries of the history file that the remaining bytes of a reader are.
 fn entries_in<R: Read + Drop>(alloc: Global, input: R) -> Result<Vec<SmallEntry>, OutcomesFault>
     ensures ok { IfOk result (λ entries. OfFile (R.remaining input)
         (HistoryOf entries.items)) }
